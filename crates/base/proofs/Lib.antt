@@ -1,0 +1,5 @@
+pub mod Rest
+pub mod Picks
+pub mod Parts
+pub mod Writes
+pub mod Table

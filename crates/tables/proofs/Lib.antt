@@ -1,0 +1,3 @@
+pub mod Standards
+pub mod Entries
+pub mod Growth

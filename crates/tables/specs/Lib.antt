@@ -1,0 +1,2 @@
+pub mod Standards
+pub mod Growth

@@ -1,0 +1,382 @@
+"""The fixed list of files that the stored vectors are made of.
+
+Most groups go through a catalogue or a range from end to end; the last ones are
+thrown with a fixed seed.
+"""
+
+import itertools
+from fractions import Fraction
+
+import damage
+import faults
+from arithmetic import BILLION, CUTS
+from dice import Dice
+from farmfile import RECORD_END
+from farms import as_record, file_of, herd_lines, line_for, new_labels, quoted, written
+from inputs import (
+    CATTLE,
+    EXCRETION_NUMBERS,
+    FREE_FACTOR,
+    HOURS,
+    KINDS,
+    PIGS,
+    ROUGHAGE,
+    STANDARD,
+    Number,
+)
+from model import HOURS_A_YEAR, c_grazing, housing_nh3_rate, k_grazing
+from reading import LONGEST_LABEL, MOST_BYTES, MOST_HERDS
+from values import (
+    DAYS_A_YEAR,
+    FLOOR_REDUCTIONS,
+    GRAMS_A_KILOGRAM,
+    HOUSING_TYPES,
+    YARD_SHARES,
+)
+
+SEED = 20220809
+RANDOM_FILES = 600
+FILES_A_PAIR = 3
+PAST_THE_LAST_HERD_FILES = 40
+TOO_LONG_FILES = 16
+
+# One herd of each kind to spoil.
+EXAMPLES = {
+    ROUGHAGE: ("red_deer", "25", "40.5", STANDARD, "10", "180", "12.5"),
+    CATTLE: ("12", "55.125", "60.25", "200", "not_available", "solid_floor", "0", "200", "8"),
+    PIGS: ("10", "13", "70", "Outdoor"),
+}
+
+# Animals, kilograms a head and TAN in percent of the largest herd; all its N is TAN.
+LARGEST = tuple(str(listed.values.most) for listed in EXCRETION_NUMBERS)
+LARGEST_TAN = int(LARGEST[0]) * int(LARGEST[1]) * GRAMS_A_KILOGRAM
+
+_, NOT_SUPPLIED, PARTLY, _ = YARD_SHARES
+
+WORDS_FOR_STANDARD = ("standard", "STANDARD", "Standard", "sTANDARd", "standarD")
+
+TINY = (
+    b"",
+    b"\r\n",
+    b"\r",
+    b"\n",
+    b"\n\r",
+    b"\r\n\r\n",
+    b"\r\r\n",
+    b",",
+    b",,",
+    b",,,",
+    b",,,,",
+    b",,,\r\n",
+    b",,,\r",
+    b'"',
+    b'""',
+    b'"""',
+    b'""""',
+    b'"\r\n"',
+    b'"\r\n',
+    b'"\r',
+    b'""\r',
+    b'""\n',
+    b'""\r\n',
+    b'"",',
+    b'"","","",""',
+    b'"","","","',
+    b"\0",
+    b"\xff",
+    b"\xef\xbb\xbf",
+    b" ",
+    b"A",
+    b"A\r",
+    b"A\n",
+    b"A\r\n",
+    b'"A',
+    b'"A"',
+    b'A"',
+    b'"A"B',
+    b'"A" ',
+    b' "A"',
+    b"\r\nA",
+    b"A,B,C,D",
+    b"A,B,C,D\r\n",
+    b"refused,1,0\r\n",
+)
+TAILS = (
+    b"",
+    b"\r\n",
+    b"\r",
+    b"\n",
+    b"\r\n\r\n",
+    b"\r\n\r",
+    b"\r\n\n",
+    b"\r\r\n",
+    b" ",
+    b",",
+    b",\r\n",
+    b'"',
+    b'\r\n"',
+    b'\r\n""',
+    b"\0",
+    b"\r\n\0",
+    b"\x1a",
+    b"\r\n\x1a",
+    b"\r\n,,,",
+    b"\r\n,,,\r\n",
+)
+HEADS = (b"\r\n", b"\n", b"\xef\xbb\xbf", b" ", b",", b'"', b'""', b"\0", b"#\r\n", b"sep=,\r\n")
+
+
+def lines_of(kind, label, texts):
+    """A herd's lines, from the texts of its inputs in the order of the list of inputs."""
+    return [
+        line_for(kind, label, listed, text)
+        for listed, text in zip(kind.inputs, texts, strict=True)
+    ]
+
+
+def example_lines(kind, label="H"):
+    return lines_of(kind, label, EXAMPLES[kind])
+
+
+def changed(kind, place, **changes):
+    """The example herd of a kind with one of its lines changed."""
+    lines = example_lines(kind)
+    for attribute, value in changes.items():
+        setattr(lines[place], attribute, value)
+    return file_of(lines)
+
+
+def edge_files():
+    farm = file_of(example_lines(PIGS)).removesuffix(RECORD_END.encode())
+    yield from TINY
+    yield from (farm + tail for tail in TAILS)
+    yield from (head + farm for head in HEADS)
+
+
+def every_byte():
+    """Each byte in turn at the end of a label, at the end of a number, and bare before a name."""
+    for byte in map(chr, range(256)):
+        yield file_of(example_lines(PIGS, "L" + byte))
+        yield changed(CATTLE, 3, text="1" + byte)
+        yield changed(PIGS, 3, write=faults.breaking_field(lambda field: byte + field, 3))
+
+
+def spoilt_values():
+    for kind in KINDS:
+        for place, listed in enumerate(kind.inputs):
+            for text in faults.bad_values(listed):
+                yield changed(kind, place, text=text)
+
+
+def accepted_values():
+    for kind in KINDS:
+        for place, listed in enumerate(kind.inputs):
+            for text in accepted_texts(kind, listed):
+                yield changed(kind, place, text=text)
+
+
+def accepted_texts(kind, listed):
+    if not isinstance(listed.values, Number):
+        return listed.values.names
+    most = listed.values.most
+    texts = ["0", "1", "9", "10", f"{most - 1}", f"{most}"]
+    for places in range(1, listed.values.decimals + 1):
+        zeros, nines, one = "0" * places, "9" * places, "1".zfill(places)
+        texts += [f"0.{zeros}", f"0.{one}", f"1.{zeros}", f"{most - 1}.{nines}", f"{most}.{zeros}"]
+    if kind.takes_standard and listed.has_standard:
+        texts += WORDS_FOR_STANDARD
+    return texts
+
+
+def spoilt_records():
+    for kind in KINDS:
+        last = len(kind.inputs) - 1
+        for place in (0, last):
+            for label in faults.BAD_LABELS:
+                yield changed(kind, place, label=label)
+            for change in faults.COUNTS:
+                yield changed(kind, place, write=faults.counting(change))
+            for end in faults.END_BREAKS:
+                yield changed(kind, place, write=faults.breaking_end(end))
+            for bend in faults.BENT_NAMES:
+                line = example_lines(kind)[place]
+                module, name = bend(line.module, line.name)
+                yield changed(kind, place, module=module, name=name)
+    for module, name in faults.UNLISTED:
+        yield changed(PIGS, 1, module=module, name=name)
+    for spoil in faults.FIELD_BREAKS:
+        for field in range(faults.FIELDS_TO_BREAK):
+            yield changed(PIGS, 2, write=faults.breaking_field(spoil, field))
+            yield changed(PIGS, len(PIGS.inputs) - 1, write=faults.breaking_field(spoil, field))
+
+
+def forbidden_standards():
+    for kind in (CATTLE, PIGS):
+        for place, listed in enumerate(kind.inputs):
+            if listed.has_standard:
+                for word in WORDS_FOR_STANDARD:
+                    yield changed(kind, place, text=word)
+                    yield changed(kind, place, text=word, module="x")
+                    yield changed(kind, place, text=word, label="")
+
+
+def missing_inputs():
+    for kind, follower in itertools.product(KINDS, KINDS):
+        for place in range(len(kind.inputs)):
+            lines = example_lines(kind)
+            del lines[place]
+            yield file_of(example_lines(PIGS, "a") + lines + example_lines(follower, "z")[:-1])
+
+
+def torn_and_mixed_herds():
+    """Records of a herd that is closed, of another kind than the herd, and given already."""
+    for kind, other in itertools.product(KINDS, KINDS):
+        herd, guest = example_lines(kind, "A"), example_lines(other, "A")
+        between = example_lines(other, "B")
+        yield file_of(herd + between + guest[:1])
+        yield file_of(herd[1:] + between + herd[:1])
+        for place in range(len(herd)):
+            yield file_of(herd[: place + 1] + guest[:1] + herd[place + 1 :])
+            yield file_of(herd + [guest[place % len(guest)]] + between[1:])
+
+
+def labels():
+    """Labels that are alike but not the same, that are the same, and that need quotes."""
+    pairs = ("A", "a"), ("A", "A "), (" A", "A"), ("A", "AA"), ("A", "A,"), (",", ",,"), ("A", "B")
+    for first, second in pairs:
+        farm = example_lines(PIGS, first) + example_lines(CATTLE, second)
+        yield file_of(farm)
+        yield file_of(farm + example_lines(PIGS, first)[:1])
+    for label in ("x" * LONGEST_LABEL, "," * LONGEST_LABEL, " ", "'", ";", "~", "=1+1", "\\", "-"):
+        yield file_of(example_lines(ROUGHAGE, label))
+    for place in range(len(PIGS.inputs)):
+        yield changed(PIGS, place, write=lambda fields: as_record([quoted("H"), *fields[1:]]))
+
+
+def in_farms(kind, herds):
+    """Farms of as many herds as a farm may have, with the texts given for each herd."""
+    herds = list(herds)
+    for begin in range(0, len(herds), MOST_HERDS):
+        part = enumerate(herds[begin : begin + MOST_HERDS], start=begin)
+        yield file_of([line for i, texts in part for line in lines_of(kind, str(i), texts)])
+
+
+def telling_days(hours, shift):
+    """The most grazing days for which a k that is off by the shift changes the largest herd."""
+
+    def nh3(k):
+        grazed = CUTS.grams(LARGEST_TAN * days * hours / HOURS_A_YEAR)
+        c = c_grazing(days, hours, k, CUTS)
+        return CUTS.grams((LARGEST_TAN - grazed) * housing_nh3_rate(c, 1, CUTS))
+
+    k = k_grazing(hours, CUTS)
+    for days in range(DAYS_A_YEAR, 0, -1):
+        if nh3(k) != nh3(k + shift):
+            return days
+    return DAYS_A_YEAR
+
+
+def every_tenth_of_an_hour():
+    """The largest roughage herd, on as many days as show a k that is off by a billionth."""
+    for shift in (Fraction(1, BILLION), Fraction(-1, BILLION)):
+        herds = []
+        for tenths in range(HOURS.most * 10 + 1):
+            days = telling_days(Fraction(tenths, 10), shift)
+            hours = f"{tenths // 10}.{tenths % 10}"
+            herds.append(("wapiti", *LARGEST, "0", str(days), hours))
+        yield from in_farms(ROUGHAGE, herds)
+
+
+def every_free_factor():
+    """Each reduction of a large roughage herd's housing and of a large cattle herd's yard."""
+    large = ("9999", "199.999", "99.99")
+    factors = [str(free) for free in range(FREE_FACTOR.most + 1)]
+    yield from in_farms(
+        ROUGHAGE, (("red_deer", *large, free, "211", "17.3") for free in factors)
+    )
+    yield from in_farms(
+        CATTLE, ((*large, "211", PARTLY, "solid_floor", free, "180", "8.7") for free in factors)
+    )
+
+
+def every_yard():
+    """Each exercise yard on each floor, with no, one and many days of pasture besides."""
+    year = DAYS_A_YEAR
+    grazing_and_yard = (
+        (0, 0), (0, year), (year, 0), (year, year), (1, year), (250, 200),
+        (year - 100, 100), (year - 100, 101), (year - 99, 100),
+    )  # fmt: skip
+    yards = itertools.product(YARD_SHARES, FLOOR_REDUCTIONS, grazing_and_yard)
+    yield from in_farms(
+        CATTLE,
+        (
+            ("7", "99.999", "61.37", str(yard), share, floor, "3", str(grazing), str(i % 25))
+            for i, (share, floor, (grazing, yard)) in enumerate(yards)
+        ),
+    )
+    five_grams = ("1", "0.005", "100", str(year), NOT_SUPPLIED, "solid_floor", "0", str(year), "24")
+    yield from in_farms(CATTLE, [five_grams])
+
+
+def every_housing_type():
+    pigs = (("10", "13", "70"), LARGEST, ("1", "0.001", "0.01"), ("777", "12.345", "0"))
+    yield from in_farms(PIGS, ((*herd, housing) for housing in HOUSING_TYPES for herd in pigs))
+
+
+def many_herds(dice):
+    for kind in KINDS:
+        names = new_labels(dice, MOST_HERDS + 1)
+        full = [line for label in names for line in herd_lines(dice, label, kind)]
+        yield written(dice, full[: -len(kind.inputs)])
+        yield written(dice, full)
+        yield written(dice, full[: -len(kind.inputs) - 1])
+    for _ in range(PAST_THE_LAST_HERD_FILES):
+        yield damage.file_past_the_last_herd(dice)
+    for herds in (MOST_HERDS - 1, MOST_HERDS, MOST_HERDS + 1):
+        yield written(dice, damage.short_herds(dice, herds))
+
+
+def pairs_of_faults(dice):
+    """Each two faults, in one record and in two."""
+    for _ in range(FILES_A_PAIR):
+        for pair in itertools.combinations(damage.FAULTS, 2):
+            yield damage.file_with_faults_in_a_record(dice, pair)
+        for pair in itertools.product(damage.FAULTS, damage.FAULTS_OF_ANY_RECORD):
+            yield damage.file_with_faults_in_two_records(dice, *pair)
+
+
+def longest_files(dice):
+    """Files of as many bytes as may be read, and of one more."""
+    full = file_of([line for i in range(MOST_HERDS) for line in herd_lines(dice, f"{i}", CATTLE)])
+    farm = file_of(example_lines(PIGS)).removesuffix(RECORD_END.encode())
+    for size in (MOST_BYTES, MOST_BYTES + 1):
+        yield b"A" * size
+        yield b'"' + b"," * (size - 1)
+        yield farm + b"r" * (size - len(farm))
+        yield full + b"Z" * (size - len(full))
+        yield farm + b"\r\n" * ((size - len(farm)) // 2) + b"\n" * ((size - len(farm)) % 2)
+    for _ in range(TOO_LONG_FILES):
+        yield damage.too_long_file(dice)
+
+
+def every_file():
+    """All files of the pack, in order."""
+    dice = Dice(SEED)
+    yield from edge_files()
+    yield from every_byte()
+    yield from spoilt_values()
+    yield from accepted_values()
+    yield from spoilt_records()
+    yield from forbidden_standards()
+    yield from missing_inputs()
+    yield from torn_and_mixed_herds()
+    yield from labels()
+    yield from every_tenth_of_an_hour()
+    yield from every_free_factor()
+    yield from every_yard()
+    yield from every_housing_type()
+    yield from many_herds(dice)
+    yield from pairs_of_faults(dice)
+    yield from longest_files(dice)
+    for _ in range(RANDOM_FILES):
+        yield damage.random_file(dice)

@@ -1,0 +1,64 @@
+"""Writing the figures down: one line each, in the order of the rules."""
+
+from farmfile import COMMA, QUOTE, RECORD_END
+from inputs import CATTLE, PIGS, ROUGHAGE, module_path
+from totals import TOTALS
+from values import GRAMS_A_KILOGRAM
+
+EXCRETION = ("Excretion", ("n_excretion", "tan_excretion"))
+YARD = (
+    "Yard",
+    ("n_into_yard", "tan_into_yard", "nh3_nyard", "n_outyard_liquid", "tan_outyard_liquid"),
+)
+GRAZING = (
+    "Grazing",
+    (
+        "n_into_grazing",
+        "tan_into_grazing",
+        "nh3_ngrazing",
+        "n2_ngrazing",
+        "no_ngrazing",
+        "n2o_ngrazing",
+        "n_remain_grazing",
+        "tan_remain_grazing",
+    ),
+)
+INTO_HOUSING = ("Housing", ("n_into_housing", "tan_into_housing"))
+HOUSING_AMMONIA = ("Housing", ("nh3_nhousing", "n_outhousing", "tan_outhousing"))
+
+HERD_ORDER = {
+    ROUGHAGE: (EXCRETION, GRAZING, INTO_HOUSING, HOUSING_AMMONIA),
+    CATTLE: (EXCRETION, YARD, GRAZING, INTO_HOUSING),
+    PIGS: (EXCRETION, GRAZING, INTO_HOUSING),
+}
+
+FARM_LABEL = ""
+FARM_MODULE = "Livestock"
+
+
+def herd_listing(herd, figures):
+    return "".join(
+        line(herd.label, module_path(herd.kind, module), name, figures[name])
+        for module, names in HERD_ORDER[herd.kind]
+        for name in names
+    )
+
+
+def farm_listing(totals):
+    return "".join(line(FARM_LABEL, FARM_MODULE, name, totals[name]) for name in TOTALS)
+
+
+def line(label, module, name, grams):
+    if COMMA in label:
+        label = QUOTE + label + QUOTE
+    return COMMA.join((label, module, name, kilograms(grams))) + RECORD_END
+
+
+def kilograms(grams):
+    whole, rest = divmod(abs(grams), GRAMS_A_KILOGRAM)
+    sign = "-" if grams < 0 else ""
+    return f"{sign}{whole}.{rest:03}"
+
+
+def refusal(number, record):
+    return f"refused,{number},{record}{RECORD_END}"

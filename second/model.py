@@ -1,0 +1,257 @@
+"""The steps from a herd's inputs to its figures, and the herd's notes.
+
+Each function gives part of a herd's figures under their output names. The
+argument `sums` is one of the two objects of arithmetic.py: `sums.grams(...)`
+stands where an amount is cut, `sums.billionths(...)` where a factor is.
+"""
+
+from dataclasses import dataclass
+from fractions import Fraction
+from functools import cache
+
+import values
+from inputs import CATTLE, PIGS, ROUGHAGE, STANDARD
+from values import DAYS_A_YEAR, HOURS_A_DAY, PERCENT
+
+LAST_TERM_OF_SERIES = 20
+HOURS_A_YEAR = DAYS_A_YEAR * HOURS_A_DAY
+
+
+def figures(herd, sums):
+    """All figures of a herd, in grams of nitrogen a year."""
+    return FIGURES_OF_KIND[herd.kind](herd.given, sums)
+
+
+def roughage(given, sums):
+    excreted = excretion(given, kilograms_a_head(given), tan_share(given), sums)
+    outdoors = given["grazing_hours"] / HOURS_A_DAY * given["grazing_days"] / DAYS_A_YEAR
+    grazed = into_grazing(excreted, outdoors, sums)
+    housed = into_housing(excreted, grazed)
+    return {
+        **excreted,
+        **grazed,
+        **pasture(grazed, values.ROUGHAGE_PASTURE, sums),
+        **housed,
+        **housing_ammonia(given, housed, sums),
+    }
+
+
+def cattle(given, sums):
+    excreted = excretion(given, given["inp_n_excretion"], given["tan_fraction"] * PERCENT, sums)
+    yarded = into_yard(excreted, share_into_yard(given), sums)
+    grazed = into_grazing(excreted, share_into_pasture(given), sums)
+    return {
+        **excreted,
+        **yarded,
+        **yard_ammonia(given, yarded, sums),
+        **grazed,
+        **pasture(grazed, values.CATTLE_PASTURE, sums),
+        **into_housing(excreted, grazed, yarded),
+    }
+
+
+def pigs(given, sums):
+    excreted = excretion(given, given["inp_n_excretion"], given["tan_fraction"] * PERCENT, sums)
+    outdoors = Fraction(given["housing_type"] == values.OUTDOOR)
+    grazed = into_grazing(excreted, outdoors, sums)
+    return {
+        **excreted,
+        **grazed,
+        **pasture(grazed, values.PIG_PASTURE, sums),
+        **into_housing(excreted, grazed),
+    }
+
+
+FIGURES_OF_KIND = {ROUGHAGE: roughage, CATTLE: cattle, PIGS: pigs}
+
+
+# Excretion (2.22, 2.50, 2.84)
+
+
+def excretion(given, kilograms, share, sums):
+    n = sums.grams(given["animals"] * kilograms * values.GRAMS_A_KILOGRAM)
+    return {"n_excretion": n, "tan_excretion": sums.grams(n * share)}
+
+
+def standard_kilograms(given):
+    return values.ROUGHAGE_STANDARD_KILOGRAMS[given["animalcategory"]]
+
+
+def kilograms_a_head(given):
+    entered = given["inp_n_excretion"]
+    return standard_kilograms(given) if entered == STANDARD else entered
+
+
+def tan_share(given):
+    entered = given["tan_fraction"]
+    return values.ROUGHAGE_STANDARD_TAN_SHARE if entered == STANDARD else entered * PERCENT
+
+
+# Where the excretion falls (2.33, 2.34, 2.35, 2.61, 2.88)
+
+
+def days_with_both(given):
+    return max(0, given["grazing_days"] + given["yard_days"] - DAYS_A_YEAR)
+
+
+def yard_share(given):
+    return values.YARD_SHARES[given["exercise_yard"]]
+
+
+def yard_share_with_grazing(given):
+    return min(yard_share(given), values.MOST_YARD_SHARE_WITH_GRAZING)
+
+
+def share_into_yard(given):
+    both = days_with_both(given)
+    yard_only = given["yard_days"] - both
+    days = yard_share(given) * yard_only + yard_share_with_grazing(given) * both
+    return days / DAYS_A_YEAR
+
+
+def share_into_pasture(given):
+    both = days_with_both(given)
+    grazing_only = given["grazing_days"] - both
+    days = grazing_only + (1 - yard_share_with_grazing(given)) * both
+    return given["grazing_hours"] / HOURS_A_DAY * days / DAYS_A_YEAR
+
+
+def into_yard(excreted, share, sums):
+    return {
+        "n_into_yard": sums.grams(excreted["n_excretion"] * share),
+        "tan_into_yard": sums.grams(excreted["tan_excretion"] * share),
+    }
+
+
+def into_grazing(excreted, share, sums):
+    return {
+        "n_into_grazing": sums.grams(excreted["n_excretion"] * share),
+        "tan_into_grazing": sums.grams(excreted["tan_excretion"] * share),
+    }
+
+
+NO_YARD = {"n_into_yard": 0, "tan_into_yard": 0}
+
+
+def into_housing(excreted, grazed, yarded=NO_YARD):
+    """What falls neither on pasture nor in the yard."""
+    return {
+        "n_into_housing": excreted["n_excretion"]
+        - grazed["n_into_grazing"]
+        - yarded["n_into_yard"],
+        "tan_into_housing": excreted["tan_excretion"]
+        - grazed["tan_into_grazing"]
+        - yarded["tan_into_yard"],
+    }
+
+
+# Exercise yard (2.34)
+
+
+def yard_ammonia(given, yarded, sums):
+    floor = 1 - values.FLOOR_REDUCTIONS[given["floor_properties_exercise_yard"]]
+    nh3 = sums.grams(
+        yarded["tan_into_yard"] * values.YARD_NH3_RATE * floor * left_by_free_factor(given)
+    )
+    return {
+        "nh3_nyard": nh3,
+        "n_outyard_liquid": yarded["n_into_yard"] - nh3,
+        "tan_outyard_liquid": yarded["tan_into_yard"] - nh3,
+    }
+
+
+def left_by_free_factor(given):
+    return 1 - given["free_correction_factor"] * PERCENT
+
+
+# Pasture (2.35, 2.61, 2.88)
+
+
+def pasture(grazed, rates, sums):
+    """What leaves the pasture, and what remains; TAN gives up all four as well."""
+    nh3 = sums.grams(grazed["tan_into_grazing"] * rates.nh3)
+    n2 = sums.grams(grazed["n_into_grazing"] * rates.n2)
+    no = sums.grams(grazed["n_into_grazing"] * rates.no)
+    n2o = sums.grams(grazed["n_into_grazing"] * rates.n2o)
+    lost = nh3 + n2 + no + n2o
+    return {
+        "nh3_ngrazing": nh3,
+        "n2_ngrazing": n2,
+        "no_ngrazing": no,
+        "n2o_ngrazing": n2o,
+        "n_remain_grazing": grazed["n_into_grazing"] - lost,
+        "tan_remain_grazing": grazed["tan_into_grazing"] - lost,
+    }
+
+
+# Housing of roughage herds (2.85, 2.87)
+
+
+@cache
+def k_grazing(hours, sums):
+    """exp(0.0403 x hours), taken as the terms 0 to 20 of its series."""
+    exponent = values.K_GRAZING_B * hours
+    term = total = Fraction(1)
+    for i in range(1, LAST_TERM_OF_SERIES + 1):
+        term = term * exponent / i
+        total += term
+    return sums.nearest_billionth(total)
+
+
+def c_grazing(days, hours, k, sums):
+    """By how much grazing raises the ammonia of what still falls in the housing."""
+    if days * hours >= HOURS_A_YEAR:
+        return Fraction(1)
+    return sums.billionths(
+        ((DAYS_A_YEAR - days) * HOURS_A_DAY + days * (HOURS_A_DAY - hours) * k)
+        / (HOURS_A_YEAR - days * hours)
+    )
+
+
+def housing_nh3_rate(c, left, sums):
+    rate = sums.billionths(c * values.ROUGHAGE_HOUSING_NH3_RATE)
+    return min(Fraction(1), sums.billionths(rate * left))
+
+
+def housing_ammonia(given, housed, sums):
+    days, hours = given["grazing_days"], given["grazing_hours"]
+    c = c_grazing(days, hours, k_grazing(hours, sums), sums)
+    rate = housing_nh3_rate(c, left_by_free_factor(given), sums)
+    nh3 = sums.grams(housed["tan_into_housing"] * rate)
+    return {
+        "nh3_nhousing": nh3,
+        "n_outhousing": housed["n_into_housing"] - nh3,
+        "tan_outhousing": housed["tan_into_housing"] - nh3,
+    }
+
+
+# Notes
+
+
+@dataclass(frozen=True)
+class Notes:
+    """Four answers, yes or no, that stand beside a herd's figures."""
+
+    n_far_from_standard: bool
+    tan_far_from_standard: bool
+    free_factor: bool
+    share_lowered: bool
+
+
+def notes(herd):
+    given = herd.given
+    return Notes(
+        n_far_from_standard=herd.kind is ROUGHAGE and n_far_from_standard(given),
+        tan_far_from_standard=herd.kind is ROUGHAGE
+        and abs(tan_share(given) - values.ROUGHAGE_STANDARD_TAN_SHARE) > values.MOST_TAN_SHARE_AWAY,
+        free_factor=given.get("free_correction_factor", 0) != 0,
+        share_lowered=herd.kind is CATTLE
+        and days_with_both(given) > 0
+        and yard_share(given) > values.MOST_YARD_SHARE_WITH_GRAZING,
+    )
+
+
+def n_far_from_standard(given):
+    kilograms, standard = kilograms_a_head(given), standard_kilograms(given)
+    least, most = values.LEAST_OF_STANDARD * standard, values.MOST_OF_STANDARD * standard
+    return not least <= kilograms <= most

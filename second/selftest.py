@@ -1,0 +1,637 @@
+#!/usr/bin/env python3
+"""The tests of this implementation: run it, and it ends with status 0 if all hold."""
+
+import itertools
+import math
+import sys
+import unittest
+from fractions import Fraction
+
+import damage
+import faults
+from arithmetic import BILLION, CUTS, EXACT, HALF, Cuts
+from dice import Dice
+from farms import farm_lines, file_of, herd_lines, line_for, new_labels, written
+from inputs import CATTLE, HOURS, KINDS, PIGS, ROUGHAGE, Number
+from model import Notes, c_grazing, figures, housing_nh3_rate, k_grazing, notes
+from reading import MOST_BYTES, MOST_HERDS, Refused, read_farm
+from totals import totals
+from urvendlo import answer
+from values import DAYS_A_YEAR
+
+GRAMS_AWAY = 10
+HERDS_OF_A_KIND = 1500
+FARMS = 60
+PARTLY = "available_roughage_is_partly_supplied_in_the_exercise_yard"
+EXCLUSIVELY = "available_roughage_is_exclusively_supplied_in_the_exercise_yard"
+NOT_SUPPLIED = "available_roughage_is_not_supplied_in_the_exercise_yard"
+
+# The herds that the rules set out: cattle of the rows marked C and of row 4, deer of
+# row 5, pigs of row 6.
+C = {
+    "animals": "10",
+    "inp_n_excretion": "73",
+    "tan_fraction": "60",
+    "yard_days": "365",
+    "exercise_yard": PARTLY,
+    "floor_properties_exercise_yard": "solid_floor",
+    "free_correction_factor": "0",
+    "grazing_days": "200",
+    "grazing_hours": "12",
+}
+ROW_4 = {
+    **C,
+    "tan_fraction": "2",
+    "yard_days": "0",
+    "grazing_days": "365",
+    "grazing_hours": "24",
+}
+DEER = {
+    "animalcategory": "fallow_deer",
+    "animals": "10",
+    "inp_n_excretion": "standard",
+    "tan_fraction": "standard",
+    "free_correction_factor": "0",
+    "grazing_days": "0",
+    "grazing_hours": "0",
+}
+OUTDOOR_PIGS = {
+    "animals": "10",
+    "inp_n_excretion": "13",
+    "tan_fraction": "70",
+    "housing_type": "Outdoor",
+}
+
+LARGEST = {"animals": "10000", "inp_n_excretion": "200", "tan_fraction": "100"}
+
+# The last texts that are taken and the first that are not, for each input that is a number.
+RANGES = {
+    "animals": (("0", "10000"), ("10001", "1.0")),
+    "inp_n_excretion": (("0", "0.001", "200", "200.000"), ("200.001", "0.0001", "1.0000")),
+    "tan_fraction": (("0", "0.01", "100", "100.00"), ("100.01", "0.001", "1.000")),
+    "free_correction_factor": (("0", "100"), ("101", "1.0")),
+    "yard_days": (("0", "365"), ("366", "1.0")),
+    "grazing_days": (("0", "365"), ("366", "1.0")),
+    "grazing_hours": (("0", "0.1", "24", "24.0"), ("24.1", "0.01", "1.00")),
+}
+
+PIG_FILE = b"""\
+P1,Livestock::FatteningPigs::Excretion,animals,10\r
+P1,Livestock::FatteningPigs::Excretion,inp_n_excretion,13\r
+P1,Livestock::FatteningPigs::Excretion,tan_fraction,70\r
+P1,Livestock::FatteningPigs::Housing::Type,housing_type,Outdoor\r
+"""
+PIG_LISTING = b"""\
+P1,Livestock::FatteningPigs::Excretion,n_excretion,130.000\r
+P1,Livestock::FatteningPigs::Excretion,tan_excretion,91.000\r
+P1,Livestock::FatteningPigs::Grazing,n_into_grazing,130.000\r
+P1,Livestock::FatteningPigs::Grazing,tan_into_grazing,91.000\r
+P1,Livestock::FatteningPigs::Grazing,nh3_ngrazing,18.200\r
+P1,Livestock::FatteningPigs::Grazing,n2_ngrazing,0.000\r
+P1,Livestock::FatteningPigs::Grazing,no_ngrazing,0.715\r
+P1,Livestock::FatteningPigs::Grazing,n2o_ngrazing,2.600\r
+P1,Livestock::FatteningPigs::Grazing,n_remain_grazing,108.485\r
+P1,Livestock::FatteningPigs::Grazing,tan_remain_grazing,69.485\r
+P1,Livestock::FatteningPigs::Housing,n_into_housing,0.000\r
+P1,Livestock::FatteningPigs::Housing,tan_into_housing,0.000\r
+,Livestock,n_excretion,130.000\r
+,Livestock,tan_excretion,91.000\r
+,Livestock,n_into_housing,0.000\r
+,Livestock,tan_into_housing,0.000\r
+,Livestock,n_into_yard,0.000\r
+,Livestock,tan_into_yard,0.000\r
+,Livestock,n_into_grazing,130.000\r
+,Livestock,tan_into_grazing,91.000\r
+,Livestock,nh3_nhousing,0.000\r
+,Livestock,nh3_nyard,0.000\r
+,Livestock,nh3_ngrazing,18.200\r
+,Livestock,nh3_nhousing_and_yard,0.000\r
+,Livestock,nh3_nlivestock,18.200\r
+,Livestock,n2_ngrazing,0.000\r
+,Livestock,no_ngrazing,0.715\r
+,Livestock,n2o_ngrazing,2.600\r
+,Livestock,n_remain_grazing,108.485\r
+,Livestock,tan_remain_grazing,69.485\r
+"""
+
+# Module and output name of each line of a herd, written out once more from the rules.
+GRAZING_LINES = """
+    Grazing n_into_grazing, Grazing tan_into_grazing, Grazing nh3_ngrazing, Grazing n2_ngrazing,
+    Grazing no_ngrazing, Grazing n2o_ngrazing, Grazing n_remain_grazing, Grazing tan_remain_grazing,
+"""
+HERD_LINES = {
+    ROUGHAGE: "Excretion n_excretion, Excretion tan_excretion,"
+    + GRAZING_LINES
+    + "Housing n_into_housing, Housing tan_into_housing,"
+    + "Housing nh3_nhousing, Housing n_outhousing, Housing tan_outhousing",
+    CATTLE: "Excretion n_excretion, Excretion tan_excretion,"
+    + "Yard n_into_yard, Yard tan_into_yard, Yard nh3_nyard,"
+    + "Yard n_outyard_liquid, Yard tan_outyard_liquid,"
+    + GRAZING_LINES
+    + "Housing n_into_housing, Housing tan_into_housing",
+    PIGS: "Excretion n_excretion, Excretion tan_excretion,"
+    + GRAZING_LINES
+    + "Housing n_into_housing, Housing tan_into_housing",
+}
+
+# What goes in on the left comes out as the sum on the right.
+PASTURE_LOSSES = ("nh3_ngrazing", "n2_ngrazing", "no_ngrazing", "n2o_ngrazing")
+BALANCES = (
+    ("n_excretion", ("n_into_yard", "n_into_grazing", "n_into_housing")),
+    ("tan_excretion", ("tan_into_yard", "tan_into_grazing", "tan_into_housing")),
+    ("n_into_yard", ("nh3_nyard", "n_outyard_liquid")),
+    ("tan_into_yard", ("nh3_nyard", "tan_outyard_liquid")),
+    ("n_into_grazing", (*PASTURE_LOSSES, "n_remain_grazing")),
+    ("tan_into_grazing", (*PASTURE_LOSSES, "tan_remain_grazing")),
+)
+ROUGHAGE_BALANCES = (
+    ("n_into_housing", ("nh3_nhousing", "n_outhousing")),
+    ("tan_into_housing", ("nh3_nhousing", "tan_outhousing")),
+)
+FARM_BALANCES = (
+    *(balance for balance in BALANCES if "into_yard" not in balance[0]),
+    ("nh3_nhousing_and_yard", ("nh3_nhousing", "nh3_nyard")),
+    ("nh3_nlivestock", ("nh3_nhousing", "nh3_nyard", "nh3_ngrazing")),
+)
+MAY_BE_BELOW_ZERO = {"tan_remain_grazing"}
+
+
+def lines_of(kind, texts, label="H"):
+    return [line_for(kind, label, listed, texts[listed.name]) for listed in kind.inputs]
+
+
+def herd(kind, texts, **changes):
+    """A herd read from a file of its own."""
+    (read,) = read_farm(file_of(lines_of(kind, {**texts, **changes})))
+    return read
+
+
+def refusal(file):
+    """Number and record of a file's refusal, or None if it is accepted."""
+    try:
+        read_farm(file)
+    except Refused as refused:
+        return refused.number, refused.record
+    return None
+
+
+def largest_roughage_herds():
+    """The largest herd for every tenth of an hour, where the cuts of a factor weigh the most."""
+    for tenths in range(HOURS.most * 10 + 1):
+        for days, free in (("1", "0"), ("120", "1"), ("364", "50"), ("365", "0")):
+            yield herd(
+                ROUGHAGE,
+                {**DEER, **LARGEST},
+                free_correction_factor=free,
+                grazing_days=days,
+                grazing_hours=f"{tenths // 10}.{tenths % 10}",
+            )
+
+
+class EdgeHerds(unittest.TestCase):
+    """The rows of "Herds on both sides of an edge"."""
+
+    def expect(self, read, **expected):
+        worked = figures(read, CUTS)
+        self.assertEqual({name: worked[name] for name in expected}, expected)
+
+    def test_row_1(self):
+        read = herd(CATTLE, C)
+        self.expect(
+            read,
+            n_excretion=730000,
+            tan_excretion=438000,
+            n_into_yard=146000,
+            tan_into_yard=87600,
+            nh3_nyard=61320,
+            n_outyard_liquid=84680,
+            tan_outyard_liquid=26280,
+            n_into_grazing=160000,
+            tan_into_grazing=96000,
+            nh3_ngrazing=7968,
+            n2_ngrazing=0,
+            no_ngrazing=880,
+            n2o_ngrazing=3200,
+            n_remain_grazing=147952,
+            tan_remain_grazing=83952,
+            n_into_housing=424000,
+            tan_into_housing=254400,
+        )
+        self.assertFalse(notes(read).share_lowered)
+
+    def test_row_2(self):
+        read = herd(CATTLE, C, exercise_yard=EXCLUSIVELY)
+        self.expect(read, n_into_yard=278000, n_into_grazing=160000, n_into_housing=292000)
+        self.assertTrue(notes(read).share_lowered)
+
+    def test_row_3(self):
+        read = herd(CATTLE, C, exercise_yard=EXCLUSIVELY, grazing_days="0")
+        self.expect(read, n_into_yard=438000)
+        self.assertFalse(notes(read).share_lowered)
+
+    def test_row_4(self):
+        self.expect(
+            herd(CATTLE, ROW_4),
+            tan_into_grazing=14600,
+            nh3_ngrazing=1211,
+            no_ngrazing=4015,
+            n2o_ngrazing=14600,
+            n_remain_grazing=710174,
+            tan_remain_grazing=-5226,
+        )
+
+    def test_row_5(self):
+        self.expect(
+            herd(ROUGHAGE, DEER),
+            n_excretion=200000,
+            tan_excretion=80000,
+            nh3_nhousing=22000,
+            n_outhousing=178000,
+            tan_outhousing=58000,
+        )
+
+    def test_row_6(self):
+        self.assertEqual(answer(PIG_FILE), PIG_LISTING)
+        self.assertEqual(file_of(lines_of(PIGS, OUTDOOR_PIGS, "P1")), PIG_FILE)
+
+    def test_row_7(self):
+        self.assertEqual(k_grazing(Fraction(0), CUTS) * BILLION, 1000000000)
+
+    def test_row_8(self):
+        for kilograms, noted in (("28", 0), ("52", 0), ("27.999", 1), ("52.001", 1)):
+            deer = herd(ROUGHAGE, DEER, animalcategory="red_deer", inp_n_excretion=kilograms)
+            self.assertEqual(notes(deer).n_far_from_standard, bool(noted), kilograms)
+
+    def test_row_9(self):
+        days, hours = Fraction(365), Fraction(24)
+        self.expect(
+            herd(ROUGHAGE, DEER, grazing_days="365", grazing_hours="24"),
+            n_into_housing=0,
+            tan_into_housing=0,
+            nh3_nhousing=0,
+        )
+        self.assertEqual(c_grazing(days, hours, k_grazing(hours, CUTS), CUTS), 1)
+
+    def test_row_10_bytes(self):
+        # No accepted farm is this long, so that it is read shows in the other refusal.
+        file = PIG_FILE[:-2].ljust(MOST_BYTES, b"r")
+        self.assertEqual(len(file), 65536)
+        self.assertEqual(refusal(file), (7, 4))
+        self.assertEqual(refusal(file + b"r"), (1, 0))
+
+    def test_row_10_herds(self):
+        herds = [lines_of(PIGS, OUTDOOR_PIGS, f"P{i}") for i in range(MOST_HERDS + 1)]
+        self.assertEqual(len(read_farm(file_of(itertools.chain(*herds[:64])))), 64)
+        self.assertEqual(refusal(file_of(itertools.chain(*herds))), (9, 64 * 4 + 1))
+
+
+class WrongReadings(unittest.TestCase):
+    """Each case holds for the right reading and fails for the one that only looks right."""
+
+    def test_k_is_not_multiplied(self):
+        texts = {**DEER, "animals": "500", "grazing_days": "200", "grazing_hours": "12"}
+        worked = figures(herd(ROUGHAGE, texts), CUTS)
+        days, hours = Fraction(200), Fraction(12)
+
+        def nh3(k):
+            rate = housing_nh3_rate(c_grazing(days, hours, k, CUTS), 1, CUTS)
+            return CUTS.grams(worked["tan_into_housing"] * rate)
+
+        c = (165 * 24 + 200 * 12 * math.exp(0.0403 * 12)) / (8760 - 2400)
+        right = math.floor(worked["tan_into_housing"] * 0.275 * c)
+        k = k_grazing(hours, CUTS)
+        self.assertEqual(worked["nh3_nhousing"], right)
+        self.assertEqual(nh3(k), right)
+        self.assertNotEqual(nh3(k * Fraction("0.9989")), right)
+
+    def test_yard_days_are_not_cut(self):
+        right = 146000
+        without_overlap = str(DAYS_A_YEAR - int(C["grazing_days"]))
+        self.assertEqual(figures(herd(CATTLE, C), CUTS)["n_into_yard"], right)
+        wrong = figures(herd(CATTLE, C, yard_days=without_overlap), CUTS)
+        self.assertNotEqual(wrong["n_into_yard"], right)
+
+    def test_grams_are_cut_and_not_rounded(self):
+        class Nearest(Cuts):
+            def grams(self, amount):
+                return math.floor(amount + HALF)
+
+        five_grams = herd(
+            CATTLE,
+            C,
+            animals="1",
+            inp_n_excretion="0.005",
+            exercise_yard=NOT_SUPPLIED,
+            grazing_days="365",
+            grazing_hours="24",
+        )
+        names = ("n_excretion", "n_into_yard", "n_into_grazing", "n_into_housing")
+        right, wrong = figures(five_grams, CUTS), figures(five_grams, Nearest())
+        self.assertEqual([right[name] for name in names], [5, 0, 4, 1])
+        self.assertEqual([wrong[name] for name in names], [5, 1, 5, -1])
+
+    def test_tan_below_zero_stays(self):
+        lines = answer(file_of(lines_of(CATTLE, ROW_4))).decode().splitlines()
+        right = "Grazing,tan_remain_grazing,-5.226"
+        wrong = "Grazing,tan_remain_grazing,0.000"
+        self.assertEqual(sum(line.endswith(right) for line in lines), 1)
+        self.assertEqual(sum(line.endswith(wrong) for line in lines), 0)
+
+
+class Figures(unittest.TestCase):
+    """Closeness to the exact values, and balances, for herds of every kind."""
+
+    farthest = 0
+
+    def corner_texts(self, listed):
+        if not isinstance(listed.values, Number):
+            return listed.values.names
+        most, places = listed.values.most, listed.values.decimals
+        if places == 0:
+            return "0", "1", f"{most - 1}", f"{most}"
+        return "0", "0." + "1".zfill(places), f"{most - 1}." + "9" * places, f"{most}"
+
+    def corner_herds(self, dice, kind):
+        """Herds whose inputs all stand at an end of their range or one step inside."""
+        for label in range(HERDS_OF_A_KIND):
+            texts = {listed.name: dice.pick(self.corner_texts(listed)) for listed in kind.inputs}
+            if dice.one_in(2):
+                texts |= LARGEST
+            yield lines_of(kind, texts, str(label))
+
+    def random_herds(self, dice, kind):
+        for label in range(HERDS_OF_A_KIND):
+            yield herd_lines(dice, str(label), kind)
+
+    def check_herd(self, read):
+        cut, exact = figures(read, CUTS), figures(read, EXACT)
+        self.assertEqual(cut.keys(), exact.keys())
+        farthest = self.check_distance(cut, exact, GRAMS_AWAY)
+        Figures.farthest = max(Figures.farthest, farthest)
+        for worked in (cut, exact):
+            self.check_balances(read.kind, worked)
+        self.assertTrue(all(isinstance(amount, int) for amount in cut.values()))
+        self.assertEqual(cut["n_excretion"], exact["n_excretion"])
+        return cut, exact
+
+    def check_distance(self, cut, exact, most):
+        distances = {name: abs(amount - exact[name]) for name, amount in cut.items()}
+        farthest = max(distances, key=distances.get)
+        self.assertLessEqual(distances[farthest], most, farthest)
+        return distances[farthest]
+
+    def check_balances(self, kind, worked):
+        for whole, parts in BALANCES + (ROUGHAGE_BALANCES if kind is ROUGHAGE else ()):
+            self.assertEqual(worked.get(whole, 0), sum(worked.get(part, 0) for part in parts))
+        for name in worked.keys() - MAY_BE_BELOW_ZERO:
+            self.assertGreaterEqual(worked[name], 0, name)
+
+    def test_herds(self):
+        dice = Dice(3)
+        for kind in KINDS:
+            for lines in (*self.corner_herds(dice, kind), *self.random_herds(dice, kind)):
+                self.check_herd(*read_farm(file_of(lines)))
+
+    def test_farms(self):
+        dice = Dice(4)
+        for number in range(FARMS):
+            self.check_farm(read_farm(written(dice, farm_lines(dice, number))))
+
+    def test_largest_roughage_herds(self):
+        herds = list(largest_roughage_herds())
+        for begin in range(0, len(herds), MOST_HERDS):
+            self.check_farm(herds[begin : begin + MOST_HERDS])
+
+    def check_farm(self, herds):
+        """The herds of a farm one by one, and their totals."""
+        worked = [self.check_herd(read) for read in herds]
+        cut, exact = (totals([both[way] for both in worked]) for way in (0, 1))
+        self.check_distance(cut, exact, GRAMS_AWAY * len(herds))
+        for farm in (cut, exact):
+            for whole, parts in FARM_BALANCES:
+                self.assertEqual(farm[whole], sum(farm[part] for part in parts), whole)
+
+    def test_k(self):
+        """Each k is near the exponential, and no series ends on the half of a billionth."""
+        for tenths in range(HOURS.most * 10 + 1):
+            hours = Fraction(tenths, 10)
+            k, exact = k_grazing(hours, CUTS), k_grazing(hours, EXACT)
+            self.assertLess(abs(k - exact), HALF / BILLION)
+            self.assertAlmostEqual(float(exact), math.exp(0.00403 * tenths), places=13)
+
+
+class WorkedByHand(unittest.TestCase):
+    """Values and cuts once more, in figures and in formulas over whole numbers."""
+
+    def test_standards(self):
+        for category, grams in (
+            ("fallow_deer", 20000),
+            ("red_deer", 40000),
+            ("wapiti", 80000),
+            ("bison_older_than_3yr", 60000),
+            ("bison_younger_than_3yr", 20000),
+            ("lama_older_than_2yr", 17000),
+            ("lama_younger_than_2yr", 11000),
+            ("alpaca_older_than_2yr", 11000),
+            ("alpaca_younger_than_2yr", 7000),
+            ("rabbit_doe_kits", 2600),
+            ("rabbit_young", 790),
+        ):
+            worked = figures(herd(ROUGHAGE, DEER, animalcategory=category), CUTS)
+            self.assertEqual(worked["n_excretion"], 10 * grams)
+            self.assertEqual(worked["tan_excretion"], 4 * grams)
+
+    def test_roughage_pasture(self):
+        texts = {**DEER, "animals": "200", "grazing_days": "365", "grazing_hours": "24"}
+        worked = figures(herd(ROUGHAGE, texts), CUTS)
+        names = (*PASTURE_LOSSES, "n_remain_grazing", "tan_remain_grazing")
+        expected = [200000, 0, 22000, 40000, 3738000, 1338000]
+        self.assertEqual([worked[name] for name in names], expected)
+
+    def test_yard_floors(self):
+        for floor, nh3 in (
+            ("solid_floor", 45990),
+            ("unpaved_floor", 22995),
+            ("perforated_floor", 11497),
+            ("paddock_or_pasture_used_as_exercise_yard", 4599),
+        ):
+            changes = {"floor_properties_exercise_yard": floor, "free_correction_factor": "25"}
+            self.assertEqual(figures(herd(CATTLE, C, **changes), CUTS)["nh3_nyard"], nh3)
+
+    def test_yard_shares(self):
+        for name, n in (("not_available", 0), (NOT_SUPPLIED, 73000), (PARTLY, 146000)):
+            worked = figures(herd(CATTLE, C, exercise_yard=name), CUTS)
+            self.assertEqual(worked["n_into_yard"], n)
+
+    def test_pig_housing(self):
+        for name in ("Slurry_Conventional", "Slurry_Label", "Slurry_Label_Open", "Deep_Litter"):
+            worked = figures(herd(PIGS, OUTDOOR_PIGS, housing_type=name), CUTS)
+            self.assertEqual(worked["n_into_housing"], 130000)
+            self.assertEqual(worked["tan_into_housing"], 91000)
+            self.assertEqual(worked["tan_remain_grazing"], 0)
+
+    def test_housing_cuts(self):
+        for read in largest_roughage_herds():
+            days, free = int(read.given["grazing_days"]), int(read.given["free_correction_factor"])
+            tenths = int(read.given["grazing_hours"] * 10)
+            k = int(k_grazing(read.given["grazing_hours"], CUTS) * 10**9)
+            indoors = 87600 - days * tenths
+            c = 10**9
+            if indoors > 0:
+                c = ((365 - days) * 240 * 10**9 + days * (240 - tenths) * k) // indoors
+            rate = c * 275 // 1000 * (100 - free) // 100
+            tan = 2 * 10**9 - 2 * 10**9 * days * tenths // 87600
+            self.assertEqual(figures(read, CUTS)["nh3_nhousing"], tan * rate // 10**9)
+
+
+class Notices(unittest.TestCase):
+    def test_notes(self):
+        none = Notes(False, False, False, False)
+        for kind, texts, changes, expected in (
+            (ROUGHAGE, DEER, {}, none),
+            (ROUGHAGE, DEER, {"tan_fraction": "20"}, none),
+            (ROUGHAGE, DEER, {"tan_fraction": "60"}, none),
+            (ROUGHAGE, DEER, {"tan_fraction": "19.99"}, Notes(False, True, False, False)),
+            (ROUGHAGE, DEER, {"tan_fraction": "60.01"}, Notes(False, True, False, False)),
+            (ROUGHAGE, DEER, {"free_correction_factor": "1"}, Notes(False, False, True, False)),
+            (ROUGHAGE, DEER, {"inp_n_excretion": "13.999"}, Notes(True, False, False, False)),
+            (CATTLE, C, {"free_correction_factor": "100"}, Notes(False, False, True, False)),
+            (CATTLE, C, {"tan_fraction": "0", "inp_n_excretion": "0"}, none),
+            (CATTLE, C, {"exercise_yard": EXCLUSIVELY, "yard_days": "165"}, none),
+            (
+                CATTLE,
+                C,
+                {"exercise_yard": EXCLUSIVELY, "yard_days": "166"},
+                Notes(False, False, False, True),
+            ),
+            (PIGS, OUTDOOR_PIGS, {"tan_fraction": "0", "inp_n_excretion": "200"}, none),
+        ):
+            self.assertEqual(notes(herd(kind, texts, **changes)), expected, changes)
+
+
+class Listings(unittest.TestCase):
+    def test_every_output_name(self):
+        for kind, texts in ((ROUGHAGE, DEER), (CATTLE, C), (PIGS, OUTDOOR_PIGS)):
+            lines = answer(file_of(lines_of(kind, texts))).decode().split("\r\n")
+            expected = [tuple(pair.split()) for pair in HERD_LINES[kind].split(",")]
+            listed = [tuple(line.split(",")[1:3]) for line in lines if line.startswith("H,")]
+            self.assertEqual(listed, [(f"{kind.path}::{m}", name) for m, name in expected])
+
+    def test_only_a_comma_is_quoted(self):
+        for label, written_label in (("a,b", '"a,b"'), (" a'b ", " a'b ")):
+            listing = answer(file_of(lines_of(PIGS, OUTDOOR_PIGS, label))).decode()
+            first = f"{written_label},Livestock::FatteningPigs::Excretion,n_excretion,130.000\r\n"
+            self.assertTrue(listing.startswith(first))
+
+    def test_no_herds(self):
+        expected = [line.rsplit(b",", 1)[0] + b",0.000" for line in PIG_LISTING.splitlines()[12:]]
+        self.assertEqual(answer(b"").splitlines(), expected)
+
+
+class Refusals(unittest.TestCase):
+    def test_single_faults(self):
+        """Each way of spoiling a line gives its own refusal and that line's number."""
+        dice = Dice(5)
+        for number in damage.FAULTS:
+            for _ in range(100):
+                lines, line = damage.lines_with_spot(dice, 3)
+                damage.put_fault(dice, lines, line, number)
+                self.assertEqual(refusal(written(dice, lines)), (number, lines.index(line) + 1))
+
+    def test_missing_inputs(self):
+        dice = Dice(6)
+        for _ in range(100):
+            lines = farm_lines(dice, 3)
+            line = dice.pick(lines)
+            first = lines.index(damage.herd_of(lines, line)[0])
+            lines.remove(line)
+            self.assertEqual(refusal(written(dice, lines)), (12, first + 1))
+
+    def test_herd_too_many(self):
+        dice = Dice(7)
+        herds = [herd_lines(dice, label, PIGS) for label in new_labels(dice, MOST_HERDS + 1)]
+        self.assertIsNone(refusal(file_of(itertools.chain(*herds[:-1]))))
+        self.assertEqual(refusal(file_of(itertools.chain(*herds)))[0], 9)
+
+    def test_every_bad_value(self):
+        for kind, listed in ((kind, listed) for kind in KINDS for listed in kind.inputs):
+            for text in faults.bad_values(listed):
+                line = line_for(kind, "H", listed, text)
+                self.assertEqual(refusal(file_of([line])), (7, 1), (listed.name, text))
+
+    def test_ranges(self):
+        for kind, texts in ((ROUGHAGE, DEER), (CATTLE, C), (PIGS, OUTDOOR_PIGS)):
+            for name in RANGES.keys() & texts.keys():
+                taken, not_taken = RANGES[name]
+                for text in taken:
+                    self.assertIsNone(refusal(file_of(lines_of(kind, {**texts, name: text}))))
+                for text in not_taken:
+                    file = file_of(lines_of(kind, {**texts, name: text}))
+                    self.assertEqual(refusal(file)[0], 7, (name, text))
+
+    def test_labels(self):
+        for label in ("A" * 16, "," * 16, " ", "!", "~"):
+            self.assertIsNone(refusal(file_of(lines_of(PIGS, OUTDOOR_PIGS, label))))
+        for label in ("", "A" * 17, "," * 17, "\x1f", "\x7f", "\x80", '"'):
+            self.assertEqual(refusal(file_of(lines_of(PIGS, OUTDOOR_PIGS, label))), (4, 1))
+
+    def test_records(self):
+        """Where records begin, end and break."""
+        for file, expected in (
+            (b"", None),
+            (b"\r\n", (3, 1)),
+            (b"\r\n\r\n", (3, 1)),
+            (b"\r", (2, 1)),
+            (b"\n", (2, 1)),
+            (b'"', (2, 1)),
+            (b'""', (3, 1)),
+            (b'"a"b', (2, 1)),
+            (b'a"b', (2, 1)),
+            (b'"a\r\nb"', (3, 1)),
+            (b",,,", (4, 1)),
+            (b",,,,", (3, 1)),
+            (b',,,,,"', (2, 1)),
+            (b"H,x,y,z", (5, 1)),
+            (b"H,x,y,z\r", (2, 1)),
+            (b"\0,x,y,z", (4, 1)),
+            (b"\xff,x,y,z\r\n", (4, 1)),
+            (PIG_FILE[:-2], None),
+            (PIG_FILE[:-1], (2, 4)),
+            (PIG_FILE + b"\r\n", (3, 5)),
+            (PIG_FILE + b"\r", (2, 5)),
+            (PIG_FILE + b'"', (2, 5)),
+            (PIG_FILE.replace(b"P1", b'"P1"', 2), None),
+            (PIG_FILE.replace(b"P1", b'"P""1"'), (4, 1)),
+            (PIG_FILE.replace(b",10\r", b',"10"\r'), None),
+            (PIG_FILE.replace(b",10\r", b',"1""0"\r'), (7, 1)),
+            (PIG_FILE.replace(b",10\r", b",10\n"), (2, 1)),
+            (PIG_FILE.replace(b",10\r", b",x\r").replace(b"Outdoor", b'"'), (7, 1)),
+        ):
+            self.assertEqual(refusal(file), expected, file)
+
+    def test_order(self):
+        """Two faults in one record: the earlier number is given."""
+        animals = b"Livestock::OtherCattle::Excretion,animals"
+        kilograms = b"Livestock::OtherCattle::Excretion,inp_n_excretion"
+        open_herds = b"A," + animals + b",1\r\nB," + animals + b",1\r\n"
+        for record, number in (
+            (b'"",x,y"', 2),
+            (b"," + animals, 3),
+            (b"," + b"x,y,z", 4),
+            (b"A,x,animals,standard", 5),
+            (b"A," + kilograms + b",Standard", 6),
+            (b"A," + animals + b",Standard", 7),
+            (b"A," + animals + b",1", 8),
+            (b"A,Livestock::FatteningPigs::Excretion,animals,1", 8),
+            (b"B,Livestock::FatteningPigs::Excretion,animals,1", 10),
+            (b"B," + animals + b",2", 11),
+            (b"B," + animals + b",x", 7),
+        ):
+            self.assertEqual(refusal(open_herds + record), (number, 3), record)
+        self.assertEqual(refusal(open_herds), (12, 1))
+
+
+if __name__ == "__main__":
+    ran = unittest.main(exit=False, verbosity=0).result
+    print(f"farthest figure of a herd from its exact value: {float(Figures.farthest):.3f} grams")
+    sys.exit(not ran.wasSuccessful())

@@ -1,0 +1,95 @@
+#!/usr/bin/env python3
+"""The stored test vectors: farm files and the outputs that belong to them.
+
+    vectors.py --write          make both packs anew
+    vectors.py --check          make them in memory and compare with the stored ones
+    vectors.py --which OFFSET   show the file that a byte of the outputs belongs to
+
+`vectors/files` holds each file's length as 4 bytes, little-endian, and its
+bytes. `vectors/outputs` holds the outputs one after the other.
+"""
+
+import argparse
+import sys
+from collections import Counter
+from pathlib import Path
+
+from cases import every_file
+from urvendlo import answer
+
+FOLDER = Path(__file__).resolve().parent / "vectors"
+FILES = FOLDER / "files"
+OUTPUTS = FOLDER / "outputs"
+LENGTH_BYTES = 4
+
+
+def packed(files):
+    return b"".join(len(file).to_bytes(LENGTH_BYTES, "little") + file for file in files)
+
+
+def unpacked(pack):
+    at = 0
+    while at < len(pack):
+        begin = at + LENGTH_BYTES
+        at = begin + int.from_bytes(pack[at:begin], "little")
+        yield pack[begin:at]
+
+
+def write():
+    FOLDER.mkdir(exist_ok=True)
+    files = list(every_file())
+    FILES.write_bytes(packed(files))
+    OUTPUTS.write_bytes(b"".join(map(answer, files)))
+
+
+def check():
+    """Compare with the stored packs; give whether they are the same."""
+    files = list(every_file())
+    outputs = list(map(answer, files))
+    same = True
+    for path, made in ((FILES, packed(files)), (OUTPUTS, b"".join(outputs))):
+        if path.read_bytes() != made:
+            print(f"{path.name}: the stored pack differs from the one made now")
+            same = False
+    counts = Counter(map(refusal_number, outputs))
+    print(f"{len(files)} files, {counts.pop(None)} accepted; refused, by number:")
+    print(", ".join(f"{number}: {counts[number]}" for number in sorted(counts)))
+    return same
+
+
+def refusal_number(output):
+    """The number of a refusal's line, or None for a listing."""
+    first, number = output.split(b",")[:2]
+    return int(number) if first == b"refused" else None
+
+
+def show(offset):
+    end = 0
+    for number, file in enumerate(unpacked(FILES.read_bytes()), start=1):
+        output = answer(file)
+        begin, end = end, end + len(output)
+        if offset < end:
+            print(f"file {number}, {len(file)} bytes; its output stands at {begin} to {end}:")
+            for part in (file, output):
+                print(*map(repr, part.splitlines(keepends=True)), sep="\n", end="\n\n")
+            return True
+    print(f"the outputs end at {end}")
+    return False
+
+
+def main():
+    parser = argparse.ArgumentParser(description="The stored test vectors.")
+    choice = parser.add_mutually_exclusive_group(required=True)
+    choice.add_argument("--write", action="store_true", help="make both packs anew")
+    choice.add_argument("--check", action="store_true", help="compare with the stored packs")
+    choice.add_argument("--which", type=int, metavar="OFFSET", help="show one file and its output")
+    chosen = parser.parse_args()
+    if chosen.write:
+        write()
+        return 0
+    done = check() if chosen.check else show(chosen.which)
+    return 0 if done else 1
+
+
+if __name__ == "__main__":
+    sys.exit(main())
