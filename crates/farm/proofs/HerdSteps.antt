@@ -1,0 +1,104 @@
+-- The steps of the checks of a herd and of a farm, each in the form that a place of the code wants. Assumes nothing.
+use Prim.Native.Nat.{ℕ, _+_, _≤_, _<_}
+use mathlib.Core.Path.{_≡_, sym, ap, _∙_}
+use mathlib.Core.Bool.{Bool, true, false, not, _||_}
+use mathlib.Core.List.{List, [], _∷_, _++_}
+use native.Mathlib.Numerals.{add-one}
+use native.Mathlib.Omega.{arith}
+use lib.ListN.{length, getD, take, drop}
+use lib.Seq.{take-suc}
+use borrow.Author.Tests.{lt-ltb, le-ltb}
+use Rattle.base.specs.Pick.{pick}
+use Rattle.base.specs.First.{first}
+use Rattle.base.proofs.Picks.{flag-true, flag-false}
+use Rattle.cut.specs.Total.{Each, none, more}
+use Rattle.farm.specs.declared.Label.{Label}
+use Rattle.farm.specs.declared.Herd.{Herd}
+use Rattle.farm.specs.declared.Farm.{Farm}
+use Rattle.farm.specs.declared.Fault.{Fault}
+use Rattle.farm.specs.declared.Fault.the-variants.{NoRoomForHerd}
+use Rattle.farm.specs.declared.Checked.{Checked}
+use Rattle.farm.specs.declared.Checked.the-variants.{Accepted, Refused}
+use Rattle.farm.specs.Labels.{sameLabel}
+use Rattle.farm.specs.Checks.{earlierLabel, herdLines, herdsLines, herdsOf, checkFarm}
+use Rattle.farm.proofs.Left.{taken-at, taken-end, taken-past}
+use Rattle.farm.proofs.Lines.{first-append, Refusing, refusing, quiet-passes, accepted-quiet, refused-first}
+
+-- ---- the labels of i of the herds were other ones
+
+module _ (hs : List Herd) (n : ℕ) (l : Label) (i : ℕ) (X : Bool) (inv : earlierLabel (drop i (take n hs)) l ≡ X) where
+  module _ (long : length hs ≡ 64) (b : i < n) (k : i < 64) (d : Herd) (r : Bool) (e : r ≡ sameLabel (getD hs i d .label) l) where
+    next : (r || earlierLabel (drop (i + 1) (take n hs)) l) ≡ X
+    unfolding earlierLabel
+    next = let j : i < length hs = omega arith in rw e (rw (taken-at n hs i d b j, earlierLabel) at inv)
+
+    pub label-found : r ≡ true → true ≡ X
+    label-found t = sym (rw t) ∙ next
+
+    pub label-not-here : r ≡ false → earlierLabel (drop (i + 1) (take n hs)) l ≡ X
+    label-not-here t = sym (rw t) ∙ next
+
+  pub label-new : n ≤ i → false ≡ X
+  unfolding earlierLabel
+  label-new b = rw (taken-end n hs i b, earlierLabel) at inv
+
+  pub no-more-herds : length hs ≡ 64 → 64 ≤ i → false ≡ X
+  unfolding earlierLabel
+  no-more-herds long b = rw (taken-past n hs i (omega arith), earlierLabel) at inv
+
+pub ruleset earlier-steps = (label-found, label-not-here, label-new, no-more-herds)
+
+-- ---- a herd: the tests in their order
+
+module _ (A : Type 0) (r x y : A) (t u : Bool) where
+  pub flag-not-true : r ≡ x → u ≡ t → not u ≡ true → r ≡ pick (not t) x y
+  flag-not-true q e h = q ∙ (simp (sym (ap not e) ∙ h))
+
+  pub flag-not-false : r ≡ y → u ≡ t → not u ≡ false → r ≡ pick (not t) x y
+  flag-not-false q e h = q ∙ (simp (sym (ap not e) ∙ h))
+
+pub ruleset flags = (flag-true, flag-false, flag-not-true, flag-not-false)
+
+-- ---- a farm: i herds were accepted
+
+-- the lines of a herd refuse
+pub herd-refusing : (earlier : List Herd) (h : Herd) → Each Refusing (herdLines earlier h)
+herd-refusing earlier h = more refusing (more refusing (more refusing (more refusing none)))
+
+module _ (f : Farm) where
+  pub no-room : 64 < f .count → Refused NoRoomForHerd 0 ≡ checkFarm f
+  unfolding checkFarm
+  no-room h = simp (lt-ltb 64 (f .count) h)
+
+  pub farm-start : f .count ≤ 64 → first (herdsLines [] (herdsOf f)) Accepted ≡ checkFarm f
+  unfolding checkFarm
+  farm-start h = simp (le-ltb 64 (f .count) h)
+
+  module _ (i : ℕ) (inv : first (herdsLines (take i (f .herds)) (drop i (herdsOf f))) Accepted ≡ checkFarm f) where
+    module _ (long : length (f .herds) ≡ 64) (room : f .count ≤ 64) (b : i < f .count) (d : Herd) (r : Checked)
+        (e : r ≡ first (herdLines (take i (f .herds)) (getD (f .herds) i d)) Accepted) where
+      abbrev after : Checked
+      after = first (herdsLines (take (i + 1) (f .herds)) (drop (i + 1) (herdsOf f))) Accepted
+
+      next-herd : first (herdLines (take i (f .herds)) (getD (f .herds) i d)) after ≡ checkFarm f
+      next-herd =
+          let j : i < length (f .herds) = omega arith in
+          let h = getD (f .herds) i d in
+          let s : take (i + 1) (f .herds) ≡ take i (f .herds) ++ (h ∷ []) = rw (add-one, take-suc (f .herds) i d j) in
+          rw s (
+          sym (first-append (herdLines (take i (f .herds)) h) (herdsLines (take i (f .herds) ++ (h ∷ [])) (drop (i + 1) (herdsOf f))) Accepted)
+          ∙ sym (ap (λ (hs : List Herd). first (herdsLines (take i (f .herds)) hs) Accepted) (taken-at (f .count) (f .herds) i d b j))
+          ∙ inv)
+
+      pub herd-accepted : r ≡ Accepted → after ≡ checkFarm f
+      herd-accepted t =
+          let q = accepted-quiet (herd-refusing (take i (f .herds)) (getD (f .herds) i d)) (sym e ∙ t) in
+          sym (quiet-passes q after) ∙ next-herd
+
+      pub herd-refused : {fault : Fault} {place : ℕ} → r ≡ Refused fault place → Refused fault place ≡ checkFarm f
+      herd-refused t = sym (refused-first (herd-refusing (take i (f .herds)) (getD (f .herds) i d)) (sym e ∙ t) after) ∙ next-herd
+
+    pub herds-accepted : f .count ≤ i → Accepted ≡ checkFarm f
+    herds-accepted b = rw (taken-end (f .count) (f .herds) i b) at inv
+
+pub ruleset farm-steps = (no-room, farm-start, herd-accepted, herd-refused, herds-accepted)

@@ -1,0 +1,97 @@
+-- 01, Refusal numbers: "A public call handed a record in place of a file checks it too, always with record 0. For a herd: 4 bad label, 12
+-- an input missing, 7 one out of range or a `standard` that 6 forbids, in that order. For a farm: 9 more than 64 herds, then herd by herd
+-- 4, 8 (label of an earlier herd), 12, 7."
+use Prim.Native.Nat.{ℕ}
+use mathlib.Core.Bool.{Bool, true, false, not, _||_}
+use mathlib.Core.List.{List, [], _∷_, _++_}
+use lib.ListN.{take}
+use lib.Dec.{leb, ltb}
+use Rattle.base.specs.First.{Line, _when_, first}
+use Rattle.inputs.specs.declared.Form.{Form}
+use Rattle.inputs.specs.declared.Form.the-variants.{Number, OrStandard, NoStandard, OneOf}
+use Rattle.inputs.specs.Inputs.{Row, rowsOf}
+use Rattle.farm.specs.declared.Label.{Label}
+use Rattle.farm.specs.declared.Given.{Given}
+use Rattle.farm.specs.declared.Given.the-variants.{Missing, Standard, Value}
+use Rattle.farm.specs.declared.Slot.{Slot}
+use Rattle.farm.specs.declared.Herd.{Herd}
+use Rattle.farm.specs.declared.Farm.{Farm}
+use Rattle.farm.specs.declared.Fault.the-variants.{BadLabel, BadValue, EarlierLabel, NoRoomForHerd, InputMissing}
+use Rattle.farm.specs.declared.Checked.{Checked}
+use Rattle.farm.specs.declared.Checked.the-variants.{Accepted, Refused}
+use Rattle.farm.specs.Labels.{labelOk, sameLabel}
+
+-- `standard` is a value of the form
+abbrev pub standardFits : Form → Bool
+standardFits (OrStandard d m) = true
+standardFits (Number d m) = false
+standardFits (NoStandard d m) = false
+standardFits (OneOf from count) = false
+
+-- a number is one of the form: not above the most, or the place of one of the names
+abbrev pub valueFits : Form → ℕ → Bool
+valueFits (Number d m) v = leb v m
+valueFits (OrStandard d m) v = leb v m
+valueFits (NoStandard d m) v = leb v m
+valueFits (OneOf from count) v = ltb v count
+
+abbrev pub fits : Form → Given → Bool
+fits form Missing = true
+fits form Standard = standardFits form
+fits form (Value v) = valueFits form v
+
+abbrev pub isMissing : Given → Bool
+isMissing Missing = true
+isMissing Standard = false
+isMissing (Value v) = false
+
+-- one of the inputs is missing: its slot says so, or there is none
+abbrev pub lacksOne : List Row → List Slot → Bool
+lacksOne [] slots = false
+lacksOne (row ∷ rows) [] = true
+lacksOne (row ∷ rows) (s ∷ slots) = isMissing (s .given) || lacksOne rows slots
+
+-- one of the inputs has a value that is none of its form
+abbrev pub unfitOne : List Row → List Slot → Bool
+unfitOne [] slots = false
+unfitOne (row ∷ rows) [] = false
+unfitOne (row ∷ rows) (s ∷ slots) = not (fits (row .form) (s .given)) || unfitOne rows slots
+
+unfoldable pub lacks : Herd → Bool
+lacks h = lacksOne (rowsOf (h .kind)) (h .slots)
+
+unfoldable pub unfit : Herd → Bool
+unfit h = unfitOne (rowsOf (h .kind)) (h .slots)
+
+-- one of the herds has the label
+unfoldable pub earlierLabel : List Herd → Label → Bool
+earlierLabel [] l = false
+earlierLabel (h ∷ hs) l = sameLabel (h .label) l || earlierLabel hs l
+
+-- the tests of a herd's inputs, and of a herd that stands after these, in their order
+abbrev pub inputLines : Herd → List (Line Checked)
+inputLines h = Refused InputMissing 0 when lacks h ∷ Refused BadValue 0 when unfit h ∷ []
+
+abbrev pub herdLines : List Herd → Herd → List (Line Checked)
+herdLines earlier h =
+    Refused BadLabel 0 when not (labelOk (h .label)) ∷ Refused EarlierLabel 0 when earlierLabel earlier (h .label) ∷ inputLines h
+
+-- herd by herd
+abbrev pub herdsLines : List Herd → List Herd → List (Line Checked)
+herdsLines earlier [] = []
+herdsLines earlier (h ∷ hs) = herdLines earlier h ++ herdsLines (earlier ++ (h ∷ [])) hs
+
+-- a herd by itself: no herd is earlier
+unfoldable pub checkHerd : Herd → Checked
+checkHerd h = first (herdLines [] h) Accepted
+
+-- the herds of a farm
+abbrev pub herdsOf : Farm → List Herd
+herdsOf f = take (f .count) (f .herds)
+
+-- the tests of a farm
+abbrev pub farmLines : Farm → List (Line Checked)
+farmLines f = Refused NoRoomForHerd 0 when ltb 64 (f .count) ∷ herdsLines [] (herdsOf f)
+
+unfoldable pub checkFarm : Farm → Checked
+checkFarm f = first (farmLines f) Accepted

@@ -1,0 +1,27 @@
+-- 01, The farm file: "The label has 1 to 16 bytes from 32 to 126, byte 34 excepted." And when two labels are one.
+use Prim.Native.Nat.{ℕ}
+use mathlib.Core.List.{List, [], _∷_}
+use mathlib.Core.Bool.{Bool, true, not, _&&_}
+use lib.ListN.{length, take}
+use lib.Dec.{leb, eqb}
+use Rattle.base.specs.Part.{sameBytes}
+use Rattle.farm.specs.declared.Label.{Label}
+
+unfoldable pub byteOk : ℕ → Bool
+byteOk b = leb 32 b && (leb b 126 && not (eqb b 34))
+
+abbrev pub allOk : List ℕ → Bool
+allOk [] = true
+allOk (b ∷ rest) = byteOk b && allOk rest
+
+-- the bytes in use
+abbrev pub text : Label → List ℕ
+text l = take (l .len) (l .bytes)
+
+-- a length past 16 is bad, whatever the bytes
+unfoldable pub labelOk : Label → Bool
+labelOk l = leb 1 (l .len) && (leb (l .len) 16 && allOk (text l))
+
+-- of one length of at most 16, with the same bytes in use
+unfoldable pub sameLabel : Label → Label → Bool
+sameLabel a b = eqb (a .len) (b .len) && (leb (a .len) 16 && sameBytes (text a) (text b))

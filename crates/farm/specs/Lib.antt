@@ -1,0 +1,4 @@
+pub mod Labels
+pub mod Refusals
+pub mod Checks
+pub mod Accepts

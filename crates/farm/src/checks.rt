@@ -1,0 +1,173 @@
+// 01's checks of a record that is handed in, in their order, always with record 0. A record of any content is answered.
+use crate::Checked;
+use crate::Farm;
+use crate::Fault;
+use crate::Given;
+use crate::Herd;
+use crate::Label;
+use crate::labels;
+use inputs::Form;
+ghost use mathlib.Core.Path.{_≡_};
+ghost use lib.ListN.{take};
+ghost use Rattle.base.specs.First.{first};
+ghost use Rattle.farm.specs.declared.Checked.the-variants.{Accepted};
+ghost use Rattle.farm.specs.Checks.{standardFits, valueFits, fits, isMissing, lacks, unfit, earlierLabel, inputLines, herdLines, checkHerd, checkFarm};
+
+const HERDS_MOST: usize = 64;
+
+// Is this a value of the form? What is missing is no wrong value.
+pub fn fits_form(form: Form, given: Given) -> bool
+    ensures { λ r. ⌜ r ≡ fits form given ⌝ }
+{
+    match given {
+        Given::Missing => true,
+        Given::Standard => standard_fits(form),
+        Given::Value(v) => value_fits(form, v),
+    }
+}
+
+fn standard_fits(form: Form) -> bool
+    ensures { λ r. ⌜ r ≡ standardFits form ⌝ }
+{
+    match form {
+        Form::Number(_, _) => false,
+        Form::OrStandard(_, _) => true,
+        Form::NoStandard(_, _) => false,
+        Form::OneOf(_, _) => false,
+    }
+}
+
+fn value_fits(form: Form, v: u32) -> bool
+    ensures { λ r. ⌜ r ≡ valueFits form v ⌝ }
+{
+    match form {
+        Form::Number(_, most) => v <= most,
+        Form::OrStandard(_, most) => v <= most,
+        Form::NoStandard(_, most) => v <= most,
+        Form::OneOf(_, count) => (v as usize) < count,
+    }
+}
+
+pub fn is_missing(given: Given) -> bool
+    ensures { λ r. ⌜ r ≡ isMissing given ⌝ }
+{
+    match given {
+        Given::Missing => true,
+        Given::Standard => false,
+        Given::Value(_) => false,
+    }
+}
+
+// Lacks the herd an input?
+pub fn lacks_input(h: Herd) -> bool
+    ensures { λ r. ⌜ r ≡ lacks h ⌝ }
+{
+    let kind = h.kind;
+    let count = inputs::count_of(kind);
+    let mut i = 0;
+    while i < count {
+        let slot = h.slots[i];
+        let given = slot.given;
+        if is_missing(given) {
+            return true;
+        }
+        i += 1;
+    }
+    false
+}
+
+// Has the herd a value that is none of its input's?
+pub fn has_unfit(h: Herd) -> bool
+    ensures { λ r. ⌜ r ≡ unfit h ⌝ }
+{
+    let kind = h.kind;
+    let first = inputs::first_of(kind);
+    let count = inputs::count_of(kind);
+    let mut i = 0;
+    while i < count {
+        let slot = h.slots[i];
+        let given = slot.given;
+        if !fits_form(inputs::form_of(first + i), given) {
+            return true;
+        }
+        i += 1;
+    }
+    false
+}
+
+// Has one of the first `upto` herds this label?
+pub fn earlier_label(farm: Farm, upto: usize, l: Label) -> bool
+    ensures { λ r. ⌜ r ≡ earlierLabel (take upto (farm .herds)) l ⌝ }
+{
+    let mut i = 0;
+    while i < upto {
+        if HERDS_MOST <= i {
+            return false;
+        }
+        let h = farm.herds[i];
+        if labels::same_label(h.label, l) {
+            return true;
+        }
+        i += 1;
+    }
+    false
+}
+
+// The checks of a herd's inputs: 12, then 7.
+fn check_inputs(h: Herd) -> Checked
+    ensures { λ r. ⌜ r ≡ first (inputLines h) Accepted ⌝ }
+{
+    if lacks_input(h) {
+        return Checked::Refused(Fault::InputMissing, 0);
+    }
+    if has_unfit(h) {
+        return Checked::Refused(Fault::BadValue, 0);
+    }
+    Checked::Accepted
+}
+
+// A herd by itself: 4, 12, 7.
+pub fn check_herd(h: Herd) -> Checked
+    ensures { λ r. ⌜ r ≡ checkHerd h ⌝ }
+{
+    if !labels::label_ok(h.label) {
+        return Checked::Refused(Fault::BadLabel, 0);
+    }
+    check_inputs(h)
+}
+
+// A herd that stands after the first `place` of a farm: 4, 8, 12, 7.
+fn check_after(farm: Farm, place: usize, h: Herd) -> Checked
+    ensures { λ r. ⌜ r ≡ first (herdLines (take place (farm .herds)) h) Accepted ⌝ }
+{
+    if !labels::label_ok(h.label) {
+        return Checked::Refused(Fault::BadLabel, 0);
+    }
+    if earlier_label(farm, place, h.label) {
+        return Checked::Refused(Fault::EarlierLabel, 0);
+    }
+    check_inputs(h)
+}
+
+// A farm: 9, then herd by herd.
+pub fn check_farm(farm: Farm) -> Checked
+    ensures { λ r. ⌜ r ≡ checkFarm farm ⌝ }
+{
+    let count = farm.count;
+    if HERDS_MOST < count {
+        return Checked::Refused(Fault::NoRoomForHerd, 0);
+    }
+    let mut i = 0;
+    while i < count {
+        let h = farm.herds[i];
+        match check_after(farm, i, h) {
+            Checked::Accepted => {
+                i += 1;
+            }
+            Checked::Refused(fault, record) => {
+                return Checked::Refused(fault, record);
+            }
+        }
+    }
+    Checked::Accepted
+}

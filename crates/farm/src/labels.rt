@@ -1,0 +1,63 @@
+// Labels: 1 to 16 bytes from 32 to 126, byte 34 excepted; two are one label where the bytes in use are the same.
+use crate::Label;
+ghost use mathlib.Core.Path.{_≡_};
+ghost use Rattle.farm.specs.Labels.{byteOk, labelOk, sameLabel};
+
+const LABEL_MOST: usize = 16;
+
+const LOWEST: u8 = 32;
+
+const HIGHEST: u8 = 126;
+
+fn byte_ok(b: u8) -> bool
+    ensures { λ r. ⌜ r ≡ byteOk b ⌝ }
+{
+    if b < LOWEST {
+        return false;
+    }
+    if HIGHEST < b {
+        return false;
+    }
+    b != b'"'
+}
+
+pub fn label_ok(l: Label) -> bool
+    ensures { λ r. ⌜ r ≡ labelOk l ⌝ }
+{
+    let n = l.len;
+    if n == 0 {
+        return false;
+    }
+    if LABEL_MOST < n {
+        return false;
+    }
+    let mut i = 0;
+    while i < n {
+        if !byte_ok(l.bytes[i]) {
+            return false;
+        }
+        i += 1;
+    }
+    true
+}
+
+// Are the bytes in use the same?
+pub fn same_label(a: Label, b: Label) -> bool
+    ensures { λ r. ⌜ r ≡ sameLabel a b ⌝ }
+{
+    let n = a.len;
+    if n != b.len {
+        return false;
+    }
+    if LABEL_MOST < n {
+        return false;
+    }
+    let mut i = 0;
+    while i < n {
+        if a.bytes[i] != b.bytes[i] {
+            return false;
+        }
+        i += 1;
+    }
+    true
+}
