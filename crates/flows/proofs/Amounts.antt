@@ -1,0 +1,58 @@
+-- A part of an amount, and the rest of it: what the code's one cut division needs, and that the TAN stays no more than the N.
+-- Assumes nothing.
+use mathlib.Core.Path.{_≡_}
+use Prim.Native.Nat.{ℕ, _+_, _-_, _*_, _/_, _≤_, _<_}
+use native.Mathlib.Nat.{mul-le-mul-left, le-refl, le-trans, add-mul-div-right}
+use native.Mathlib.Omega.{arith}
+use mir.Syntax.{w64}
+use mir.Val.{Fits}
+use Rattle.cut.specs.Cut.{_cutBy_}
+use Rattle.cut.proofs.Products.{mul-fits}
+use Rattle.cut.proofs.Shares.{cut-mono, part-le, part-mono}
+use Rattle.flows.specs.Part.{Fit, PartOf, Modest}
+
+-- ---- the code's step
+
+module _ (amount shares of : ℕ) (fit : Fit amount shares of) where
+  pub product-fits : Fits w64 (amount * shares)
+  product-fits = mul-fits 4000000000 1000000000 tt (fit .amount-most) (omega arith)
+
+  pub is-part : (r : ℕ) → r ≡ amount * shares cutBy of → PartOf amount shares of r
+  is-part r e = record { is = e; most = omega (arith, part-le amount shares of (fit .within)) }
+
+pub ruleset part-steps = (product-fits, is-part)
+
+-- ---- the same part of the N and of the TAN in it
+
+module _ (n tan shares of : ℕ) (m : Modest n tan) where
+  pub modest-share : shares ≤ of → Modest (n * shares cutBy of) (tan * shares cutBy of)
+  modest-share h =
+      record {
+        n-most = le-trans (part-le n shares of h) (m .n-most);
+        tan-most = part-mono of {x = tan} {y = n} {m = shares} {n = shares} (m .tan-most) (le-refl shares);
+      }
+
+  -- of two parts that the code has made
+  pub modest-part : (a b : ℕ) → PartOf n shares of a → PartOf tan shares of b → Modest a b
+  modest-part a b p q =
+      record {
+        n-most = omega arith;
+        tan-most = omega (arith, part-mono of {x = tan} {y = n} {m = shares} {n = shares} (m .tan-most) (le-refl shares));
+      }
+
+-- ---- the rest: a larger amount has no smaller rest
+
+part-grows : (x e shares of : ℕ) → 0 < of → shares ≤ of → (x + e) * shares / of ≤ x * shares / of + e
+part-grows x e shares of h k =
+    let c : (x + e) * shares / of ≤ (x * shares + e * of) / of = cut-mono of (omega (arith, mul-le-mul-left e k)) in
+    omega (arith, add-mul-div-right (x * shares) e h)
+
+rest-grows : (x y shares of : ℕ) → 0 < of → shares ≤ of → x ≤ y → x - x * shares / of ≤ y - y * shares / of
+rest-grows x y shares of h k l =
+    let e : x + (y - x) ≡ y = omega arith in
+    let g : y * shares / of ≤ x * shares / of + (y - x) = rw e at (part-grows x (y - x) shares of h k) in
+    omega arith
+
+pub modest-rest : (n tan shares of : ℕ) → Modest n tan → 0 < of → shares ≤ of → Modest (n - n * shares cutBy of) (tan - tan * shares cutBy of)
+modest-rest n tan shares of m h k =
+    record { n-most = omega (arith, m .n-most); tan-most = rest-grows tan n shares of h k (m .tan-most) }

@@ -1,0 +1,60 @@
+-- What the animals excrete: the N of the largest herd fits, and the TAN is no more than the N. Assumes nothing.
+use mathlib.Core.Path.{_≡_, refl}
+use Prim.Native.Nat.{ℕ, _*_, _≤_}
+use native.Mathlib.Omega.{arith}
+use mir.Syntax.{w64}
+use mir.Val.{Fits}
+use Rattle.cut.proofs.Products.{mul-to}
+use Rattle.cut.proofs.Shares.{part-le}
+use Rattle.tables.proofs.Standards.{standard-most}
+use Rattle.flows.specs.declared.Entered.{Entered}
+use Rattle.flows.specs.declared.Roughage.{Roughage}
+use Rattle.flows.specs.Units.{tenThousandths}
+use Rattle.flows.specs.Sound.{mostAnimals, mostGrams, EnteredTo, standard, number, SoundRoughage}
+use Rattle.flows.specs.Arithmetic.{cutting}
+use Rattle.flows.specs.Part.{Fit, PartOf, Modest}
+use Rattle.flows.specs.Excretion.{«n_excretion_animal», tanFraction, excreted, excretionOf}
+
+-- ---- what a roughage herd enters, or leaves to the standard
+
+grams-le : (category : ℕ) {entered : Entered} → EnteredTo mostGrams entered → «n_excretion_animal» category entered ≤ mostGrams
+grams-le category standard = omega (arith, standard-most category)
+grams-le category (number h) = h
+
+fraction-le : {entered : Entered} → EnteredTo tenThousandths entered → tanFraction entered ≤ tenThousandths
+fraction-le standard = omega arith
+fraction-le (number h) = h
+
+module _ (r : Roughage) (s : SoundRoughage r) where
+  pub roughage-grams-le : «n_excretion_animal» (r .animalcategory) (r .«inp_n_excretion») ≤ mostGrams
+  roughage-grams-le = grams-le (r .animalcategory) (s .grams)
+
+  pub roughage-fraction-le : tanFraction (r .«tan_fraction») ≤ tenThousandths
+  roughage-fraction-le = fraction-le (s .fraction)
+
+-- ---- N and TAN
+
+module _ (animals grams fraction : ℕ) (ha : animals ≤ mostAnimals) (hg : grams ≤ mostGrams) (hf : fraction ≤ tenThousandths) where
+  n-le : animals * grams ≤ 2000000000
+  n-le = mul-to 10000 200000 tt ha hg
+
+  pub excreted-modest : Modest (excreted cutting animals grams fraction .«n_excretion») (excreted cutting animals grams fraction .«tan_excretion»)
+  excreted-modest = record { n-most = n-le; tan-most = part-le (animals * grams) fraction tenThousandths hf }
+
+  pub excretion-modest : Modest (excretionOf animals grams fraction .«n_excretion») (excretionOf animals grams fraction .«tan_excretion»)
+  unfolding excretionOf
+  excretion-modest = excreted-modest
+
+  -- the code's steps
+  pub n-fits : Fits w64 (animals * grams)
+  n-fits = omega (arith, n-le)
+
+  pub fraction-fit : Fit (animals * grams) fraction tenThousandths
+  fraction-fit = record { amount-most = omega (arith, n-le); of-most = omega arith; above = omega arith; within = hf }
+
+  pub is-excretion : (tan : ℕ) → PartOf (animals * grams) fraction tenThousandths tan
+      → record { «n_excretion» = animals * grams; «tan_excretion» = tan } ≡ excretionOf animals grams fraction
+  unfolding excretionOf
+  is-excretion tan p = rw (p .is) refl
+
+pub ruleset excretion-steps = (n-fits, fraction-fit, is-excretion)

@@ -1,0 +1,28 @@
+-- `flows::house::ef_nh3_nhousing` meets its contract: the two parts in their order, and the ceiling by its test. Assumes nothing.
+use borrow.Author.Needs.{needs}
+use Rattle.flows.proofs.InHousing.{factor-steps}
+use Rattle.flows.proofs.house.ef_nh3_nhousing.Statement.{statement}
+use Rattle.flows.proofs.house.ef_nh3_nhousing.Tie as tie
+
+c-grazing-requires : tie.Need-c-grazing-requires
+c-grazing-requires c κs = search needs
+
+part-requires : tie.Need-part-requires
+part-requires c κs = search needs
+
+sub-part : tie.Need-sub-part
+sub-part c = search needs
+
+part-requires-2 : tie.Need-part-requires-2
+part-requires-2 c κs = search needs
+
+returns : tie.Need-returns
+returns c = search (needs, factor-steps)
+
+returns-2 : tie.Need-returns-2
+returns-2 c = search (needs, factor-steps)
+
+pub ef-nh3-nhousing-spec : {M : Type 1} → statement M
+ef-nh3-nhousing-spec =
+    tie.close
+    (tie.spec c-grazing-requires part-requires sub-part part-requires-2 returns returns-2)

@@ -1,0 +1,23 @@
+-- `flows::house::in_housing` meets its contract: the factor is the definition's, and the ammonia is no more than the TAN. Assumes nothing.
+use borrow.Author.Needs.{needs}
+use Rattle.flows.proofs.InHousing.{is-housing}
+use Rattle.flows.proofs.house.in_housing.Statement.{statement}
+use Rattle.flows.proofs.house.in_housing.Tie as tie
+
+ef-nh3-nhousing-requires : tie.Need-ef-nh3-nhousing-requires
+ef-nh3-nhousing-requires c κs = search needs
+
+part-requires : tie.Need-part-requires
+part-requires c κs = search needs
+
+sub-t6 : tie.Need-sub-t6
+sub-t6 c = search needs
+
+sub-t7 : tie.Need-sub-t7
+sub-t7 c = search needs
+
+returns : tie.Need-returns
+returns c = search (needs, is-housing)
+
+pub in-housing-spec : {M : Type 1} → statement M
+in-housing-spec = tie.close (tie.spec ef-nh3-nhousing-requires part-requires sub-t6 sub-t7 returns)

@@ -1,0 +1,43 @@
+// 2.22, 2.50 and 2.84: what the animals of a herd excrete in a year.
+use crate::Entered;
+use crate::Excretion;
+use crate::parts;
+ghost use mathlib.Core.Path.{_≡_};
+ghost use Prim.Native.Nat.{_≤_};
+ghost use Rattle.flows.specs.Units.{tenThousandths};
+ghost use Rattle.flows.specs.Sound.{mostAnimals, mostGrams};
+ghost use Rattle.flows.specs.Excretion.{«n_excretion_animal», tanFraction, excretionOf};
+
+const TEN_THOUSANDTHS: u64 = 10000;
+
+// Grams a head: the category's standard, unless a number is entered.
+pub fn n_excretion_animal(category: u64, entered: Entered) -> u64
+    ensures { λ r. ⌜ r ≡ «n_excretion_animal» category entered ⌝ }
+{
+    match entered {
+        Entered::Standard => tables::standard(category),
+        Entered::Number(grams) => grams,
+    }
+}
+
+// The soluble fraction, in ten-thousandths: share_Nsol, unless a number is entered.
+pub fn tan_fraction(entered: Entered) -> u64
+    ensures { λ r. ⌜ r ≡ tanFraction entered ⌝ }
+{
+    match entered {
+        Entered::Standard => tables::SHARE_NSOL,
+        Entered::Number(fraction) => fraction,
+    }
+}
+
+pub fn excretion(animals: u64, grams: u64, fraction: u64) -> Excretion
+    requires { ⌜ (animals ≤ mostAnimals) × (grams ≤ mostGrams) × (fraction ≤ tenThousandths) ⌝ }
+    ensures { λ r. ⌜ r ≡ excretionOf animals grams fraction ⌝ }
+{
+    let n = animals * grams;
+    let tan = parts::part(n, fraction, TEN_THOUSANDTHS);
+    Excretion {
+        n_excretion: n,
+        tan_excretion: tan,
+    }
+}

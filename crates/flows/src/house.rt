@@ -1,0 +1,83 @@
+// The flow through the housing door, and 2.85 to 2.87: the housing of other roughage-consuming animals and its ammonia. Factors are in
+// billionths. The coefficient 0.9989 that 2.87 prints stands in no formula there, and none here.
+use crate::Housing;
+use crate::Roughage;
+use crate::parts;
+ghost use mathlib.Core.Path.{_≡_};
+ghost use Prim.Native.Nat.{_≤_};
+ghost use Rattle.flows.specs.Units.{billionths, year, day};
+ghost use Rattle.flows.specs.Sound.{SoundRoughage};
+ghost use Rattle.flows.specs.Part.{Modest};
+ghost use Rattle.flows.specs.Arithmetic.{cutting};
+ghost use Rattle.flows.specs.Housing.{Factor, mostGrowth, «c_grazing», «ef_nh3_nhousing», inHousing, throughDoor, housingInGrams};
+
+const YEAR: u64 = 365;
+
+const DAY: u64 = 240;
+
+const YEAR_OF_HOURS: u64 = 87600;
+
+const PERCENT: u64 = 100;
+
+const THOUSANDTHS: u64 = 1000;
+
+const BILLIONTHS: u64 = 1000000000;
+
+// er_housing, in thousandths.
+const ER_HOUSING: u64 = 275;
+
+// How much more of the TAN is emitted for the hours on pasture.
+fn c_grazing(days: u64, hours: u64) -> u64
+    requires { ⌜ (days ≤ year) × (hours ≤ day) ⌝ }
+    ensures { λ r. ⌜ Factor mostGrowth («c_grazing» cutting days hours) r ⌝ }
+{
+    if days * hours < YEAR_OF_HOURS {
+        let other_days = (YEAR - days) * DAY * BILLIONTHS;
+        let grazing_days = days * (DAY - hours) * tables::k(hours);
+        return cut::cut(other_days + grazing_days, YEAR_OF_HOURS - hours * days).whole;
+    }
+    BILLIONTHS
+}
+
+// The part of the TAN that the housing emits: the rate, then the free factor, then the ceiling of 1.
+fn ef_nh3_nhousing(r: Roughage) -> u64
+    requires { ⌜ SoundRoughage r ⌝ }
+    ensures { λ f. ⌜ Factor billionths («ef_nh3_nhousing» cutting r) f ⌝ }
+{
+    let c = c_grazing(r.grazing_days, r.grazing_hours);
+    let rate = parts::part(c, ER_HOUSING, THOUSANDTHS);
+    let factor = parts::part(rate, PERCENT - r.free_correction_factor, PERCENT);
+    if BILLIONTHS < factor {
+        return BILLIONTHS;
+    }
+    factor
+}
+
+// The housing of a roughage herd into which so much N and TAN goes.
+pub fn in_housing(r: Roughage, n: u64, tan: u64) -> Housing
+    requires { ⌜ SoundRoughage r × Modest n tan ⌝ }
+    ensures { λ h. ⌜ h ≡ housingInGrams (inHousing cutting r n tan) ⌝ }
+{
+    let factor = ef_nh3_nhousing(r);
+    let nh3 = parts::part(tan, factor, BILLIONTHS);
+    Housing {
+        n_into_housing: n,
+        tan_into_housing: tan,
+        nh3_nhousing: nh3,
+        n_outhousing: n - nh3,
+        tan_outhousing: tan - nh3,
+    }
+}
+
+// Only the flow through the door.
+pub fn through_door(n: u64, tan: u64) -> Housing
+    ensures { λ h. ⌜ h ≡ housingInGrams (throughDoor cutting n tan) ⌝ }
+{
+    Housing {
+        n_into_housing: n,
+        tan_into_housing: tan,
+        nh3_nhousing: 0,
+        n_outhousing: 0,
+        tan_outhousing: 0,
+    }
+}
