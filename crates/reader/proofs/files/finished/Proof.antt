@@ -1,0 +1,20 @@
+-- `reader::files::finished` meets its contract: 12 where a herd lacks an input, else the farm. Assumes nothing.
+use borrow.Author.Needs.{needs}
+use Rattle.reader.proofs.FileSteps.{finished-steps}
+use Rattle.reader.proofs.files.finished.Statement.{statement}
+use Rattle.reader.proofs.files.finished.Tie as tie
+
+closed-requires : tie.Need-closed-requires
+closed-requires c κs = search needs
+
+refused-requires : tie.Need-refused-requires
+refused-requires c κs = search needs
+
+returns : tie.Need-returns
+returns c = search (needs, finished-steps)
+
+returns-2 : tie.Need-returns-2
+returns-2 c = search (needs, finished-steps)
+
+pub finished-spec : {M : Type 1} → statement M
+finished-spec = tie.close (tie.spec closed-requires refused-requires returns returns-2)

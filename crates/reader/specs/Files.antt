@@ -1,0 +1,99 @@
+-- 01, Refusal numbers, over a whole file: 1 before all, then records from the front, in each 2 to 11 in that order, then 12. The first that
+-- applies is given; where none does, the farm that the records say.
+use Prim.Native.Nat.{ℕ, _+_}
+use mathlib.Core.Bool.{Bool, not, _&&_}
+use mathlib.Core.List.{List, [], _∷_, _++_}
+use lib.ListN.{length, set, replicate}
+use lib.Dec.{eqb, leb, ltb}
+use Rattle.base.specs.Pick.{pick}
+use Rattle.base.specs.First.{Line, _when_, first}
+use Rattle.csv.specs.Reading.{Parts, partsOf, Reading, _then_, end, broken, readingOf}
+use Rattle.inputs.specs.Inputs.{kindAt}
+use Rattle.farm.specs.declared.Herd.{Herd}
+use Rattle.farm.specs.declared.Farm.{Farm}
+use Rattle.farm.specs.declared.Fault.{Fault}
+use Rattle.farm.specs.declared.Fault.the-variants.{FileTooLong, RecordBroken, EarlierLabel, NoRoomForHerd, OtherKind, GivenAlready, InputMissing}
+use Rattle.farm.specs.declared.Checked.the-variants.{Accepted, Refused}
+use Rattle.farm.specs.Labels.{sameLabel}
+use Rattle.farm.specs.Checks.{lacks, earlierLabel, herdsOf}
+use Rattle.reader.specs.declared.Progress.{Progress}
+use Rattle.reader.specs.declared.FileAnswer.{FileAnswer}
+use Rattle.reader.specs.Entries.{entryLines, labelIn, inputIn, givenIn}
+use Rattle.reader.specs.Herds.{noHerd, sameKind, withInput, newHerd, hasInput}
+
+-- a farm of no herds
+abbrev pub noFarm : Farm
+noFarm = record { herds = replicate 64 noHerd; count = 0 }
+
+abbrev pub refused : ℕ → Fault → FileAnswer
+refused record′ fault = record { checked = Refused fault record′; farm = noFarm }
+
+abbrev pub accepted : Farm → FileAnswer
+accepted f = record { checked = Accepted; farm = f }
+
+-- ---- how far a file is read
+
+abbrev pub nothingRead : Progress
+nothingRead = record { farm = noFarm; herd = noHerd; first = 0; lacking = 0 }
+
+-- a farm with one herd more
+abbrev pub withHerd : Farm → Herd → Farm
+withHerd f h = record { herds = set (f .herds) (f .count) h; count = f .count + 1 }
+
+-- of the herds up to the one being read, the first record of the first that lacks an input: `before` where a herd before this one does
+abbrev pub lackingWith : ℕ → Herd → ℕ → ℕ
+lackingWith before h first′ = pick (eqb before 0) (pick (lacks h) first′ 0) before
+
+abbrev pub lackingNow : Progress → ℕ
+lackingNow p = lackingWith (p .lacking) (p .herd) (p .first)
+
+-- the herd being read, where there is one, has all its records
+unfoldable pub closed : Progress → Progress
+closed p =
+    pick (eqb (p .first) 0) p (record { farm = withHerd (p .farm) (p .herd); herd = noHerd; first = 0; lacking = lackingNow p })
+
+-- the record belongs to the herd being read
+abbrev pub isCurrent : Progress → Parts → Bool
+isCurrent p x = sameLabel (p .herd .label) (labelIn x)
+
+-- ---- one record: 3 to 11, in that order
+
+unfoldable pub recordLines : ℕ → Progress → Parts → List (Line FileAnswer)
+recordLines n p x =
+    entryLines (refused n) x
+    ++ (refused n EarlierLabel when (not (isCurrent p x) && earlierLabel (herdsOf (p .farm)) (labelIn x))
+    ∷ refused n NoRoomForHerd when (not (isCurrent p x) && leb 64 (closed p .farm .count))
+    ∷ refused n OtherKind when (isCurrent p x && not (sameKind (p .herd .kind) (kindAt (inputIn x))))
+    ∷ refused n GivenAlready when (isCurrent p x && hasInput (p .herd) (inputIn x))
+    ∷ [])
+
+-- the record adds to the herd being read, or begins another
+unfoldable pub taken : ℕ → Progress → Parts → Progress
+taken n p x =
+    pick (isCurrent p x)
+    (record { farm = p .farm; herd = withInput (p .herd) (inputIn x) (givenIn x); first = p .first; lacking = p .lacking })
+    (record {
+      farm = closed p .farm;
+      herd = newHerd (labelIn x) (inputIn x) (givenIn x);
+      first = n;
+      lacking = closed p .lacking;
+    })
+
+-- ---- the file
+
+-- read through: 12, or the farm
+unfoldable pub finished : Progress → FileAnswer
+finished p = first (refused (closed p .lacking) InputMissing when not (eqb (closed p .lacking) 0) ∷ []) (accepted (closed p .farm))
+
+-- from record n on, with these records to come; a broken record is 2
+unfoldable pub readFrom : ℕ → Progress → Reading → FileAnswer
+readFrom n p end = finished p
+readFrom n p broken = refused n RecordBroken
+readFrom n p (cs then rest) = first (recordLines n p (partsOf cs)) (readFrom (n + 1) (taken n p (partsOf cs)) rest)
+
+-- 01: "at most 65,536 bytes"
+abbrev pub fileMost : ℕ
+fileMost = 65536
+
+unfoldable pub readOf : List ℕ → FileAnswer
+readOf s = first (refused 0 FileTooLong when ltb fileMost (length s) ∷ []) (readFrom 1 nothingRead (readingOf s))

@@ -1,0 +1,5 @@
+pub mod Values
+pub mod Entries
+pub mod Herds
+pub mod Files
+pub mod Turns
