@@ -6,6 +6,7 @@ thrown with a fixed seed.
 
 import itertools
 from fractions import Fraction
+from pathlib import Path
 
 import damage
 import faults
@@ -359,9 +360,17 @@ def longest_files(dice):
         yield damage.too_long_file(dice)
 
 
+def examples():
+    """The farm files that the project shows."""
+    folder = Path(__file__).resolve().parent.parent / "examples"
+    for path in sorted(folder.glob("*.csv")):
+        yield path.read_bytes()
+
+
 def every_file():
     """All files of the pack, in order."""
     dice = Dice(SEED)
+    yield from examples()
     yield from edge_files()
     yield from every_byte()
     yield from spoilt_values()

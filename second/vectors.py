@@ -5,8 +5,9 @@
     vectors.py --check          make them in memory and compare with the stored ones
     vectors.py --which OFFSET   show the file that a byte of the outputs belongs to
 
-`vectors/files` holds each file's length as 4 bytes, little-endian, and its
-bytes. `vectors/outputs` holds the outputs one after the other.
+The packs are the input and the expected output of the program `cases`:
+`crates/cases/stdin` holds each file's length as 4 bytes, little-endian, and its
+bytes; `crates/cases/stdout` holds the outputs one after the other.
 """
 
 import argparse
@@ -17,9 +18,9 @@ from pathlib import Path
 from cases import every_file
 from urvendlo import answer
 
-FOLDER = Path(__file__).resolve().parent / "vectors"
-FILES = FOLDER / "files"
-OUTPUTS = FOLDER / "outputs"
+CASES = Path(__file__).resolve().parent.parent / "crates" / "cases"
+FILES = CASES / "stdin"
+OUTPUTS = CASES / "stdout"
 LENGTH_BYTES = 4
 
 
@@ -36,7 +37,6 @@ def unpacked(pack):
 
 
 def write():
-    FOLDER.mkdir(exist_ok=True)
     files = list(every_file())
     FILES.write_bytes(packed(files))
     OUTPUTS.write_bytes(b"".join(map(answer, files)))

@@ -1,7 +1,7 @@
 -- Totals: how near a sum over a list is to the exact one, and sums of sets of figures part by part. Assumes nothing.
 use mathlib.Core.Path.{_≡_, refl, sym, ap, subst, _∙_}
 use mathlib.Core.List.{List, [], _∷_}
-use Prim.Native.Nat.{ℕ, suc, _+_, _*_, _≤_, _<_}
+use Prim.Native.Nat.{ℕ, zero, suc, _+_, _*_, _≤_, _<_}
 use native.Mathlib.Omega.{arith}
 use lib.ListN.{length, getD}
 use lib.IntN.{ℤ, pos, natAbs, _+ℤ_}
@@ -19,6 +19,12 @@ each-of f (a ∷ l) = more (f a) (each-of f l)
 pub each-map : {A : Type 0} {P Q : A → Type 0} {l : List A} → ((a : A) → P a → Q a) → Each P l → Each Q l
 each-map f none = none
 each-map f (more p ps) = more (f _ p) (each-map f ps)
+
+-- what holds of each holds of the one at a place
+pub each-getD : {A : Type 0} {P : A → Type 0} (l : List A) (i : ℕ) (other : A) → Each P l → i < length l → P (getD l i other)
+each-getD [] i other e h = absurd (omega arith)
+each-getD (a ∷ l) zero other (more p ps) h = p
+each-getD (a ∷ l) (suc i) other (more p ps) h = each-getD l i other ps (omega arith)
 
 -- what holds at each place
 pub each-at : {A : Type 0} {P : A → Type 0} (other : A) (l : List A) → ((i : ℕ) → i < length l → P (getD l i other)) → Each P l

@@ -1,13 +1,10 @@
 -- The formulas of the model are written once, over an arithmetic that says what an amount is and what dividing one does. Two are used:
--- `cutting`, on whole grams with every division rounded down, which the code computes; and `exact`, on fractions with nothing cut off,
--- which says what the exact value of a figure is (01, Steps and cuts; demand 3).
+-- `cutting`, on whole grams with every division rounded down, which the code computes; and `exact` of crate `nearness`, on fractions with
+-- nothing cut off, which says what the exact value of a figure is (01, Steps and cuts; demand 3).
 use Prim.Native.Nat.{ℕ, _+_, _-_, _*_}
 use lib.IntN.{ℤ, pos, _-ℤ_}
 use Rattle.cut.specs.Cut.{_cutBy_, least}
-use Rattle.cut.specs.Frac as F
-use Rattle.cut.specs.Frac.{Frac}
-use Rattle.tables.specs.Growth.{kOf, growthNum, growthDen}
-use Rattle.flows.specs.Units.{billionths}
+use Rattle.tables.specs.Growth.{kOf}
 
 pub record Arithmetic : Type 1 where
   -- an amount, never below zero
@@ -41,20 +38,4 @@ cutting =
       Balance = ℤ;
       balance = pos;
       _less_ = λ b a. b -ℤ pos a;
-    }
-
-abbrev pub exact : Arithmetic
-exact =
-    record {
-      Amount = Frac;
-      whole = F.whole;
-      _⊕_ = F._⊕_;
-      _⊖_ = F._⊖_;
-      _⊗_ = F._⊗_;
-      _over_ = λ q d. F._⊗_ q (F.per 1 d);
-      _atMost_ = F._atMost_;
-      k = λ t. F.per (billionths * growthNum t) growthDen;
-      Balance = Frac;
-      balance = λ q. q;
-      _less_ = F._⊖_;
     }

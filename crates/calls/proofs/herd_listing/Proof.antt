@@ -1,0 +1,39 @@
+-- `calls::herd_listing` meets its contract: what the record's checks refuse, then what the listing's writer says.
+-- Assumes nothing.
+use Rattle.calls.proofs.CallSteps.{call-steps}
+use borrow.Author.Needs.{needs}
+use Rattle.calls.proofs.herd_listing.Statement.{statement}
+use Rattle.calls.proofs.herd_listing.Tie as tie
+
+herd-answer-requires : tie.Need-herd-answer-requires
+herd-answer-requires c κs = search needs
+
+enum-told : tie.Need-enum-told
+enum-told c = search needs
+
+write-herd-requires : tie.Need-write-herd-requires
+write-herd-requires c κs = search (needs, call-steps)
+
+enum-known-checked : tie.Need-enum-known-checked
+enum-known-checked c = search needs
+
+same-length : tie.Need-same-length
+same-length c = search needs
+
+returns : tie.Need-returns
+returns c = search (needs, call-steps)
+
+returns-2 : tie.Need-returns-2
+returns-2 c = search (needs, call-steps)
+
+pub herd-listing-spec : {M : Type 1} → statement M
+herd-listing-spec =
+    tie.close
+    (tie.spec
+    herd-answer-requires
+    enum-told
+    write-herd-requires
+    enum-known-checked
+    same-length
+    returns
+    returns-2)

@@ -1,0 +1,62 @@
+-- What a writing call says and leaves. 01: "From a record: 01's checks with record 0, then 13. From a file: what reading refuses, then 13."
+-- "A herd call asked for a herd past the last of an accepted farm has an empty listing: length 0, nothing written."
+use Prim.Native.Nat.{ℕ}
+use mathlib.Core.Path.{_≡_}
+use mathlib.Core.List.{List, []}
+use lib.ListN.{getD}
+use lib.Dec.{ltb}
+use Rattle.base.specs.Pick.{pick}
+use Rattle.farm.specs.declared.Herd.{Herd}
+use Rattle.farm.specs.declared.Farm.{Farm}
+use Rattle.farm.specs.declared.Checked.{Checked}
+use Rattle.farm.specs.declared.Checked.the-variants as checks
+use Rattle.farm.specs.Checks.{checkHerd, checkFarm}
+use Rattle.model.specs.Answers.{herdFigures, farmAnswer}
+use Rattle.reader.specs.Herds.{noHerd}
+use Rattle.reader.specs.Files.{readOf}
+use Rattle.listing.specs.declared.Written.{Written}
+use Rattle.listing.specs.declared.Written.the-variants.{Refused}
+use Rattle.listing.specs.Listing.{herdListing, totalsListing}
+use Rattle.listing.specs.Answer.{leaves, answers}
+
+-- a call: what the checks find, and the listing where they find nothing
+pub record Call : Type 0 where
+  pub checked : Checked
+  pub listing : List ℕ
+
+-- the buffer afterwards
+abbrev pub left : Checked → List ℕ → List ℕ → List ℕ
+left checks.Accepted listing old = leaves listing old
+left (checks.Refused fault at) listing old = old
+
+-- the answer
+abbrev pub said : Checked → List ℕ → List ℕ → Written
+said checks.Accepted listing old = answers listing old
+said (checks.Refused fault at) listing old = Refused fault at
+
+pub record Called (c : Call) (old new : List ℕ) (r : Written) : Type 0 where
+  pub buffer : new ≡ left (c .checked) (c .listing) old
+  pub answer : r ≡ said (c .checked) (c .listing) old
+
+-- ---- from a record
+
+abbrev pub listingOf : Herd → List ℕ
+listingOf h = herdListing (h .label) (h .kind) (herdFigures h)
+
+unfoldable pub herdCall : Herd → Call
+herdCall h = record { checked = checkHerd h; listing = listingOf h }
+
+unfoldable pub totalsCall : Farm → Call
+totalsCall f = record { checked = checkFarm f; listing = totalsListing (farmAnswer f .totals) }
+
+-- ---- from a file
+
+-- the listing of a farm's herd, counted from 0
+abbrev pub listingAt : Farm → ℕ → List ℕ
+listingAt f i = pick (ltb i (f .count)) (listingOf (getD (f .herds) i noHerd)) []
+
+unfoldable pub fileHerdCall : List ℕ → ℕ → Call
+fileHerdCall s i = record { checked = readOf s .checked; listing = listingAt (readOf s .farm) i }
+
+unfoldable pub fileTotalsCall : List ℕ → Call
+fileTotalsCall s = record { checked = readOf s .checked; listing = totalsListing (farmAnswer (readOf s .farm) .totals) }

@@ -1,0 +1,92 @@
+// What users of the library call, and nothing else. Nothing is asked of a caller beforehand: a file of any bytes and a record of any content
+// get their figures or exactly one refusal. What is promised stands in proofs/, one file a demand.
+use farm::Checked;
+use farm::Farm;
+use farm::Herd;
+use listing::Written;
+use model::FarmAnswer;
+use model::HerdAnswer;
+use model::answers;
+use reader::FileAnswer;
+use reader::files;
+ghost use mathlib.Core.Path.{_≡_};
+ghost use Rattle.model.specs.Answers.{herdAnswer, farmAnswer};
+ghost use Rattle.reader.specs.Files.{readOf};
+ghost use Rattle.calls.specs.Listings.{Called, herdCall, totalsCall, fileHerdCall, fileTotalsCall};
+
+// The farm that a file says, or the refusal and a farm of no herds.
+pub fn read_farm(s: &[u8]) -> FileAnswer
+    ensures { λ r. ⌜ r ≡ readOf (now (s .entry)) ⌝ }
+{
+    files::read(s)
+}
+
+// A herd's figures and notes, or the refusal and zeros.
+pub fn herd_figures(h: Herd) -> HerdAnswer
+    ensures { λ r. ⌜ r ≡ herdAnswer h ⌝ }
+{
+    answers::herd_answer(h)
+}
+
+// A farm's totals, or the refusal and zeros.
+pub fn farm_totals(f: Farm) -> FarmAnswer
+    ensures { λ r. ⌜ r ≡ farmAnswer f ⌝ }
+{
+    answers::farm_answer(f)
+}
+
+// A herd's listing, from its record.
+pub fn herd_listing(h: Herd, out: &mut [u8]) -> Written
+    ensures { λ r. ⌜ Called (herdCall h) (now (out .entry)) (now (out .exit)) r ⌝ }
+{
+    let kind = h.kind;
+    let answer = answers::herd_answer(h);
+    let checked = answer.checked;
+    match checked {
+        Checked::Accepted => listing::write_herd(out, h.label, kind, answer.figures),
+        Checked::Refused(fault, record) => Written::Refused(fault, record),
+    }
+}
+
+// The totals' listing, from a farm's record.
+pub fn totals_listing(f: Farm, out: &mut [u8]) -> Written
+    ensures { λ r. ⌜ Called (totalsCall f) (now (out .entry)) (now (out .exit)) r ⌝ }
+{
+    let answer = answers::farm_answer(f);
+    let checked = answer.checked;
+    match checked {
+        Checked::Accepted => listing::write_totals(out, answer.totals),
+        Checked::Refused(fault, record) => Written::Refused(fault, record),
+    }
+}
+
+// The listing of a herd of a file, counted from 0; past the last an empty one.
+pub fn file_herd_listing(s: &[u8], herd: usize, out: &mut [u8]) -> Written
+    ensures { λ r. ⌜ Called (fileHerdCall (now (s .entry)) herd) (now (out .entry)) (now (out .exit)) r ⌝ }
+{
+    let answer = files::read(s);
+    let checked = answer.checked;
+    match checked {
+        Checked::Accepted => {
+            let farm = answer.farm;
+            if herd < farm.count {
+                let h = farm.herds[herd];
+                return herd_listing(h, out);
+            }
+            Written::Length(0)
+        }
+        Checked::Refused(fault, record) => Written::Refused(fault, record),
+    }
+}
+
+// The totals' listing of a file.
+pub fn file_totals_listing(s: &[u8], out: &mut [u8]) -> Written
+    ensures { λ r. ⌜ Called (fileTotalsCall (now (s .entry))) (now (out .entry)) (now (out .exit)) r ⌝ }
+{
+    let answer = files::read(s);
+    let checked = answer.checked;
+    match checked {
+        Checked::Accepted => totals_listing(answer.farm, out),
+        Checked::Refused(fault, record) => Written::Refused(fault, record),
+    }
+}

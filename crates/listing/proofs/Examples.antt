@@ -1,0 +1,71 @@
+-- 01, The listing: the listing of its pigs, byte by byte, from the definitions; the totals of a farm of these pigs; and a line whose label
+-- has a comma and whose figure is below zero.
+-- Assumes nothing.
+use Prim.Native.Nat.{ℕ}
+use Prim.Native.String.{String}
+use mathlib.Core.Path.{_≡_, refl, ap, _∙_}
+use mathlib.Core.List.{List, [], _∷_}
+use lib.IntN.{negsuc}
+use Rattle.base.specs.Text.{bytes}
+use Rattle.decimal.specs.Writing.{width, wholeOf, thousandthsOf, sign, kilogramsOf}
+use Rattle.inputs.specs.declared.Kind.the-variants.{Pigs}
+use Rattle.farm.specs.declared.Label.{Label}
+use Rattle.farm.specs.Labels.{text}
+use Rattle.model.specs.Herd.{figuresOf}
+use Rattle.model.specs.Totals.{totalsOf}
+use Rattle.model.proofs.Edges.{outdoorPigs}
+use Rattle.listing.specs.Listing.{hasComma, labelField, lineOf, each, herdLines, herdListing, totalsListing}
+
+abbrev pub pigLines : List String
+pigLines =
+    "P1,Livestock::FatteningPigs::Excretion,n_excretion,130.000\r\n"
+    ∷ "P1,Livestock::FatteningPigs::Excretion,tan_excretion,91.000\r\n"
+    ∷ "P1,Livestock::FatteningPigs::Grazing,n_into_grazing,130.000\r\n"
+    ∷ "P1,Livestock::FatteningPigs::Grazing,tan_into_grazing,91.000\r\n"
+    ∷ "P1,Livestock::FatteningPigs::Grazing,nh3_ngrazing,18.200\r\n"
+    ∷ "P1,Livestock::FatteningPigs::Grazing,n2_ngrazing,0.000\r\n"
+    ∷ "P1,Livestock::FatteningPigs::Grazing,no_ngrazing,0.715\r\n"
+    ∷ "P1,Livestock::FatteningPigs::Grazing,n2o_ngrazing,2.600\r\n"
+    ∷ "P1,Livestock::FatteningPigs::Grazing,n_remain_grazing,108.485\r\n"
+    ∷ "P1,Livestock::FatteningPigs::Grazing,tan_remain_grazing,69.485\r\n"
+    ∷ "P1,Livestock::FatteningPigs::Housing,n_into_housing,0.000\r\n"
+    ∷ "P1,Livestock::FatteningPigs::Housing,tan_into_housing,0.000\r\n"
+    ∷ []
+
+computed : herdLines (bytes "P1") Pigs (figuresOf outdoorPigs) ≡ each bytes pigLines
+unfolding herdLines lineOf labelField hasComma kilogramsOf sign thousandthsOf wholeOf width figuresOf
+computed = refl
+
+-- 01's pigs, under any label whose bytes in use are P1
+pub pig-listing : (l : Label) → text l ≡ bytes "P1" → herdListing l Pigs (figuresOf outdoorPigs) ≡ each bytes pigLines
+pig-listing l e = ap (λ (t : List ℕ). herdLines t Pigs (figuresOf outdoorPigs)) e ∙ computed
+
+abbrev pub totalTexts : List String
+totalTexts =
+    ",Livestock,n_excretion,130.000\r\n"
+    ∷ ",Livestock,tan_excretion,91.000\r\n"
+    ∷ ",Livestock,n_into_housing,0.000\r\n"
+    ∷ ",Livestock,tan_into_housing,0.000\r\n"
+    ∷ ",Livestock,n_into_yard,0.000\r\n"
+    ∷ ",Livestock,tan_into_yard,0.000\r\n"
+    ∷ ",Livestock,n_into_grazing,130.000\r\n"
+    ∷ ",Livestock,tan_into_grazing,91.000\r\n"
+    ∷ ",Livestock,nh3_nhousing,0.000\r\n"
+    ∷ ",Livestock,nh3_nyard,0.000\r\n"
+    ∷ ",Livestock,nh3_ngrazing,18.200\r\n"
+    ∷ ",Livestock,nh3_nhousing_and_yard,0.000\r\n"
+    ∷ ",Livestock,nh3_nlivestock,18.200\r\n"
+    ∷ ",Livestock,n2_ngrazing,0.000\r\n"
+    ∷ ",Livestock,no_ngrazing,0.715\r\n"
+    ∷ ",Livestock,n2o_ngrazing,2.600\r\n"
+    ∷ ",Livestock,n_remain_grazing,108.485\r\n"
+    ∷ ",Livestock,tan_remain_grazing,69.485\r\n"
+    ∷ []
+
+pub totals-of-pigs : totalsListing (totalsOf (figuresOf outdoorPigs ∷ [])) ≡ each bytes totalTexts
+unfolding totalsListing lineOf labelField hasComma kilogramsOf sign thousandthsOf wholeOf width figuresOf totalsOf
+totals-of-pigs = refl
+
+pub comma-and-minus : lineOf (bytes "a,b") (bytes "Livestock") (bytes "tan_remain_grazing") (negsuc 5225) ≡ bytes "\"a,b\",Livestock,tan_remain_grazing,-5.226\r\n"
+unfolding lineOf labelField hasComma kilogramsOf sign thousandthsOf wholeOf width
+comma-and-minus = refl

@@ -1,0 +1,12 @@
+pub mod Signed
+pub mod Stretches
+pub mod LabelField
+pub mod Going
+pub mod Halves
+pub mod Runs
+pub mod Same
+pub mod Answers
+pub mod Examples
+pub mod WellFormed
+pub mod Promises
+pub mod Fits

@@ -1,0 +1,60 @@
+-- `listing::lines::put_value` meets its contract, by its calls, one after the other. A callee sees a signed argument as what is read back of
+-- its bits. Assumes nothing.
+use mathlib.Core.Path.{ap}
+use native.Mathlib.Omega.{arith}
+use lib.ListN.{length}
+use mir.Facts.{toZ-ofZ}
+use Rattle.base.proofs.Writes.{said, joined}
+use Rattle.decimal.specs.Writing.{kilogramsOf}
+use Rattle.listing.proofs.Halves.{value-is, value-length}
+use borrow.Author.Needs.{needs}
+use Rattle.listing.proofs.lines.put_value.Statement.{statement}
+use Rattle.listing.proofs.lines.put_value.Tie as tie
+
+put-byte-requires : tie.Need-put-byte-requires
+put-byte-requires c κs = let s = c .before .before in omega (arith, value-length (s .args .name) (s .args .grams))
+
+put-name-requires : tie.Need-put-name-requires
+put-name-requires c κs = let s = c .before .before .before .before .before .before in (search needs, omega (arith, value-length (s .args .name) (s .args .grams)))
+
+put-byte-requires-2 : tie.Need-put-byte-requires-2
+put-byte-requires-2 c κs = let s = c .before .before .before .before .before .before .before .before .before .before in omega (arith, value-length (s .args .name) (s .args .grams))
+
+put-kilograms-requires : tie.Need-put-kilograms-requires
+put-kilograms-requires c κs = let s = c .before .before .before .before .before .before .before .before .before .before .before .before .before .before in omega (arith, value-length (s .args .name) (s .args .grams), ap (λ z. length (kilogramsOf z)) (toZ-ofZ (s .fits .grams)))
+
+slice-aggregate-put : tie.Need-slice-aggregate-put
+slice-aggregate-put c = search needs
+
+put-requires : tie.Need-put-requires
+put-requires c κs = let s = c .before .before .before .before .before .before .before .before .before .before .before .before .before .before .before .before .before .before .before in omega (arith, value-length (s .args .name) (s .args .grams), ap (λ z. length (kilogramsOf z)) (toZ-ofZ (s .fits .grams)))
+
+same-length : tie.Need-same-length
+same-length c = search needs
+
+returns : tie.Need-returns
+returns c =
+    let e = c .before .before in
+    let d = e .before .before .before .before .before in
+    let n = d .before .before .before .before in
+    let b = n .before .before .before .before in
+    let a = b .before .before .before .before in
+    let s = a .before .before .before in
+    said (value-is (s .args .name) (s .args .grams))
+    (joined
+    (joined (joined (joined (a .put-byte .ensures) (b .put-name .ensures)) (n .put-byte2 .ensures))
+    (said (ap kilogramsOf (toZ-ofZ (s .fits .grams))) (d .put-kilograms .ensures)))
+    (e .put .ensures))
+
+pub put-value-spec : {M : Type 1} → statement M
+put-value-spec =
+    tie.close
+    (tie.spec
+    put-byte-requires
+    put-name-requires
+    put-byte-requires-2
+    put-kilograms-requires
+    slice-aggregate-put
+    put-requires
+    same-length
+    returns)

@@ -1,0 +1,60 @@
+-- 01, The listing, byte by byte: "RFC 4180 again, CRLF after every record: label, module, output name, kilograms with exactly three
+-- decimals, `-` in front only below zero. A label with a comma is quoted, no other field is."
+use Prim.Native.Nat.{ℕ}
+use mathlib.Core.Bool.{Bool, true, false}
+use mathlib.Core.List.{List, [], _∷_, _++_}
+use lib.IntN.{ℤ}
+use Rattle.base.specs.Pick.{pick, if_is_then_else_}
+use Rattle.base.specs.Text.{bytes}
+use Rattle.csv.specs.Grammar.{comma}
+use Rattle.decimal.specs.Writing.{kilogramsOf}
+use Rattle.inputs.specs.declared.Kind.{Kind}
+use Rattle.farm.specs.declared.Label.{Label}
+use Rattle.farm.specs.Labels.{text}
+use Rattle.model.specs.declared.Figures.{Figures}
+use Rattle.model.specs.declared.Totals.{Totals}
+use Rattle.model.specs.Names.{Name, figure}
+use Rattle.model.specs.TotalNames.{TotalName, totalFigure}
+use Rattle.listing.specs.HerdLines.{pathOf, linesOf, sectionOf, textOf}
+use Rattle.listing.specs.TotalLines.{totalPath, totalLines, totalText}
+
+unfoldable pub hasComma : List ℕ → Bool
+hasComma [] = false
+hasComma (b ∷ rest) = if b is comma then true else hasComma rest
+
+-- a label as a field
+unfoldable pub labelField : List ℕ → List ℕ
+labelField label = pick (hasComma label) (bytes "\"" ++ label ++ bytes "\"") label
+
+-- a record: label, module, output name, kilograms
+unfoldable pub lineOf : List ℕ → List ℕ → List ℕ → ℤ → List ℕ
+lineOf label path name grams =
+    labelField label ++ bytes "," ++ path ++ bytes "," ++ name ++ bytes "," ++ kilogramsOf grams ++ bytes "\r\n"
+
+-- the texts of a list's entries, one after the other
+abbrev pub each : {A : Type 0} → (A → List ℕ) → List A → List ℕ
+each f [] = []
+each f (x ∷ xs) = f x ++ each f xs
+
+-- the module that a herd's line stands under
+abbrev pub moduleOf : Kind → Name → List ℕ
+moduleOf k n = bytes (pathOf k) ++ bytes "::" ++ bytes (sectionOf n)
+
+abbrev pub herdLine : List ℕ → Kind → Figures → Name → List ℕ
+herdLine label k f n = lineOf label (moduleOf k n) (bytes (textOf n)) (figure n f)
+
+-- a herd's lines, by the bytes of its label
+unfoldable pub herdLines : List ℕ → Kind → Figures → List ℕ
+herdLines label k f = each (herdLine label k f) (linesOf k)
+
+-- a herd's listing
+abbrev pub herdListing : Label → Kind → Figures → List ℕ
+herdListing l k f = herdLines (text l) k f
+
+-- "empty label, module `Livestock`"
+abbrev pub totalLine : Totals → TotalName → List ℕ
+totalLine t n = lineOf [] (bytes totalPath) (bytes (totalText n)) (totalFigure n t)
+
+-- the totals' listing
+unfoldable pub totalsListing : Totals → List ℕ
+totalsListing t = each (totalLine t) totalLines

@@ -1,0 +1,120 @@
+-- The steps of the answers, each in the form that a place of the code wants: an accepted record's figures, and the loop that adds up the
+-- figures of an accepted farm.
+-- Assumes nothing.
+use Prim.Native.Nat.{ℕ, _+_, _*_, _≤_, _<_}
+use mathlib.Core.Path.{_≡_, sym, _∙_}
+use native.Mathlib.Omega.{arith}
+use lib.ListN.{length, getD, drop, length-take}
+use lib.Seq.{getD-take}
+use Rattle.cut.specs.Total.{addUp}
+use Rattle.cut.proofs.Totals.{each-getD}
+use Rattle.farm.specs.declared.Herd.{Herd}
+use Rattle.farm.specs.declared.Farm.{Farm}
+use Rattle.farm.specs.declared.Fault.{Fault}
+use Rattle.farm.specs.declared.Checked.{Checked}
+use Rattle.farm.specs.declared.Checked.the-variants.{Accepted, Refused}
+use Rattle.farm.specs.Checks.{checkHerd, checkFarm, herdsOf}
+use Rattle.farm.proofs.Accepts.{farm-count, farm-each}
+use Rattle.farm.proofs.Left.{taken-at, taken-end}
+use Rattle.flows.specs.declared.Inputs.{Inputs}
+use Rattle.flows.specs.Sound.{Sound}
+use Rattle.model.specs.declared.Figures.{Figures}
+use Rattle.model.specs.declared.Remarks.{Remarks}
+use Rattle.model.specs.declared.Totals.{Totals}
+use Rattle.model.specs.Typed.{typedOf}
+use Rattle.model.specs.Herd.{figuresOf}
+use Rattle.model.specs.Notes.{notesOf, noNotes}
+use Rattle.model.specs.Sums.{FiguresTo, half, plusFigures, noFigures, totalsFrom}
+use Rattle.model.specs.Totals.{totalsOf}
+use Rattle.model.specs.Answers.{Added, herdFigures, herdAnswer, farmAnswer}
+use Rattle.model.proofs.Sound.{typed-sound}
+use Rattle.model.proofs.Adding.{most, plus-to, widen, none-to, figures-to, totals-of-sum}
+
+-- ---- a herd
+
+module _ (h : Herd) (k : Checked) (q : k ≡ checkHerd h) where
+  pub accepted-sound : (i : Inputs) → k ≡ Accepted → i ≡ typedOf h → Sound i
+  accepted-sound i t e = rw e (typed-sound h (sym q ∙ t))
+
+  pub is-herd-answer : (i : Inputs) (f : Figures) (n : Remarks) → k ≡ Accepted → i ≡ typedOf h → f ≡ figuresOf i → n ≡ notesOf i
+      → record { checked = Accepted; figures = f; remarks = n } ≡ herdAnswer h
+  unfolding herdAnswer
+  is-herd-answer i f n t e ef en = rw (← q, t, ef, en, e)
+
+  pub is-herd-refusal : (fault : Fault) (at-record : ℕ) (f : Figures) (n : Remarks) → k ≡ Refused fault at-record → f ≡ noFigures → n ≡ noNotes
+      → record { checked = Refused fault at-record; figures = f; remarks = n } ≡ herdAnswer h
+  unfolding herdAnswer
+  is-herd-refusal fault at-record f n t ef en = rw (← q, t, ef, en)
+
+pub ruleset herd-answers = (accepted-sound, is-herd-answer, is-herd-refusal)
+
+-- ---- the figures of i herds were added up
+
+pub record Adding (f : Farm) (i : ℕ) (sum : Figures) : Type 0 where
+  pub room : f .count ≤ 64
+  pub within : i ≤ f .count
+  pub left : addUp plusFigures herdFigures sum (drop i (herdsOf f)) ≡ addUp plusFigures herdFigures noFigures (herdsOf f)
+  pub small : FiguresTo (i * most) sum
+
+-- the figures g of the next herd may be added, and then those of i + 1 herds were
+pub record Turned (f : Farm) (i : ℕ) (sum g : Figures) : Type 0 where
+  pub asks : FiguresTo half sum × FiguresTo half g
+  pub next : (r : Figures) → r ≡ plusFigures sum g → Adding f (i + 1) r
+
+module _ (f : Farm) (accepted : checkFarm f ≡ Accepted) where
+  pub adding-starts : (sum : Figures) → sum ≡ noFigures → Adding f 0 sum
+  adding-starts sum e = record { room = farm-count f accepted; within = omega arith; left = rw e; small = rw e (none-to 0) }
+
+  module _ (i : ℕ) (sum : Figures) (inv : Adding f i sum) where
+    pub adding-ends : f .count ≤ i → Added f sum
+    adding-ends b =
+        record {
+          is = rw (taken-end (f .count) (f .herds) i b) at (inv .left);
+          small = widen (i * most) half sum (inv .small) (omega arith);
+        }
+
+    module _ (long : length (f .herds) ≡ 64) (b : i < f .count) (d : Herd) (t : Inputs) (et : t ≡ typedOf (getD (f .herds) i d)) where
+      pub next-sound : Sound t
+      next-sound =
+          let l : i < length (herdsOf f) = omega (arith, length-take (f .count) (f .herds)) in
+          rw (et, ← getD-take (f .count) (f .herds) i d b) (typed-sound _ (each-getD (herdsOf f) i d (farm-each f accepted) l))
+
+      pub turned : (g : Figures) → g ≡ figuresOf t → Turned f i sum g
+      turned g eg =
+          let j : i < length (f .herds) = omega arith in
+          let s : FiguresTo most g = rw eg (figures-to t next-sound) in
+          record {
+            asks = (widen (i * most) half sum (inv .small) (omega arith), widen most half g s (omega arith));
+            next = λ r er. record {
+              room = inv .room;
+              within = omega arith;
+              left = rw (er, eg, et) (rw (taken-at (f .count) (f .herds) i d b j) at (inv .left));
+              small = rw er (plus-to (i * most) most ((i + 1) * most) sum g (inv .small) s (omega arith));
+            };
+          }
+
+pub ruleset adding-steps = (adding-starts, adding-ends, next-sound)
+
+-- ---- a farm
+
+module _ (f : Farm) (k : Checked) (q : k ≡ checkFarm f) where
+  pub accepted-farm : k ≡ Accepted → checkFarm f ≡ Accepted
+  accepted-farm t = sym q ∙ t
+
+  pub is-farm-answer : (sum : Figures) (t : Totals) → k ≡ Accepted → Added f sum → t ≡ totalsFrom sum
+      → record { checked = Accepted; totals = t } ≡ farmAnswer f
+  unfolding farmAnswer
+  is-farm-answer sum t e a et = rw (← q, e, et, a .is, totals-of-sum herdFigures (herdsOf f))
+
+  pub is-farm-refusal : (fault : Fault) (at-record : ℕ) (sum : Figures) (t : Totals) → k ≡ Refused fault at-record → sum ≡ noFigures → t ≡ totalsFrom sum
+      → record { checked = Refused fault at-record; totals = t } ≡ farmAnswer f
+  unfolding farmAnswer totalsOf
+  is-farm-refusal fault at-record sum t e es et = rw (← q, e, et, es)
+
+pub added-small : (f : Farm) (sum : Figures) → Added f sum → FiguresTo half sum
+added-small f sum a = a .small
+
+pub none-small : (sum : Figures) → sum ≡ noFigures → FiguresTo half sum
+none-small sum e = rw e (none-to half)
+
+pub ruleset farm-answers = (accepted-farm, is-farm-answer, is-farm-refusal, added-small, none-small)

@@ -1,0 +1,51 @@
+-- The answer is the one that the check picks; an accepted herd's inputs are sound, as its figures and notes ask.
+-- Assumes nothing.
+use borrow.Author.Needs.{needs}
+use Rattle.model.proofs.AnswerSteps.{herd-answers}
+use Rattle.model.proofs.answers.herd_answer.Statement.{statement}
+use Rattle.model.proofs.answers.herd_answer.Tie as tie
+
+check-herd-requires : tie.Need-check-herd-requires
+check-herd-requires c κs = search needs
+
+enum-told : tie.Need-enum-told
+enum-told c = search needs
+
+typed-of-requires : tie.Need-typed-of-requires
+typed-of-requires c κs = search needs
+
+figures-requires : tie.Need-figures-requires
+figures-requires c κs = search (needs, herd-answers)
+
+remarks-on-requires : tie.Need-remarks-on-requires
+remarks-on-requires c κs = search (needs, herd-answers)
+
+enum-known-fault : tie.Need-enum-known-fault
+enum-known-fault c = search needs
+
+no-figures-requires : tie.Need-no-figures-requires
+no-figures-requires c κs = search needs
+
+no-remarks-requires : tie.Need-no-remarks-requires
+no-remarks-requires c κs = search needs
+
+returns : tie.Need-returns
+returns c = search (needs, herd-answers)
+
+returns-2 : tie.Need-returns-2
+returns-2 c = search (needs, herd-answers)
+
+pub herd-answer-spec : {M : Type 1} → statement M
+herd-answer-spec =
+    tie.close
+    (tie.spec
+    check-herd-requires
+    enum-told
+    typed-of-requires
+    figures-requires
+    remarks-on-requires
+    enum-known-fault
+    no-figures-requires
+    no-remarks-requires
+    returns
+    returns-2)

@@ -1,0 +1,39 @@
+-- `model::herd::pigs_figures` meets its contract, section by section.
+-- Assumes nothing.
+use Rattle.model.proofs.Herds.{herd-steps}
+use borrow.Author.Needs.{needs}
+use Rattle.model.proofs.herd.pigs_figures.Statement.{statement}
+use Rattle.model.proofs.herd.pigs_figures.Tie as tie
+
+excretion-requires : tie.Need-excretion-requires
+excretion-requires c κs = search (needs, herd-steps)
+
+pig-grazing-requires : tie.Need-pig-grazing-requires
+pig-grazing-requires c κs = search (needs, herd-steps)
+
+sub-n : tie.Need-sub-n
+sub-n c = search (needs, herd-steps)
+
+sub-tan : tie.Need-sub-tan
+sub-tan c = search (needs, herd-steps)
+
+no-yard-requires : tie.Need-no-yard-requires
+no-yard-requires c κs = search needs
+
+through-door-requires : tie.Need-through-door-requires
+through-door-requires c κs = search needs
+
+returns : tie.Need-returns
+returns c = search (needs, herd-steps)
+
+pub pigs-figures-spec : {M : Type 1} → statement M
+pigs-figures-spec =
+    tie.close
+    (tie.spec
+    excretion-requires
+    pig-grazing-requires
+    sub-n
+    sub-tan
+    no-yard-requires
+    through-door-requires
+    returns)

@@ -1,0 +1,47 @@
+-- `model::herd::roughage_figures` meets its contract, section by section.
+-- Assumes nothing.
+use Rattle.model.proofs.Herds.{herd-steps}
+use borrow.Author.Needs.{needs}
+use Rattle.model.proofs.herd.roughage_figures.Statement.{statement}
+use Rattle.model.proofs.herd.roughage_figures.Tie as tie
+
+n-excretion-animal-requires : tie.Need-n-excretion-animal-requires
+n-excretion-animal-requires c κs = search needs
+
+tan-fraction-requires : tie.Need-tan-fraction-requires
+tan-fraction-requires c κs = search needs
+
+excretion-requires : tie.Need-excretion-requires
+excretion-requires c κs = search (needs, herd-steps)
+
+roughage-grazing-requires : tie.Need-roughage-grazing-requires
+roughage-grazing-requires c κs = search (needs, herd-steps)
+
+sub-n : tie.Need-sub-n
+sub-n c = search (needs, herd-steps)
+
+sub-tan : tie.Need-sub-tan
+sub-tan c = search (needs, herd-steps)
+
+no-yard-requires : tie.Need-no-yard-requires
+no-yard-requires c κs = search needs
+
+in-housing-requires : tie.Need-in-housing-requires
+in-housing-requires c κs = search (needs, herd-steps)
+
+returns : tie.Need-returns
+returns c = search (needs, herd-steps)
+
+pub roughage-figures-spec : {M : Type 1} → statement M
+roughage-figures-spec =
+    tie.close
+    (tie.spec
+    n-excretion-animal-requires
+    tan-fraction-requires
+    excretion-requires
+    roughage-grazing-requires
+    sub-n
+    sub-tan
+    no-yard-requires
+    in-housing-requires
+    returns)

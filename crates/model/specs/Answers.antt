@@ -1,0 +1,40 @@
+-- What a record that is handed in gives: the figures, or 01's refusal and zeros beside it.
+use mathlib.Core.Path.{_≡_}
+use mathlib.Core.List.{List, [], map}
+use Rattle.cut.specs.Total.{addUp}
+use Rattle.farm.specs.declared.Herd.{Herd}
+use Rattle.farm.specs.declared.Farm.{Farm}
+use Rattle.farm.specs.declared.Checked.{Checked}
+use Rattle.farm.specs.declared.Checked.the-variants.{Accepted, Refused}
+use Rattle.farm.specs.Checks.{checkHerd, checkFarm, herdsOf}
+use Rattle.model.specs.declared.Figures.{Figures}
+use Rattle.model.specs.declared.HerdAnswer.{HerdAnswer}
+use Rattle.model.specs.declared.FarmAnswer.{FarmAnswer}
+use Rattle.model.specs.Typed.{typedOf}
+use Rattle.model.specs.Herd.{figuresOf}
+use Rattle.model.specs.Notes.{notesOf, noNotes}
+use Rattle.model.specs.Sums.{plusFigures, noFigures, FiguresTo, half}
+use Rattle.model.specs.Totals.{totalsOf}
+
+-- the figures of a herd's record
+abbrev pub herdFigures : Herd → Figures
+herdFigures h = figuresOf (typedOf h)
+
+abbrev pub answerHerd : Checked → Herd → HerdAnswer
+answerHerd Accepted h = record { checked = Accepted; figures = herdFigures h; remarks = notesOf (typedOf h) }
+answerHerd (Refused fault at) h = record { checked = Refused fault at; figures = noFigures; remarks = noNotes }
+
+unfoldable pub herdAnswer : Herd → HerdAnswer
+herdAnswer h = answerHerd (checkHerd h) h
+
+abbrev pub answerFarm : Checked → Farm → FarmAnswer
+answerFarm Accepted f = record { checked = Accepted; totals = totalsOf (map herdFigures (herdsOf f)) }
+answerFarm (Refused fault at) f = record { checked = Refused fault at; totals = totalsOf [] }
+
+unfoldable pub farmAnswer : Farm → FarmAnswer
+farmAnswer f = answerFarm (checkFarm f) f
+
+-- the sum of all herds' figures, and that it stays small
+pub record Added (f : Farm) (r : Figures) : Type 0 where
+  pub is : r ≡ addUp plusFigures herdFigures noFigures (herdsOf f)
+  pub small : FiguresTo half r

@@ -1,0 +1,103 @@
+-- A herd's figures, kind by kind: excretion, yard, pasture, and what remains for the housing. Once over any arithmetic, and then on
+-- whole grams, in the structs of the code.
+use Rattle.flows.specs.declared.Roughage.{Roughage}
+use Rattle.flows.specs.declared.Cattle.{Cattle}
+use Rattle.flows.specs.declared.Pigs.{Pigs}
+use Rattle.flows.specs.declared.HousingType.{HousingType}
+use Rattle.flows.specs.declared.Inputs.{Inputs}
+use Rattle.flows.specs.declared.Inputs.the-variants as kinds
+use Rattle.flows.specs.Arithmetic.{Arithmetic, cutting}
+use Rattle.flows.specs.Excretion.{ExcretionIn, excreted, «n_excretion_animal», tanFraction, excretionInGrams}
+use Rattle.flows.specs.Yard.{YardIn, onYard, noYard, yardInGrams}
+use Rattle.flows.specs.Grazing.{GrazingIn, cattleGrazing, roughageGrazing, pigGrazing, grazingInGrams}
+use Rattle.flows.specs.Housing.{HousingIn, inHousing, throughDoor, housingInGrams}
+use Rattle.model.specs.declared.Figures.{Figures}
+
+-- the four parts of the listing, with a field for each output name
+pub record FiguresIn (A : Arithmetic) : Type 0 where
+  pub excretion : ExcretionIn A
+  pub yard : YardIn A
+  pub grazing : GrazingIn A
+  pub housing : HousingIn A
+
+module _ (A : Arithmetic) where
+  open Arithmetic A using (_⊖_)
+
+  infixl 6 _⊖_
+  -- 2.84 to 2.88
+  abbrev pub roughageFrom : Roughage → ExcretionIn A → GrazingIn A → FiguresIn A
+  roughageFrom r e g =
+      record {
+        excretion = e;
+        yard = noYard A;
+        grazing = g;
+        housing = inHousing A r (e .«n_excretion» ⊖ g .«n_into_grazing») (e .«tan_excretion» ⊖ g .«tan_into_grazing»);
+      }
+
+  abbrev pub roughageOn : Roughage → ExcretionIn A → FiguresIn A
+  roughageOn r e =
+      roughageFrom r e (roughageGrazing A r (e .«n_excretion») (e .«tan_excretion»))
+
+  abbrev pub ofRoughage : Roughage → FiguresIn A
+  ofRoughage r =
+      roughageOn r
+      (excreted A (r .animals) («n_excretion_animal» (r .animalcategory) (r .«inp_n_excretion»)) (tanFraction (r .«tan_fraction»)))
+
+  -- 2.22, 2.33 to 2.35
+  abbrev pub cattleFrom : ExcretionIn A → YardIn A → GrazingIn A → FiguresIn A
+  cattleFrom e y g =
+      record {
+        excretion = e;
+        yard = y;
+        grazing = g;
+        housing =
+            throughDoor A
+            (e .«n_excretion» ⊖ y .«n_into_yard» ⊖ g .«n_into_grazing»)
+            (e .«tan_excretion» ⊖ y .«tan_into_yard» ⊖ g .«tan_into_grazing»);
+      }
+
+  abbrev pub cattleOn : Cattle → ExcretionIn A → FiguresIn A
+  cattleOn c e =
+      cattleFrom e
+      (onYard A c (e .«n_excretion») (e .«tan_excretion»))
+      (cattleGrazing A c (e .«n_excretion») (e .«tan_excretion»))
+
+  abbrev pub ofCattle : Cattle → FiguresIn A
+  ofCattle c = cattleOn c (excreted A (c .animals) (c .«inp_n_excretion») (c .«tan_fraction»))
+
+  -- 2.50, 2.61
+  abbrev pub pigsFrom : ExcretionIn A → GrazingIn A → FiguresIn A
+  pigsFrom e g =
+      record {
+        excretion = e;
+        yard = noYard A;
+        grazing = g;
+        housing = throughDoor A (e .«n_excretion» ⊖ g .«n_into_grazing») (e .«tan_excretion» ⊖ g .«tan_into_grazing»);
+      }
+
+  abbrev pub pigsOn : HousingType → ExcretionIn A → FiguresIn A
+  pigsOn t e =
+      pigsFrom e (pigGrazing A t (e .«n_excretion») (e .«tan_excretion»))
+
+  abbrev pub ofPigs : Pigs → FiguresIn A
+  ofPigs p = pigsOn (p .«housing_type») (excreted A (p .animals) (p .«inp_n_excretion») (p .«tan_fraction»))
+
+  abbrev pub figuresIn : Inputs → FiguresIn A
+  figuresIn (kinds.Roughage r) = ofRoughage r
+  figuresIn (kinds.Cattle c) = ofCattle c
+  figuresIn (kinds.Pigs p) = ofPigs p
+
+-- ---- on whole grams, in the structs of the code
+
+abbrev pub figuresInGrams : FiguresIn cutting → Figures
+figuresInGrams f =
+    record {
+      excretion = excretionInGrams (f .excretion);
+      yard = yardInGrams (f .yard);
+      grazing = grazingInGrams (f .grazing);
+      housing = housingInGrams (f .housing);
+    }
+
+-- a herd's figures
+unfoldable pub figuresOf : Inputs → Figures
+figuresOf i = figuresInGrams (figuresIn cutting i)

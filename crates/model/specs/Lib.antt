@@ -1,0 +1,9 @@
+pub mod Typed
+pub mod Herd
+pub mod Notes
+pub mod Sums
+pub mod Totals
+pub mod Names
+pub mod TotalNames
+pub mod Answers
+pub mod Kept

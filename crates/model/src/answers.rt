@@ -1,0 +1,67 @@
+// A record's figures, or its refusal. Nothing is asked of the record beforehand.
+use crate::FarmAnswer;
+use crate::Figures;
+use crate::HerdAnswer;
+use crate::herd;
+use crate::notes;
+use crate::sums;
+use crate::typed;
+use farm::Checked;
+use farm::Farm;
+use farm::Herd;
+use farm::checks;
+ghost use mathlib.Core.Path.{_≡_};
+ghost use Rattle.farm.specs.declared.Checked.the-variants.{Accepted};
+ghost use Rattle.farm.specs.Checks.{checkFarm};
+ghost use Rattle.model.specs.Answers.{Added, herdAnswer, farmAnswer};
+
+pub fn herd_answer(h: Herd) -> HerdAnswer
+    ensures { λ r. ⌜ r ≡ herdAnswer h ⌝ }
+{
+    match checks::check_herd(h) {
+        Checked::Accepted => {
+            let inputs = typed::typed_of(h);
+            HerdAnswer {
+                checked: Checked::Accepted,
+                figures: herd::figures(inputs),
+                remarks: notes::remarks_on(inputs),
+            }
+        }
+        Checked::Refused(fault, record) => HerdAnswer {
+            checked: Checked::Refused(fault, record),
+            figures: sums::no_figures(),
+            remarks: notes::no_remarks(),
+        },
+    }
+}
+
+// The figures of all herds of an accepted farm, added up.
+pub fn sum_of(farm: Farm) -> Figures
+    requires { ⌜ checkFarm farm ≡ Accepted ⌝ }
+    ensures { λ r. ⌜ Added farm r ⌝ }
+{
+    let count = farm.count;
+    let mut sum = sums::no_figures();
+    let mut i = 0;
+    while i < count {
+        let h = farm.herds[i];
+        sum = sums::plus_figures(sum, herd::figures(typed::typed_of(h)));
+        i += 1;
+    }
+    sum
+}
+
+pub fn farm_answer(farm: Farm) -> FarmAnswer
+    ensures { λ r. ⌜ r ≡ farmAnswer farm ⌝ }
+{
+    match checks::check_farm(farm) {
+        Checked::Accepted => FarmAnswer {
+            checked: Checked::Accepted,
+            totals: sums::totals_from(sum_of(farm)),
+        },
+        Checked::Refused(fault, record) => FarmAnswer {
+            checked: Checked::Refused(fault, record),
+            totals: sums::totals_from(sums::no_figures()),
+        },
+    }
+}

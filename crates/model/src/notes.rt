@@ -1,0 +1,106 @@
+// What an adviser is told beside the figures.
+use crate::Remarks;
+use flows::Cattle;
+use flows::Entered;
+use flows::Inputs;
+use flows::Roughage;
+use flows::yards;
+ghost use mathlib.Core.Path.{_≡_};
+ghost use Rattle.flows.specs.Sound.{EnteredTo, SoundRoughage, SoundCattle, Sound, mostGrams};
+ghost use Rattle.flows.specs.Units.{tenThousandths};
+ghost use Rattle.model.specs.Notes.{offStandard, offShare, lowered, roughageNotes, cattleNotes, noNotes, notesOf};
+
+// Below 0.7 or above 1.3 of the standard, in tenths; off the share by more than 0.2, in ten-thousandths.
+const TENTHS: u64 = 10;
+
+const LOW: u64 = 7;
+
+const HIGH: u64 = 13;
+
+const OFF: u64 = 2000;
+
+fn n_off_standard(category: u64, entered: Entered) -> bool
+    requires { ⌜ EnteredTo mostGrams entered ⌝ }
+    ensures { λ r. ⌜ r ≡ offStandard category entered ⌝ }
+{
+    let Entered::Number(grams) = entered else {
+        return false;
+    };
+    let standard = tables::standard(category);
+    if TENTHS * grams < LOW * standard {
+        return true;
+    }
+    HIGH * standard < TENTHS * grams
+}
+
+fn tan_off_standard(entered: Entered) -> bool
+    requires { ⌜ EnteredTo tenThousandths entered ⌝ }
+    ensures { λ r. ⌜ r ≡ offShare entered ⌝ }
+{
+    let Entered::Number(fraction) = entered else {
+        return false;
+    };
+    if fraction + OFF < tables::SHARE_NSOL {
+        return true;
+    }
+    tables::SHARE_NSOL + OFF < fraction
+}
+
+fn share_lowered(c: Cattle) -> bool
+    requires { ⌜ SoundCattle c ⌝ }
+    ensures { λ r. ⌜ r ≡ lowered c ⌝ }
+{
+    let yard = c.exercise_yard;
+    if yards::days_with_grazing_and_yard(c.grazing_days, c.yard_days) == 0 {
+        return false;
+    }
+    yards::SHARE_PARTLY < yards::share_excretion(yard)
+}
+
+fn roughage_remarks(r: Roughage) -> Remarks
+    requires { ⌜ SoundRoughage r ⌝ }
+    ensures { λ n. ⌜ n ≡ roughageNotes r ⌝ }
+{
+    let entered_n = r.inp_n_excretion;
+    let entered_tan = r.tan_fraction;
+    Remarks {
+        n_off_standard: n_off_standard(r.animalcategory, entered_n),
+        tan_off_standard: tan_off_standard(entered_tan),
+        free_factor: r.free_correction_factor != 0,
+        share_lowered: false,
+    }
+}
+
+fn cattle_remarks(c: Cattle) -> Remarks
+    requires { ⌜ SoundCattle c ⌝ }
+    ensures { λ n. ⌜ n ≡ cattleNotes c ⌝ }
+{
+    Remarks {
+        n_off_standard: false,
+        tan_off_standard: false,
+        free_factor: c.free_correction_factor != 0,
+        share_lowered: share_lowered(c),
+    }
+}
+
+pub fn no_remarks() -> Remarks
+    ensures { λ n. ⌜ n ≡ noNotes ⌝ }
+{
+    Remarks {
+        n_off_standard: false,
+        tan_off_standard: false,
+        free_factor: false,
+        share_lowered: false,
+    }
+}
+
+pub fn remarks_on(inputs: Inputs) -> Remarks
+    requires { ⌜ Sound inputs ⌝ }
+    ensures { λ n. ⌜ n ≡ notesOf inputs ⌝ }
+{
+    match inputs {
+        Inputs::Roughage(r) => roughage_remarks(r),
+        Inputs::Cattle(c) => cattle_remarks(c),
+        Inputs::Pigs(_) => no_remarks(),
+    }
+}

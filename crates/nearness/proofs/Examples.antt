@@ -1,0 +1,199 @@
+-- That the theorems on nearness say something: a number that is not near, a figure below zero, the largest herds, a herd that shows that
+-- half of the promise would be broken, and wrong formulas whose values no figure of ours is near. Assumes nothing.
+use mathlib.Core.Path.{_≡_, refl}
+use mathlib.Core.List.{List, [], _∷_, map}
+use Prim.Native.Nat.{ℕ, _*_, _<_}
+use native.Mathlib.Omega.{arith}
+use lib.Dec.{T, leb, le→leb, lit<, lit≤}
+use lib.IntN.{ℤ, pos, negsuc, _-ℤ_, _*ℤ_, natAbs}
+use Rattle.cut.specs.Cut.{_cutBy_}
+use Rattle.cut.specs.Frac as F
+use Rattle.cut.specs.Frac.{Frac, whole, per, _⊗_, Within}
+use Rattle.cut.specs.Total.{Each, none, more}
+use Rattle.cut.proofs.Signed.{dn}
+use Rattle.cut.proofs.Totals.{each-map}
+use Rattle.tables.specs.Standards.{_kg}
+use Rattle.tables.specs.Growth.{expNum, expDen, growthNum, growthDen, kOf, withinDay, kAt, nearest}
+use Rattle.flows.specs.declared.Entered.the-variants.{Number}
+use Rattle.flows.specs.declared.ExerciseYard.the-variants.{Partly, Exclusively}
+use Rattle.flows.specs.declared.Floor.the-variants.{Solid}
+use Rattle.flows.specs.declared.HousingType.the-variants.{Outdoor}
+use Rattle.flows.specs.declared.Inputs.{Inputs}
+use Rattle.flows.specs.declared.Inputs.the-variants.{Roughage, Cattle, Pigs}
+use Rattle.flows.specs.Units.{billionths}
+use Rattle.flows.specs.Arithmetic.{Arithmetic}
+use Rattle.flows.specs.Part.{part}
+use Rattle.flows.specs.Yard.{«days_with_grazing_and_yard», «share_excretion_with_grazing», yardTime}
+use Rattle.flows.specs.Grazing.{pastureTime, grazingTime, gas}
+use Rattle.flows.specs.Sound.{Sound, roughage, cattle, pigs, number}
+use Rattle.model.specs.Herd.{figuresIn, figuresOf}
+use Rattle.model.specs.Names.{Name, figure, «tan_into_grazing», «nh3_ngrazing», «tan_remain_grazing», «nh3_nhousing», «n_outhousing»}
+use Rattle.model.specs.TotalNames.{TotalName, totalFigure}
+use Rattle.model.specs.Totals.{totalsOf}
+use Rattle.model.proofs.Edges.{C, row4}
+use Rattle.nearness.specs.Errors.{promised}
+use Rattle.nearness.proofs.Herd.{within-herd}
+use Rattle.nearness.proofs.Farm.{within-farm}
+use Rattle.nearness.specs.Exact.{exact, exactOf, exactFigure, exactOfTotal}
+
+-- what is off by more than e is not within e: the test computes
+off : (e : ℕ) (x : ℤ) (q : Frac) → Within e x q → T (leb (natAbs (x *ℤ pos (q .den) -ℤ q .num)) (e * q .den))
+off e x q h = le→leb (natAbs (x *ℤ pos (q .den) -ℤ q .num)) (e * q .den) (h .near)
+
+-- ---- eleven grams are too many
+
+pub eleven-grams : Within promised (pos 0) (whole 11) → ⊥
+eleven-grams = off promised (pos 0) (whole 11)
+
+-- ---- below zero: 01's row 4, whose TAN remaining is -5226 grams, and exactly -5226.8
+
+pub row4-figure : figure «tan_remain_grazing» (figuresOf row4) ≡ negsuc 5225
+unfolding figuresOf yardTime pastureTime «days_with_grazing_and_yard» «share_excretion_with_grazing»
+row4-figure = refl
+
+pub row4-below-zero : 0 < dn (exactFigure «tan_remain_grazing» (exactOf row4) .num)
+unfolding exactOf yardTime pastureTime «days_with_grazing_and_yard» «share_excretion_with_grazing»
+row4-below-zero = lit< tt
+
+pub row4-exact : exactFigure «tan_remain_grazing» (exactOf row4) .num *ℤ pos 10
+    ≡ negsuc 52267 *ℤ pos (exactFigure «tan_remain_grazing» (exactOf row4) .den)
+unfolding exactOf yardTime pastureTime «days_with_grazing_and_yard» «share_excretion_with_grazing»
+row4-exact = refl
+
+pub row4-within : Within promised (figure «tan_remain_grazing» (figuresOf row4)) (exactFigure «tan_remain_grazing» (exactOf row4))
+row4-within = within-herd row4 (cattle (omega arith)) «tan_remain_grazing»
+
+-- ---- the largest herd of each kind, 10,000 head, 200 kg, TAN 100 percent, and a farm of the three
+
+-- a roughage herd: head, grams a head, TAN in ten-thousandths, free factor, grazing days, hours in tenths
+abbrev roughageHerd : ℕ → ℕ → ℕ → ℕ → ℕ → ℕ → Inputs
+roughageHerd head grams tan free days hours =
+    Roughage (record {
+      animalcategory = 2;
+      animals = head;
+      «inp_n_excretion» = Number grams;
+      «tan_fraction» = Number tan;
+      «free_correction_factor» = free;
+      «grazing_days» = days;
+      «grazing_hours» = hours;
+    })
+
+abbrev largestRoughage : Inputs
+largestRoughage = roughageHerd 10000 (200 kg) 10000 0 200 120
+
+abbrev largestCattle : Inputs
+largestCattle =
+    Cattle (record {
+      animals = 10000;
+      «inp_n_excretion» = 200 kg;
+      «tan_fraction» = 10000;
+      «yard_days» = 365;
+      «exercise_yard» = Exclusively;
+      «floor_properties_exercise_yard» = Solid;
+      «free_correction_factor» = 0;
+      «grazing_days» = 200;
+      «grazing_hours» = 235;
+    })
+
+abbrev largestPigs : Inputs
+largestPigs = Pigs (record { animals = 10000; «inp_n_excretion» = 200 kg; «tan_fraction» = 10000; «housing_type» = Outdoor })
+
+abbrev largest : List Inputs
+largest = largestRoughage ∷ largestCattle ∷ largestPigs ∷ []
+
+roughage-sound : Sound largestRoughage
+roughage-sound =
+    roughage (record { animals = lit≤ tt; grams = number (lit≤ tt); fraction = number (lit≤ tt); free = lit≤ tt; days = lit≤ tt; hours = lit≤ tt })
+
+cattle-sound : Sound largestCattle
+cattle-sound =
+    cattle (record { animals = lit≤ tt; grams = lit≤ tt; fraction = lit≤ tt; yard = lit≤ tt; free = lit≤ tt; days = lit≤ tt; hours = lit≤ tt })
+
+pigs-sound : Sound largestPigs
+pigs-sound = pigs (record { animals = lit≤ tt; grams = lit≤ tt; fraction = lit≤ tt })
+
+pub largest-sound : Each Sound largest
+largest-sound = more roughage-sound (more cattle-sound (more pigs-sound none))
+
+pub largest-herds : Each (λ i. (n : Name) → Within promised (figure n (figuresOf i)) (exactFigure n (exactOf i))) largest
+largest-herds = each-map within-herd largest-sound
+
+pub largest-farm : (t : TotalName) → Within (3 * promised) (totalFigure t (totalsOf (map figuresOf largest))) (exactOfTotal t (map exactOf largest))
+largest-farm = within-farm largest largest-sound
+
+-- ---- half of the promise would be broken: this herd's housing NH3 is more than 4 grams off, and what leaves its housing more than 5
+
+abbrev farOff : Inputs
+farOff = roughageHerd 9915 199320 9991 5 66 22
+
+pub far-off-sound : Sound farOff
+far-off-sound =
+    roughage (record { animals = lit≤ tt; grams = number (lit≤ tt); fraction = number (lit≤ tt); free = lit≤ tt; days = lit≤ tt; hours = lit≤ tt })
+
+pub four-grams-broken : Within 4 (figure «nh3_nhousing» (figuresOf farOff)) (exactFigure «nh3_nhousing» (exactOf farOff)) → ⊥
+unfolding figuresOf exactOf grazingTime kOf withinDay kAt nearest growthNum growthDen expNum expDen
+four-grams-broken = off 4 (figure «nh3_nhousing» (figuresOf farOff)) (exactFigure «nh3_nhousing» (exactOf farOff))
+
+pub five-grams-broken : Within 5 (figure «n_outhousing» (figuresOf farOff)) (exactFigure «n_outhousing» (exactOf farOff)) → ⊥
+unfolding figuresOf exactOf grazingTime kOf withinDay kAt nearest growthNum growthDen expNum expDen
+five-grams-broken = off 5 (figure «n_outhousing» (figuresOf farOff)) (exactFigure «n_outhousing» (exactOf farOff))
+
+-- ---- wrong formulas, which our figures are not near
+
+-- exactly, but with another k
+abbrev exactWith : (ℕ → Frac) → Arithmetic
+exactWith k =
+    record {
+      Amount = Frac;
+      whole = F.whole;
+      _⊕_ = F._⊕_;
+      _⊖_ = F._⊖_;
+      _⊗_ = F._⊗_;
+      _over_ = λ q d. F._⊗_ q (F.per 1 d);
+      _atMost_ = F._atMost_;
+      k = k;
+      Balance = Frac;
+      balance = λ q. q;
+      _less_ = F._⊖_;
+    }
+
+pub exact-is : exactWith (exact .k) ≡ exact
+exact-is = refl
+
+-- housing NH3 of the largest roughage herd: ours, and exactly with another k
+abbrev ours : ℤ
+ours = figure «nh3_nhousing» (figuresOf largestRoughage)
+
+abbrev nh3With : (ℕ → Frac) → Frac
+nh3With k = figuresIn (exactWith k) largestRoughage .housing .«nh3_nhousing»
+
+-- k times the 0.9989 that 2.87 prints and does not use
+abbrev withCoefficient : ℕ → Frac
+withCoefficient t = per 9989 10000 ⊗ exact .k t
+
+pub with-coefficient : Within promised ours (nh3With withCoefficient) → ⊥
+unfolding figuresOf grazingTime kOf withinDay kAt nearest growthNum growthDen expNum expDen
+with-coefficient = off promised ours (nh3With withCoefficient)
+
+-- the series only up to term 5
+abbrev toTerm5 : ℕ → Frac
+toTerm5 t = per (billionths * expNum (403 * t) 100000 5) (expDen 100000 5)
+
+pub with-fewer-terms : Within promised ours (nh3With toTerm5) → ⊥
+unfolding figuresOf grazingTime kOf withinDay kAt nearest growthNum growthDen expNum expDen
+with-fewer-terms = off promised ours (nh3With toTerm5)
+
+-- NH3 of row 1's pasture at 0.084 instead of 0.083
+abbrev row1 : Inputs
+row1 = C Partly 200
+
+abbrev atOtherRate : Frac
+atOtherRate = gas exact (exactFigure «tan_into_grazing» (exactOf row1)) 840
+
+pub with-other-rate : Within promised (figure «nh3_ngrazing» (figuresOf row1)) atOtherRate → ⊥
+unfolding figuresOf exactOf yardTime pastureTime «days_with_grazing_and_yard» «share_excretion_with_grazing»
+with-other-rate = off promised (figure «nh3_ngrazing» (figuresOf row1)) atOtherRate
+
+-- a cut before the multiplication: 400 of 3650 parts of a ton
+pub cut-first : Within promised (pos ((1000000 cutBy 3650) * 400)) (part exact (whole 1000000) 400 3650) → ⊥
+cut-first = off promised (pos ((1000000 cutBy 3650) * 400)) (part exact (whole 1000000) 400 3650)

@@ -1,0 +1,11 @@
+pub mod Laws
+pub mod Excretion
+pub mod Pasture
+pub mod Housing
+pub mod Roughage
+pub mod Cattle
+pub mod Pigs
+pub mod Table
+pub mod Herd
+pub mod Farm
+pub mod Examples

@@ -1,0 +1,93 @@
+-- Other roughage-consuming animals: each figure is as near its exact value as the table says. Assumes nothing.
+use Prim.Native.Nat.{ℕ, _+_, _-_, _*_, _≤_, zero-le}
+use native.Mathlib.Nat.{le-trans}
+use lib.Dec.{lit<}
+use lib.IntN.{pos}
+use Rattle.cut.specs.Frac.{Frac, _⊖_}
+use Rattle.cut.proofs.Near.{Near, near-whole, near-rest}
+use Rattle.cut.proofs.Shares.{part-le}
+use Rattle.flows.specs.declared.Roughage.{Roughage}
+use Rattle.flows.specs.Units.{billionths, year, day}
+use Rattle.flows.specs.Arithmetic.{cutting}
+use Rattle.flows.specs.Part.{Modest}
+use Rattle.flows.specs.Excretion.{ExcretionIn}
+use Rattle.flows.specs.Grazing.{roughageRates, grazingTime, roughageIntoGrazing}
+use Rattle.flows.specs.Housing.{«ef_nh3_nhousing», nh3InHousing}
+use Rattle.flows.specs.Sound.{SoundRoughage}
+use Rattle.flows.proofs.Times.{grazing-time-le}
+use Rattle.flows.proofs.InHousing.{factor-le}
+use Rattle.flows.proofs.Into.{roughage-into-le, roughage-pasture-modest, roughage-housing-modest, roughage-rates-modest}
+use Rattle.model.specs.Herd.{roughageOn, figuresInGrams}
+use Rattle.model.specs.Names.{Name, figure, «n_excretion», «tan_excretion», «n_into_yard», «tan_into_yard», «nh3_nyard», «n_outyard_liquid», «tan_outyard_liquid», «n_into_grazing», «tan_into_grazing», «nh3_ngrazing», «n2_ngrazing», «no_ngrazing», «n2o_ngrazing», «n_remain_grazing», «tan_remain_grazing», «n_into_housing», «tan_into_housing», «nh3_nhousing», «n_outhousing», «tan_outhousing»}
+use Rattle.nearness.specs.Errors.{roughageErrors}
+use Rattle.nearness.proofs.Laws.{NearBy, near-share}
+use Rattle.nearness.proofs.Excretion.{NearExcretion}
+use Rattle.nearness.proofs.Pasture.{near-nh3, near-n2, near-no, near-n2o, near-n-remain, near-tan-remain}
+use Rattle.nearness.proofs.Housing.{near-nh3-in-housing}
+use Rattle.nearness.specs.Exact.{exact, exactFigure}
+
+-- ---- where an amount goes, N as TAN
+
+-- into the housing goes what remains
+abbrev inside : Roughage → ℕ → ℕ
+inside r x = x - roughageIntoGrazing cutting r x
+
+abbrev exactInside : Roughage → Frac → Frac
+exactInside r q = q ⊖ roughageIntoGrazing exact r q
+
+module _ (r : Roughage) (s : SoundRoughage r) {lo hi x : ℕ} {q : Frac} (near : Near lo hi (pos x) q) where
+  onto-pasture : Near (lo + 1000000) hi (pos (roughageIntoGrazing cutting r x)) (roughageIntoGrazing exact r q)
+  onto-pasture = near-share (grazingTime r) (day * year) (lit< tt) (grazing-time-le r s) near
+
+  through-door : Near (lo + hi) (hi + (lo + 1000000)) (pos (inside r x)) (exactInside r q)
+  through-door = near-rest (roughage-into-le r s x) near onto-pasture
+
+-- ---- the figures
+
+module _ (r : Roughage) (s : SoundRoughage r) (e : ExcretionIn cutting) (e′ : ExcretionIn exact) (near : NearExcretion e e′) where
+  n-on : Near 1000000 0 (pos (roughageIntoGrazing cutting r (e .«n_excretion»))) (roughageIntoGrazing exact r (e′ .«n_excretion»))
+  n-on = onto-pasture r s (near .n-near)
+
+  tan-on : Near 2000000 0 (pos (roughageIntoGrazing cutting r (e .«tan_excretion»))) (roughageIntoGrazing exact r (e′ .«tan_excretion»))
+  tan-on = onto-pasture r s (near .tan-near)
+
+  pasture : Modest (roughageIntoGrazing cutting r (e .«n_excretion»)) (roughageIntoGrazing cutting r (e .«tan_excretion»))
+  pasture = roughage-pasture-modest r s _ _ (near .modest)
+
+  n-inside : Near 0 1000000 (pos (inside r (e .«n_excretion»))) (exactInside r (e′ .«n_excretion»))
+  n-inside = through-door r s (near .n-near)
+
+  tan-inside : Near 1000000 2000000 (pos (inside r (e .«tan_excretion»))) (exactInside r (e′ .«tan_excretion»))
+  tan-inside = through-door r s (near .tan-near)
+
+  housing : Modest (inside r (e .«n_excretion»)) (inside r (e .«tan_excretion»))
+  housing = roughage-housing-modest r s _ _ (near .modest)
+
+  nh3 : NearBy (roughageErrors «nh3_nhousing»)
+      (pos (nh3InHousing cutting r (inside r (e .«tan_excretion»)))) (nh3InHousing exact r (exactInside r (e′ .«tan_excretion»)))
+  nh3 = near-nh3-in-housing r s (le-trans (housing .tan-most) (housing .n-most)) tan-inside
+
+  nh3-most : nh3InHousing cutting r (inside r (e .«tan_excretion»)) ≤ inside r (e .«tan_excretion»)
+  nh3-most = part-le (inside r (e .«tan_excretion»)) («ef_nh3_nhousing» cutting r) billionths (factor-le r)
+
+  pub near-roughage : (n : Name) → NearBy (roughageErrors n) (figure n (figuresInGrams (roughageOn cutting r e))) (exactFigure n (roughageOn exact r e′))
+  near-roughage «n_excretion» = near .n-near
+  near-roughage «tan_excretion» = near .tan-near
+  near-roughage «n_into_yard» = near-whole 0
+  near-roughage «tan_into_yard» = near-whole 0
+  near-roughage «nh3_nyard» = near-whole 0
+  near-roughage «n_outyard_liquid» = near-rest zero-le (near-whole 0) (near-whole 0)
+  near-roughage «tan_outyard_liquid» = near-rest zero-le (near-whole 0) (near-whole 0)
+  near-roughage «n_into_grazing» = n-on
+  near-roughage «tan_into_grazing» = tan-on
+  near-roughage «nh3_ngrazing» = near-nh3 roughageRates n-on tan-on
+  near-roughage «n2_ngrazing» = near-n2 roughageRates n-on tan-on
+  near-roughage «no_ngrazing» = near-no roughageRates n-on tan-on
+  near-roughage «n2o_ngrazing» = near-n2o roughageRates n-on tan-on
+  near-roughage «n_remain_grazing» = near-n-remain roughageRates n-on tan-on roughage-rates-modest pasture
+  near-roughage «tan_remain_grazing» = near-tan-remain roughageRates n-on tan-on
+  near-roughage «n_into_housing» = n-inside
+  near-roughage «tan_into_housing» = tan-inside
+  near-roughage «nh3_nhousing» = nh3
+  near-roughage «n_outhousing» = near-rest (le-trans nh3-most (housing .tan-most)) n-inside nh3
+  near-roughage «tan_outhousing» = near-rest nh3-most tan-inside nh3

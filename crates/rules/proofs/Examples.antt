@@ -1,0 +1,118 @@
+-- Files on both sides of the rules, among them the pigs of 01, computed from the definitions under one statement.
+-- Assumes nothing.
+use Prim.Native.Nat.{ℕ}
+use Prim.Native.String.{String}
+use mathlib.Core.Path.{_≡_, refl, ap}
+use mathlib.Core.List.{List, [], _∷_, _++_, map}
+use lib.ListN.{getD, replicate}
+use Rattle.base.specs.Text.{bytes}
+use Rattle.base.specs.Part.{sameBytes, lower, lowered}
+use Rattle.csv.specs.Reading.{atStart, inPlain, inQuotes, pastQuote, pastCR, readingFrom, readingOf}
+use Rattle.decimal.specs.Reading.{fractionFrom, pointFrom, wholeFrom, zeroFrom, readOf as readNumber, numberOf}
+use Rattle.inputs.specs.declared.Kind.the-variants.{Roughage, Pigs}
+use Rattle.inputs.specs.Inputs.{formAt}
+use Rattle.inputs.specs.Find.{firstFrom, isRow, findInput, isName, findName}
+use Rattle.farm.specs.declared.Given.{Given}
+use Rattle.farm.specs.declared.Given.the-variants.{Standard, Value}
+use Rattle.farm.specs.declared.Slot.{Slot}
+use Rattle.farm.specs.declared.Herd.{Herd}
+use Rattle.farm.specs.declared.Fault.the-variants.{RecordBroken, NotFourFields, BadLabel, NotInTheList, StandardForbidden, BadValue, EarlierLabel, OtherKind, GivenAlready, InputMissing}
+use Rattle.farm.specs.Labels.{byteOk, labelOk, sameLabel}
+use Rattle.farm.specs.Checks.{lacks, earlierLabel}
+use Rattle.reader.specs.declared.FileAnswer.{FileAnswer}
+use Rattle.reader.specs.Values.{isStandard, valueOf}
+use Rattle.reader.specs.Entries.{labelOf}
+use Rattle.reader.specs.Herds.{noSlot, withInput, newHerd}
+use Rattle.reader.specs.Files.{refused, accepted, closed, recordLines, taken, finished, readFrom, readOf}
+use Rattle.rules.specs.Rules.{farmOf, KeepsRules}
+use Rattle.rules.proofs.Accepts.{accepts-exactly}
+
+-- ---- files
+
+-- a record of a herd, with its end
+abbrev line : String → String → String → String → List ℕ
+line label path name value = bytes label ++ bytes "," ++ bytes path ++ bytes "," ++ bytes name ++ bytes "," ++ bytes value ++ bytes "\r\n"
+
+abbrev pig : String → String → String → List ℕ
+pig label name value = line label "Livestock::FatteningPigs::Excretion" name value
+
+abbrev housed : String → String → List ℕ
+housed label value = line label "Livestock::FatteningPigs::Housing::Type" "housing_type" value
+
+abbrev deer : String → String → List ℕ
+deer name value = line "D" "Livestock::RoughageConsuming::Excretion" name value
+
+-- the pigs of 01
+abbrev pigs : List ℕ
+pigs = pig "P1" "animals" "10" ++ pig "P1" "inp_n_excretion" "13" ++ pig "P1" "tan_fraction" "70" ++ housed "P1" "Outdoor"
+
+-- the same in another order, with a quoted label and without the last CRLF
+abbrev pigsAgain : List ℕ
+pigsAgain =
+    housed "\"P1\"" "Outdoor" ++ pig "P1" "tan_fraction" "70.00" ++ pig "P1" "inp_n_excretion" "13.0" ++ bytes "P1,Livestock::FatteningPigs::Excretion,animals,10"
+
+abbrev slot : Given → Slot
+slot g = record { given = g }
+
+abbrev pigHerd : Herd
+pigHerd =
+    record {
+      label = labelOf (bytes "P1");
+      kind = Pigs;
+      slots = slot (Value 10) ∷ slot (Value 13000) ∷ slot (Value 7000) ∷ slot (Value 4) ∷ replicate 5 noSlot;
+    }
+
+-- ten red deer by the standards
+abbrev deerFile : List ℕ
+deerFile =
+    deer "animalcategory" "red_deer" ++ deer "animals" "10" ++ deer "inp_n_excretion" "standard" ++ deer "tan_fraction" "StandarD"
+    ++ line "D" "Livestock::RoughageConsuming::Housing::CFreeFactor" "free_correction_factor" "0"
+    ++ line "D" "Livestock::RoughageConsuming::Grazing" "grazing_days" "365"
+    ++ line "D" "Livestock::RoughageConsuming::Grazing" "grazing_hours" "7.5"
+
+abbrev deerHerd : Herd
+deerHerd =
+    record {
+      label = labelOf (bytes "D");
+      kind = Roughage;
+      slots = slot (Value 1) ∷ slot (Value 10) ∷ slot Standard ∷ slot Standard ∷ slot (Value 0) ∷ slot (Value 365) ∷ slot (Value 75) ∷ replicate 2 noSlot;
+    }
+
+-- ---- what they are read as
+
+record Example : Type 0 where
+  file : List ℕ
+  answer : FileAnswer
+
+infix 4 _gives_
+abbrev _gives_ : List ℕ → FileAnswer → Example
+f gives a = record { file = f; answer = a }
+
+abbrev examples : List Example
+examples =
+    ([] gives accepted (farmOf []))
+    ∷ (pigs gives accepted (farmOf (pigHerd ∷ [])))
+    ∷ (pigsAgain gives accepted (farmOf (pigHerd ∷ [])))
+    ∷ (pigs ++ deerFile gives accepted (farmOf (pigHerd ∷ deerHerd ∷ [])))
+    ∷ (pigs ++ bytes "\n" gives refused 5 RecordBroken)
+    ∷ (bytes "\r\n" gives refused 1 NotFourFields)
+    ∷ (pigs ++ bytes "\r\n" gives refused 5 NotFourFields)
+    ∷ (pig "" "animals" "10" gives refused 1 BadLabel)
+    ∷ (pig "seventeen letters" "animals" "10" gives refused 1 BadLabel)
+    ∷ (pig "P1" "Animals" "10" gives refused 1 NotInTheList)
+    ∷ (pig "P1" "tan_fraction" "standard" gives refused 1 StandardForbidden)
+    ∷ (pig "P1" "animals" "10001" gives refused 1 BadValue)
+    ∷ (housed "P1" "outdoor" gives refused 1 BadValue)
+    ∷ (pigs ++ pig "P2" "animals" "1" ++ pig "P1" "animals" "1" gives refused 6 EarlierLabel)
+    ∷ (deer "animals" "1" ++ pig "D" "animals" "1" gives refused 2 OtherKind)
+    ∷ (deer "animals" "1" ++ deer "animals" "1" gives refused 2 GivenAlready)
+    ∷ (pigs ++ pig "P2" "animals" "1" ++ pig "P3" "animals" "1" gives refused 5 InputMissing)
+    ∷ []
+
+worked : map (λ (e : Example). readOf (e .file)) examples ≡ map (λ (e : Example). e .answer) examples
+unfolding readOf readFrom recordLines taken closed finished readingOf readingFrom atStart inPlain inQuotes pastQuote pastCR labelOf labelOk byteOk sameLabel sameBytes lower lowered findInput firstFrom isRow formAt valueOf isStandard numberOf readNumber zeroFrom wholeFrom pointFrom fractionFrom findName isName newHerd withInput lacks earlierLabel
+worked = refl
+
+-- the pigs of 01 keep the rules
+pub pigs-keep : KeepsRules pigs (farmOf (pigHerd ∷ []))
+pigs-keep = accepts-exactly pigs (farmOf (pigHerd ∷ [])) .0 (ap (λ (l : List FileAnswer). getD l 1 (accepted (farmOf []))) worked)

@@ -1,0 +1,173 @@
+-- How far a file is read, as the herds before the one being read, that one, and numbers of records. Assumes nothing.
+use Prim.Native.Nat.{ℕ, suc, _+_, _-_, _<_, _≤_}
+use mathlib.Core.Path.{_≡_, refl, sym, ap, _∙_}
+use mathlib.Core.Bool.{Bool, true, false, not, _&&_, _||_}
+use mathlib.Core.List.{List, [], _∷_, _++_, append-assoc, append-nil}
+use native.Mathlib.Omega.{arith}
+use lib.Dec.{leb}
+use lib.ListN.{length, set, replicate, length-append}
+use lib.Seq.{set-append-seam, take-append-seam}
+use borrow.Author.Tests.{ne-eqb}
+use Rattle.base.specs.Pick.{pick}
+use Rattle.base.specs.First.{Line, _when_, first}
+use Rattle.cut.specs.Total.{Each, none, more}
+use Rattle.csv.specs.Reading.{partsOf}
+use Rattle.inputs.specs.Inputs.{kindAt}
+use Rattle.farm.specs.declared.Label.{Label}
+use Rattle.farm.specs.declared.Given.{Given}
+use Rattle.farm.specs.declared.Herd.{Herd}
+use Rattle.farm.specs.declared.Farm.{Farm}
+use Rattle.farm.specs.declared.Fault.the-variants.{EarlierLabel, NoRoomForHerd, OtherKind, GivenAlready}
+use Rattle.farm.specs.Labels.{sameLabel}
+use Rattle.farm.specs.Checks.{earlierLabel, herdsOf}
+use Rattle.reader.specs.declared.Progress.{Progress}
+use Rattle.reader.specs.declared.FileAnswer.{FileAnswer}
+use Rattle.reader.specs.Entries.{labelOf, inputIn, givenIn}
+use Rattle.reader.specs.Herds.{noHerd, sameKind, withInput, newHerd, hasInput}
+use Rattle.reader.specs.Files.{refused, withHerd, lackingWith, closed, recordLines, taken}
+use Rattle.rules.specs.Lists.{Some, here, there, Apart, Pairs}
+use Rattle.rules.specs.Rules.{Record, GoodLabel, Says, Gives, PartOf, Stand, farmOf, labels}
+use Rattle.rules.proofs.Lists.{neither, apart-last}
+use Rattle.rules.proofs.Labels.{same-texts, other-label, own-label}
+use Rattle.rules.proofs.Entries.{reads}
+
+-- ---- a record that says something, with 8 to 11 before it
+
+abbrev pub turnLines : ℕ → Progress → Label → ℕ → List (Line FileAnswer)
+turnLines n p l i =
+    refused n EarlierLabel when (not (sameLabel (p .herd .label) l) && earlierLabel (herdsOf (p .farm)) l)
+    ∷ refused n NoRoomForHerd when (not (sameLabel (p .herd .label) l) && leb 64 (closed p .farm .count))
+    ∷ refused n OtherKind when (sameLabel (p .herd .label) l && not (sameKind (p .herd .kind) (kindAt i)))
+    ∷ refused n GivenAlready when (sameLabel (p .herd .label) l && hasInput (p .herd) i)
+    ∷ []
+
+abbrev pub tookTo : ℕ → Progress → Label → ℕ → Given → Progress
+tookTo n p l i g =
+    pick (sameLabel (p .herd .label) l) (record { farm = p .farm; herd = withInput (p .herd) i g; first = p .first; lacking = p .lacking })
+    (record { farm = closed p .farm; herd = newHerd l i g; first = n; lacking = closed p .lacking })
+
+module _ {cs : Record} {l : List ℕ} {i : ℕ} {g : Given} (said : Says cs l i g) (n : ℕ) (p : Progress) where
+  pub record-turn : (z : FileAnswer) → first (recordLines n p (partsOf cs)) z ≡ first (turnLines n p (labelOf l) i) z
+  unfolding recordLines
+  record-turn z =
+      let r = reads said in
+      r .passes n _
+      ∙ ap (λ (t : List ℕ). first (turnLines n p (labelOf t) (inputIn (partsOf cs))) z) (r .label)
+      ∙ ap (λ (j : ℕ). first (turnLines n p (labelOf l) j) z) (r .input)
+
+  pub record-took : taken n p (partsOf cs) ≡ tookTo n p (labelOf l) i g
+  unfolding taken
+  record-took =
+      let r = reads said in
+      ap (λ (t : List ℕ). tookTo n p (labelOf t) (inputIn (partsOf cs)) (givenIn (partsOf cs))) (r .label)
+      ∙ ap (λ (j : ℕ). tookTo n p (labelOf l) j (givenIn (partsOf cs))) (r .input)
+      ∙ ap (λ (v : Given). tookTo n p (labelOf l) i v) (r .given)
+
+-- ---- farms
+
+pub herds-of : (hs : List Herd) → herdsOf (farmOf hs) ≡ hs
+herds-of hs = take-append-seam hs (replicate (64 - length hs) noHerd)
+
+farm-eq : (a b : Farm) → a .herds ≡ b .herds → a .count ≡ b .count → a ≡ b
+farm-eq a b p q = ap (λ (x : List Herd). record { herds = x; count = a .count }) p ∙ ap (λ (n : ℕ). record { herds = b .herds; count = n }) q
+
+-- one herd more
+pub one-more : (hs : List Herd) (h : Herd) → length hs < 64 → withHerd (farmOf hs) h ≡ farmOf (hs ++ (h ∷ []))
+one-more hs h room =
+    farm-eq (withHerd (farmOf hs) h) (farmOf (hs ++ (h ∷ [])))
+    (ap (λ (n : ℕ). set (hs ++ replicate n noHerd) (length hs) h) front
+    ∙ set-append-seam hs noHerd (replicate (63 - length hs) noHerd) h
+    ∙ sym (append-assoc hs (h ∷ []) (replicate (63 - length hs) noHerd))
+    ∙ ap (λ (n : ℕ). (hs ++ (h ∷ [])) ++ replicate n noHerd) back)
+    (sym (length-append hs (h ∷ [])))
+  where
+    front : 64 - length hs ≡ suc (63 - length hs)
+    front = omega arith
+
+    back : 63 - length hs ≡ 64 - length (hs ++ (h ∷ []))
+    back = omega (arith, length-append hs (h ∷ []))
+
+-- ---- how far a file is read
+
+abbrev pub at : List Herd → Herd → ℕ → ℕ → Progress
+at hs h first′ lacking′ = record { farm = farmOf hs; herd = h; first = first′; lacking = lacking′ }
+
+module _ (hs : List Herd) (h : Herd) (m k : ℕ) (room : length hs < 64) where
+  pub closed-farm : closed (at hs h (m + 1) k) .farm ≡ farmOf (hs ++ (h ∷ []))
+  unfolding closed
+  closed-farm = rw (ne-eqb (m + 1) 0 (λ e. omega arith)) (one-more hs h room)
+
+  pub closed-lacking : closed (at hs h (m + 1) k) .lacking ≡ lackingWith k h (m + 1)
+  unfolding closed
+  closed-lacking = rw (ne-eqb (m + 1) 0 (λ e. omega arith))
+
+-- ---- the labels of herds
+
+-- a herd has a good label
+pub record Labelled (h : Herd) : Type 0 where
+  pub text : List ℕ
+  pub good : GoodLabel text
+  pub is : h .label ≡ labelOf text
+
+pub part-labelled : {rs : List Record} {h : Herd} → PartOf rs h → Labelled h
+part-labelled {rs} {h} p = go (p .some) (p .each)
+  where
+    go : {rs : List Record} {is : List ℕ} → 1 ≤ length rs → Pairs (Gives h) rs is → Labelled h
+    go n Pairs.none = absurd (omega arith)
+    go n (Pairs.more x q) = record { text = x .label; good = reads (x .says) .good; is = x .own }
+
+pub stand-labelled : {rs : List Record} {hs : List Herd} → Stand PartOf rs hs → Each Labelled hs
+stand-labelled Stand.none = none
+stand-labelled (Stand.more p s) = more (part-labelled p) (stand-labelled s)
+
+module _ {l : List ℕ} (good : GoodLabel l) where
+  module _ (h : Herd) (x : Labelled h) where
+    pub own-herd : sameLabel (h .label) (labelOf l) ≡ true → h .label ≡ labelOf l
+    own-herd e = x .is ∙ ap labelOf (same-texts (x .good) good (ap (λ (y : Label). sameLabel y (labelOf l)) (sym (x .is)) ∙ e))
+
+    pub other-herd : (h .label ≡ labelOf l → ⊥) → sameLabel (h .label) (labelOf l) ≡ false
+    other-herd n = ap (λ (y : Label). sameLabel y (labelOf l)) (x .is) ∙ other-label (x .good) good (λ e. n (x .is ∙ e))
+
+    pub not-own : sameLabel (h .label) (labelOf l) ≡ false → h .label ≡ labelOf l → ⊥
+    not-own e d =
+        let t : false ≡ true = sym e ∙ ap (λ (y : Label). sameLabel y (labelOf l)) d ∙ own-label good in
+        let z : _≡_ {A = ℕ} 0 1 = cc in omega arith
+
+  pub no-earlier : {hs : List Herd} → Each Labelled hs → Each (λ h. h .label ≡ labelOf l → ⊥) hs → earlierLabel hs (labelOf l) ≡ false
+  unfolding earlierLabel
+  no-earlier none none = refl
+  no-earlier (more {a = h} x xs) (more n ns) = rw (other-herd h x n) (no-earlier xs ns)
+
+  pub earlier-none : (hs : List Herd) → Each Labelled hs → earlierLabel hs (labelOf l) ≡ false → Each (λ h. h .label ≡ labelOf l → ⊥) hs
+  unfolding earlierLabel
+  earlier-none [] none e = none
+  earlier-none (h ∷ hs) (more x xs) e =
+      let n = neither (sameLabel (h .label) (labelOf l)) (earlierLabel hs (labelOf l)) e in
+      more (not-own h x (n .0)) (earlier-none hs xs (n .1))
+
+  pub earlier-some : (hs : List Herd) → Each Labelled hs → earlierLabel hs (labelOf l) ≡ true → Some (λ h. h .label ≡ labelOf l) hs
+  unfolding earlierLabel
+  earlier-some [] none e = let z : _≡_ {A = ℕ} 0 1 = cc in absurd (omega arith)
+  earlier-some (h ∷ hs) (more x xs) e = go (sameLabel (h .label) (labelOf l)) refl e (earlier-some hs xs)
+    where
+      go : (t : Bool) → sameLabel (h .label) (labelOf l) ≡ t → (t || earlierLabel hs (labelOf l)) ≡ true → (earlierLabel hs (labelOf l) ≡ true → Some (λ h. h .label ≡ labelOf l) hs)
+          → Some (λ h. h .label ≡ labelOf l) (h ∷ hs)
+      go true q e later = here (own-herd h x q)
+      go false q e later = there (later e)
+
+-- ---- herds one after the other
+
+pub stand-last : {R : List Record → Herd → Type 0} {a b : List Record} {hs : List Herd} {h : Herd} → Stand R a hs → R b h → Stand R (a ++ b) (hs ++ (h ∷ []))
+stand-last {R} {b = b} {h = h} Stand.none r = let x : Stand R (b ++ []) (h ∷ []) = Stand.more r Stand.none in rw append-nil at x
+stand-last (Stand.more q s) r = rw append-assoc (Stand.more q (stand-last s r))
+
+pub labels-last : (hs : List Herd) (h : Herd) → labels (hs ++ (h ∷ [])) ≡ labels hs ++ (h .label ∷ [])
+labels-last [] h = refl
+labels-last (x ∷ hs) h = ap (λ (ls : List Label). x .label ∷ ls) (labels-last hs h)
+
+each-labels : {l : Label} {hs : List Herd} → Each (λ h. h .label ≡ l → ⊥) hs → Each (λ b. b ≡ l → ⊥) (labels hs)
+each-labels none = none
+each-labels (more n ns) = more n (each-labels ns)
+
+pub apart-herds : (hs : List Herd) (h : Herd) → Apart (labels hs) → Each (λ x. x .label ≡ h .label → ⊥) hs → Apart (labels (hs ++ (h ∷ [])))
+apart-herds hs h d n = rw (labels-last hs h) (apart-last d (each-labels n))

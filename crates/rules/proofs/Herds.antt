@@ -1,0 +1,278 @@
+-- A herd and the records that say it: how both grow by a record, that the records determine the herd, and what it means that an input lacks.
+-- Assumes nothing.
+use Prim.Native.Nat.{ℕ, zero, suc, _+_, _<_, _≤_}
+use mathlib.Core.Path.{_≡_, refl, sym, ap, _∙_}
+use mathlib.Core.Bool.{Bool, true, false, _||_}
+use mathlib.Core.List.{List, [], _∷_, _++_}
+use mathlib.Core.Logic.{_⊎_, inl, inr}
+use native.Mathlib.Omega.{arith}
+use lib.Dec.{eqb}
+use lib.ListN.{length, getD, set, replicate, length-set, length-append}
+use lib.Seq.{getD-set-same, getD-set-other, ext-getD}
+use borrow.Author.Tests.{eqb-true, eqb-false, not-false}
+use Rattle.cut.specs.Total.{Each, none, more}
+use Rattle.cut.proofs.Totals.{each-map}
+use Rattle.inputs.specs.declared.Kind.{Kind}
+use Rattle.inputs.specs.declared.Kind.the-variants.{Roughage, Cattle, Pigs}
+use Rattle.inputs.specs.declared.Form.{Form}
+use Rattle.inputs.specs.Inputs.{Row, rows, rowsOf, countOf, firstOf, kindAt}
+use Rattle.inputs.proofs.Places.{count-most, kind-starts, within-kind}
+use Rattle.farm.specs.declared.Label.{Label}
+use Rattle.farm.specs.declared.Given.{Given}
+use Rattle.farm.specs.declared.Slot.{Slot}
+use Rattle.farm.specs.declared.Herd.{Herd}
+use Rattle.farm.specs.Checks.{isMissing, lacksOne, lacks}
+use Rattle.reader.specs.Entries.{labelOf}
+use Rattle.reader.specs.Herds.{noSlot, sameKind, slotOf, withInput, newHerd, hasInput}
+use Rattle.rules.specs.Lists.{Some, here, there, Apart, Pairs}
+use Rattle.rules.specs.Rules.{Record, ValueIs, Says, Gives, PartOf, HerdOf}
+use Rattle.rules.proofs.Lists.{neither, each-front, each-back, meet, apart-last, pairs-append, pairs-map, fellow}
+use Rattle.rules.proofs.Entries.{reads, one-given}
+
+-- ---- kinds
+
+pub own-kind : (k : Kind) → sameKind k k ≡ true
+own-kind Roughage = refl
+own-kind Cattle = refl
+own-kind Pigs = refl
+
+pub kind-one : (a b : Kind) → sameKind a b ≡ true → a ≡ b
+kind-one Roughage Roughage e = refl
+kind-one Cattle Cattle e = refl
+kind-one Pigs Pigs e = refl
+kind-one Roughage Cattle e = cc
+kind-one Roughage Pigs e = cc
+kind-one Cattle Roughage e = cc
+kind-one Cattle Pigs e = cc
+kind-one Pigs Roughage e = cc
+kind-one Pigs Cattle e = cc
+
+pub kind-two : (a b : Kind) → sameKind a b ≡ false → a ≡ b → ⊥
+kind-two a b e d = let t : false ≡ true = sym e ∙ ap (λ (k : Kind). sameKind k b) d ∙ own-kind b in let z : _≡_ {A = ℕ} 0 1 = cc in omega arith
+
+-- ---- slots
+
+-- of one kind, two inputs have two slots
+pub slot-one : (i j : ℕ) → kindAt i ≡ kindAt j → slotOf i ≡ slotOf j → i ≡ j
+slot-one i j e h = omega (arith, kind-starts i, kind-starts j, ap firstOf e)
+
+pub slot-place : (i : ℕ) (k : Kind) → k ≡ kindAt i → i ≡ firstOf k + slotOf i
+slot-place i k e = omega (arith, kind-starts i, ap firstOf e)
+
+slot-room : (i : ℕ) → i < length rows → slotOf i < 9
+slot-room i h = omega (arith, within-kind i h, count-most (kindAt i))
+
+blank : (n j : ℕ) → getD (replicate n noSlot) j noSlot ≡ noSlot
+blank zero zero = refl
+blank zero (suc j) = refl
+blank (suc n) zero = refl
+blank (suc n) (suc j) = blank n j
+
+-- a slot of one of the inputs, or of none
+pub some-slot : (j : ℕ) (is : List ℕ) → Some (λ i. slotOf i ≡ j) is ⊎ Each (λ i. slotOf i ≡ j → ⊥) is
+some-slot j [] = inr none
+some-slot j (i ∷ is) = go (eqb (slotOf i) j) refl (some-slot j is)
+  where
+    go : (t : Bool) → eqb (slotOf i) j ≡ t → Some (λ i. slotOf i ≡ j) is ⊎ Each (λ i. slotOf i ≡ j → ⊥) is → Some (λ i. slotOf i ≡ j) (i ∷ is) ⊎ Each (λ i. slotOf i ≡ j → ⊥) (i ∷ is)
+    go true e r = inl (here (eqb-true (slotOf i) j e))
+    go false e (inl s) = inl (there s)
+    go false e (inr n) = inr (more (eqb-false (slotOf i) j e) n)
+
+-- ---- values
+
+-- what a record says of an input is not nothing
+pub value-given : {form : Form} {s : List ℕ} {g : Given} → ValueIs form s g → isMissing g ≡ false
+value-given (ValueIs.number _ _) = refl
+value-given (ValueIs.or-standard _ _) = refl
+value-given (ValueIs.no-standard _ _) = refl
+value-given (ValueIs.standard _) = refl
+value-given (ValueIs.name _) = refl
+
+abbrev pub missingAt : Herd → ℕ → Bool
+missingAt h j = isMissing (getD (h .slots) j noSlot .given)
+
+pub gives-filled : {h : Herd} {cs : Record} {i : ℕ} → Gives h cs i → missingAt h (slotOf i) ≡ false
+gives-filled x = ap (λ (s : Slot). isMissing (s .given)) (x .slot) ∙ value-given (reads (x .says) .value)
+
+-- no input has a slot that is missing
+pub unfilled : {h : Herd} {rs : List Record} {is : List ℕ} (j : ℕ) → Pairs (Gives h) rs is → missingAt h j ≡ true → Each (λ i. slotOf i ≡ j → ⊥) is
+unfilled j Pairs.none e = none
+unfilled {h} j (Pairs.more {b = i} x p) e =
+    more (λ d. let f : true ≡ false = sym e ∙ ap (missingAt h) (sym d) ∙ gives-filled x in let z : _≡_ {A = ℕ} 0 1 = cc in omega arith) (unfilled j p e)
+
+-- ---- a herd grows by a record
+
+module _ {cs : Record} {l : List ℕ} {i : ℕ} {g : Given} (said : Says cs l i g) where
+  pub part-new : PartOf (cs ∷ []) (newHerd (labelOf l) i g)
+  unfolding newHerd withInput
+  part-new =
+      record {
+        inputs = i ∷ [];
+        some = omega arith;
+        each =
+            Pairs.more
+            (record {
+              label = l;
+              given = g;
+              says = said;
+              own = refl;
+              kind = refl;
+              slot = getD-set-same (replicate 9 noSlot) (slotOf i) (record { given = g }) noSlot (slot-room i (reads said .names .inside));
+            })
+            Pairs.none;
+        once = Apart.next none Apart.none;
+        room = length-set (replicate 9 noSlot) (slotOf i) (record { given = g });
+        rest = fresh;
+      }
+    where
+      fresh : (j : ℕ) → Each (λ i. slotOf i ≡ j → ⊥) (i ∷ []) → getD (set (replicate 9 noSlot) (slotOf i) (record { given = g })) j noSlot ≡ noSlot
+      fresh j (more n none) = getD-set-other (replicate 9 noSlot) (slotOf i) j (record { given = g }) noSlot (λ e. n (sym e)) ∙ blank 9 j
+
+  module _ (h : Herd) (own : h .label ≡ labelOf l) (kind : h .kind ≡ kindAt i) where
+    gives-kept : (r : Record) (i′ : ℕ) → Gives h r i′ → (slotOf i′ ≡ slotOf i → ⊥) → Gives (withInput h i g) r i′
+    unfolding withInput
+    gives-kept r i′ x n =
+        record {
+          label = x .label;
+          given = x .given;
+          says = x .says;
+          own = x .own;
+          kind = x .kind;
+          slot = getD-set-other (h .slots) (slotOf i) (slotOf i′) (record { given = g }) noSlot n ∙ x .slot;
+        }
+
+    gives-new : length (h .slots) ≡ 9 → Gives (withInput h i g) cs i
+    unfolding withInput
+    gives-new room =
+        record {
+          label = l;
+          given = g;
+          says = said;
+          own = own;
+          kind = kind;
+          slot = getD-set-same (h .slots) (slotOf i) (record { given = g }) noSlot (omega (arith, slot-room i (reads said .names .inside)));
+        }
+
+    pub part-more : {rs : List Record} → PartOf rs h → hasInput h i ≡ false → PartOf (rs ++ (cs ∷ [])) (withInput h i g)
+    unfolding withInput
+    part-more {rs} p e =
+        let open′ = unfilled (slotOf i) (p .each) (not-false (missingAt h (slotOf i)) e) in
+        record {
+          inputs = p .inputs ++ (i ∷ []);
+          some = omega (arith, p .some, length-append rs (cs ∷ []));
+          each = pairs-append (pairs-map gives-kept (p .each) open′) (Pairs.more (gives-new (p .room)) Pairs.none);
+          once = apart-last (p .once) (each-map (λ i′ n d. n (ap slotOf d)) open′);
+          room = length-set (h .slots) (slotOf i) (record { given = g }) ∙ p .room;
+          rest = fresh;
+        }
+      where
+        fresh : (j : ℕ) → Each (λ i. slotOf i ≡ j → ⊥) (p .inputs ++ (i ∷ [])) → getD (set (h .slots) (slotOf i) (record { given = g })) j noSlot ≡ noSlot
+        fresh j n = last (each-back (p .inputs) (i ∷ []) n) ∙ p .rest j (each-front (p .inputs) (i ∷ []) n)
+          where
+            last : Each (λ i. slotOf i ≡ j → ⊥) (i ∷ []) → getD (set (h .slots) (slotOf i) (record { given = g })) j noSlot ≡ getD (h .slots) j noSlot
+            last (more m none) = getD-set-other (h .slots) (slotOf i) j (record { given = g }) noSlot (λ d. m (sym d))
+
+-- ---- the records determine the herd
+
+herd-eq : (a b : Herd) → a .label ≡ b .label → a .kind ≡ b .kind → a .slots ≡ b .slots → a ≡ b
+herd-eq a b p q r =
+    ap (λ (x : Label). record { label = x; kind = a .kind; slots = a .slots }) p
+    ∙ ap (λ (x : Kind). record { label = b .label; kind = x; slots = a .slots }) q
+    ∙ ap (λ (x : List Slot). record { label = b .label; kind = b .kind; slots = x }) r
+
+pub record Agree (h h′ : Herd) (is is′ : List ℕ) : Type 0 where
+  pub inputs : is ≡ is′
+  pub slots : Each (λ i. getD (h .slots) (slotOf i) noSlot ≡ getD (h′ .slots) (slotOf i) noSlot) is
+
+module _ {h h′ : Herd} where
+  slots-agree : {cs : Record} {i j : ℕ} → Gives h cs i → Gives h′ cs j → (i ≡ j) × (getD (h .slots) (slotOf i) noSlot ≡ getD (h′ .slots) (slotOf i) noSlot)
+  slots-agree x y =
+      let o = one-given (x .says) (y .says) in
+      let e = o .1 .0 in
+      (e, x .slot ∙ ap (λ (g : Given). record { given = g }) (o .1 .1) ∙ sym (y .slot) ∙ ap (λ (n : ℕ). getD (h′ .slots) (slotOf n) noSlot) (sym e))
+
+  pub agree : {rs : List Record} {is is′ : List ℕ} → Pairs (Gives h) rs is → Pairs (Gives h′) rs is′ → Agree h h′ is is′
+  agree Pairs.none Pairs.none = record { inputs = refl; slots = none }
+  agree (Pairs.more x p) (Pairs.more y q) =
+      let s = slots-agree x y in
+      let r = agree p q in
+      record { inputs = let a = s .0 in let b = r .inputs in cc; slots = more (s .1) (r .slots) }
+
+  pub heads : {rs : List Record} {is is′ : List ℕ} → 1 ≤ length rs → Pairs (Gives h) rs is → Pairs (Gives h′) rs is′ → (h .label ≡ h′ .label) × (h .kind ≡ h′ .kind)
+  heads n Pairs.none q = absurd (omega arith)
+  heads n (Pairs.more x p) (Pairs.more y q) =
+      let o = one-given (x .says) (y .says) in
+      (x .own ∙ ap labelOf (o .0) ∙ sym (y .own), x .kind ∙ ap kindAt (o .1 .0) ∙ sym (y .kind))
+
+  pub one-herd : {rs : List Record} → PartOf rs h → PartOf rs h′ → h ≡ h′
+  one-herd p q =
+      let a = agree (p .each) (q .each) in
+      let e = heads (p .some) (p .each) (q .each) in
+      herd-eq h h′ (e .0) (e .1) (ext-getD noSlot (h .slots) (h′ .slots) (p .room ∙ sym (q .room)) (λ j _. at a j (some-slot j (p .inputs))))
+    where
+      at : Agree h h′ (p .inputs) (q .inputs) → (j : ℕ) → Some (λ i. slotOf i ≡ j) (p .inputs) ⊎ Each (λ i. slotOf i ≡ j → ⊥) (p .inputs) → getD (h .slots) j noSlot ≡ getD (h′ .slots) j noSlot
+      at a j (inl s) = let m = meet (a .slots) s in rw (m .other) at (m .one)
+      at a j (inr n) = p .rest j n ∙ sym (q .rest j (rw (a .inputs) at n))
+
+-- ---- a herd that lacks an input
+
+lacks-none : (rs : List Row) (slots : List Slot) → lacksOne rs slots ≡ false → (j : ℕ) → j < length rs → isMissing (getD slots j noSlot .given) ≡ false
+lacks-none [] slots e j h = absurd (omega arith)
+lacks-none (row ∷ rs) [] e j h = let z : _≡_ {A = ℕ} 0 1 = cc in absurd (omega arith)
+lacks-none (row ∷ rs) (s ∷ slots) e zero h = neither (isMissing (s .given)) (lacksOne rs slots) e .0
+lacks-none (row ∷ rs) (s ∷ slots) e (suc j) h = lacks-none rs slots (neither (isMissing (s .given)) (lacksOne rs slots) e .1) j (omega arith)
+
+none-lacks : (rs : List Row) (slots : List Slot) → length rs ≤ length slots → ((j : ℕ) → j < length rs → isMissing (getD slots j noSlot .given) ≡ false) → lacksOne rs slots ≡ false
+none-lacks [] slots h f = refl
+none-lacks (row ∷ rs) [] h f = absurd (omega arith)
+none-lacks (row ∷ rs) (s ∷ slots) h f = rw (f 0 (omega arith)) (none-lacks rs slots (omega arith) (λ j b. f (suc j) (omega arith)))
+
+-- one of the slots is missing
+pub record Missed (rs : List Row) (slots : List Slot) : Type 0 where
+  pub slot : ℕ
+  pub inside : slot < length rs
+  pub missing : isMissing (getD slots slot noSlot .given) ≡ true
+
+lacks-one : (rs : List Row) (slots : List Slot) → length rs ≤ length slots → lacksOne rs slots ≡ true → Missed rs slots
+lacks-one [] slots h e = let z : _≡_ {A = ℕ} 0 1 = cc in absurd (omega arith)
+lacks-one (row ∷ rs) [] h e = absurd (omega arith)
+lacks-one (row ∷ rs) (s ∷ slots) h e = go (isMissing (s .given)) refl e (lacks-one rs slots (omega arith))
+  where
+    go : (t : Bool) → isMissing (s .given) ≡ t → (t || lacksOne rs slots) ≡ true → (lacksOne rs slots ≡ true → Missed rs slots) → Missed (row ∷ rs) (s ∷ slots)
+    go true m e later = record { slot = 0; inside = omega arith; missing = m }
+    go false m e later = let r = later e in record { slot = suc (r .slot); inside = omega (arith, r .inside); missing = r .missing }
+
+module _ {rs : List Record} {h : Herd} (p : PartOf rs h) where
+  room : countOf (h .kind) ≤ length (h .slots)
+  room = omega (arith, p .room, count-most (h .kind))
+
+  -- the slot of an input that a record gives
+  filled : (j : ℕ) → Some (λ i. i ≡ firstOf (h .kind) + j) (p .inputs) → missingAt h j ≡ false
+  filled j s =
+      let f = fellow (p .each) s in
+      let e : slotOf (f .of) ≡ j = omega (arith, f .has, slot-place (f .of) (h .kind) (f .pair .kind)) in
+      rw e at (gives-filled (f .pair))
+
+  -- the record that fills a slot
+  filling : (j : ℕ) → missingAt h j ≡ false → Some (λ i. i ≡ firstOf (h .kind) + j) (p .inputs)
+  filling j e = go (some-slot j (p .inputs))
+    where
+      place : {rs : List Record} {is : List ℕ} → Pairs (Gives h) rs is → Some (λ i. slotOf i ≡ j) is → Some (λ i. i ≡ firstOf (h .kind) + j) is
+      place (Pairs.more {b = i} x q) (here d) = let e : i ≡ firstOf (h .kind) + j = omega (arith, slot-place i (h .kind) (x .kind)) in here e
+      place (Pairs.more x q) (there s) = there (place q s)
+
+      go : Some (λ i. slotOf i ≡ j) (p .inputs) ⊎ Each (λ i. slotOf i ≡ j → ⊥) (p .inputs) → Some (λ i. i ≡ firstOf (h .kind) + j) (p .inputs)
+      go (inl s) = place (p .each) s
+      go (inr n) = let b = ap (λ (s : Slot). isMissing (s .given)) (p .rest j n) in let z : _≡_ {A = ℕ} 0 1 = cc in absurd (omega arith)
+
+  pub part-all : lacks h ≡ false → HerdOf rs h
+  unfolding lacks
+  part-all e = record { part = p; all = λ j b. filling j (lacks-none (rowsOf (h .kind)) (h .slots) e j (omega arith)) }
+
+  pub all-part : ((j : ℕ) → j < countOf (h .kind) → Some (λ i. i ≡ firstOf (h .kind) + j) (p .inputs)) → lacks h ≡ false
+  unfolding lacks
+  all-part all = none-lacks (rowsOf (h .kind)) (h .slots) room (λ j b. filled j (all j b))
+
+  pub part-missed : lacks h ≡ true → Missed (rowsOf (h .kind)) (h .slots)
+  unfolding lacks
+  part-missed e = lacks-one (rowsOf (h .kind)) (h .slots) room e

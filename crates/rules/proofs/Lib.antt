@@ -1,0 +1,17 @@
+pub mod Lists
+pub mod Labels
+pub mod Values
+pub mod Faults
+pub mod Entries
+pub mod Readings
+pub mod Herds
+pub mod Farms
+pub mod Through
+pub mod Records
+pub mod Going
+pub mod Ended
+pub mod Runs
+pub mod Accepts
+pub mod Passing
+pub mod Refuses
+pub mod Examples

@@ -1,0 +1,104 @@
+-- A farm that is read passes the checks of a record that is handed in: they never refuse it. Assumes nothing.
+use Prim.Native.Nat.{ℕ, suc, _<_, _≤_}
+use mathlib.Core.Path.{_≡_, refl, sym, ap, subst, _∙_}
+use mathlib.Core.Bool.{true, false}
+use mathlib.Core.List.{List, [], _∷_}
+use native.Mathlib.Omega.{arith}
+use lib.ListN.{length, getD, drop, length-take}
+use borrow.Author.Tests.{le-leb, lt-ltb}
+use Rattle.cut.specs.Total.{Each, none, more}
+use Rattle.inputs.specs.declared.Form.{Form}
+use Rattle.inputs.specs.Inputs.{Row, noRow, rowsOf, countOf, formAt, valueNames}
+use Rattle.inputs.proofs.Places.{count-most, form-of-place}
+use Rattle.farm.specs.declared.Given.{Given}
+use Rattle.farm.specs.declared.Slot.{Slot}
+use Rattle.farm.specs.declared.Herd.{Herd}
+use Rattle.farm.specs.declared.Farm.{Farm}
+use Rattle.farm.specs.declared.Checked.the-variants.{Accepted}
+use Rattle.farm.specs.Labels.{labelOk, sameLabel}
+use Rattle.farm.specs.Checks.{fits, isMissing, checkFarm}
+use Rattle.farm.specs.Accepts.{Passes, GoodHerd, Distinct, GoodFarm}
+use Rattle.farm.proofs.Accepts.{good-farm}
+use Rattle.reader.specs.Herds.{noSlot, slotOf}
+use Rattle.reader.specs.Files.{accepted, readOf}
+use Rattle.rules.specs.Lists.{Apart}
+use Rattle.rules.specs.Rules.{Record, ValueIs, HerdOf, Stand, labels, FarmOf}
+use Rattle.rules.proofs.Lists.{fellow}
+use Rattle.rules.proofs.Labels.{good-ok}
+use Rattle.rules.proofs.Entries.{reads}
+use Rattle.rules.proofs.Herds.{slot-place, gives-filled}
+use Rattle.rules.proofs.Farms.{herds-of, Labelled, part-labelled, other-herd}
+use Rattle.rules.proofs.Accepts.{accepts-exactly}
+
+-- ---- inputs
+
+value-fits : {form : Form} {s : List ℕ} {g : Given} → ValueIs form s g → fits form g ≡ true
+value-fits (ValueIs.number {most = m} {v = v} _ h) = le-leb v m h
+value-fits (ValueIs.or-standard {most = m} {v = v} _ h) = le-leb v m h
+value-fits (ValueIs.no-standard {most = m} {v = v} _ h) = le-leb v m h
+value-fits (ValueIs.standard _) = refl
+value-fits (ValueIs.name {from = from} {count = count} {place = j} x) = lt-ltb j count (omega (arith, x .inside, length-take count (drop from valueNames)))
+
+record Fine (row : Row) (s : Slot) : Type 0 where
+  given : isMissing (s .given) ≡ false
+  fitting : fits (row .form) (s .given) ≡ true
+
+passes : (rs : List Row) (slots : List Slot) → length rs ≤ length slots → ((j : ℕ) → j < length rs → Fine (getD rs j noRow) (getD slots j noSlot)) → Passes rs slots
+passes [] slots h f = Passes.none
+passes (row ∷ rs) [] h f = absurd (omega arith)
+passes (row ∷ rs) (s ∷ slots) h f =
+    let x = f 0 (omega arith) in
+    Passes.next (x .given) (x .fitting) (passes rs slots (omega arith) (λ j b. f (suc j) (omega arith)))
+
+herd-good : {rs : List Record} {h : Herd} → HerdOf rs h → GoodHerd h
+herd-good {rs} {h} x =
+    let l = part-labelled (x .part) in
+    record {
+      label = ap labelOk (l .is) ∙ good-ok (l .text) (l .good);
+      inputs = passes (rowsOf (h .kind)) (h .slots) (omega (arith, x .part .room, count-most (h .kind))) fine;
+    }
+  where
+    fine : (j : ℕ) → j < countOf (h .kind) → Fine (getD (rowsOf (h .kind)) j noRow) (getD (h .slots) j noSlot)
+    fine j b =
+        let f = fellow (x .part .each) (x .all j b) in
+        let e : slotOf (f .of) ≡ j = omega (arith, f .has, slot-place (f .of) (h .kind) (f .pair .kind)) in
+        let form : formAt (f .of) ≡ getD (rowsOf (h .kind)) j noRow .form = ap formAt (f .has) ∙ form-of-place (h .kind) j b in
+        let slot : getD (h .slots) j noSlot ≡ record { given = f .pair .given } = ap (λ (n : ℕ). getD (h .slots) n noSlot) (sym e) ∙ f .pair .slot in
+        record {
+          given = rw e at (gives-filled (f .pair));
+          fitting = rw slot (ap (λ (y : Form). fits y (f .pair .given)) (sym form) ∙ value-fits (reads (f .pair .says) .value));
+        }
+
+-- ---- labels
+
+labels-two : {h : Herd} {hs : List Herd} → Labelled h → Each Labelled hs → Each (λ b. h .label ≡ b → ⊥) (labels hs) → Each (λ later. sameLabel (h .label) (later .label) ≡ false) hs
+labels-two x none none = none
+labels-two {h} x (more {a = later} y ys) (more n ns) =
+    let two : sameLabel (h .label) (later .label) ≡ false = rw (y .is) (other-herd (y .good) h x (λ e. n (e ∙ sym (y .is)))) in
+    more two (labels-two x ys ns)
+
+distinct : {hs : List Herd} → Each Labelled hs → Apart (labels hs) → Distinct hs
+distinct none Apart.none = Distinct.none
+distinct (more x xs) (Apart.next n d) = Distinct.next (labels-two x xs n) (distinct xs d)
+
+stand-labelled : {rs : List Record} {hs : List Herd} → Stand HerdOf rs hs → Each Labelled hs
+stand-labelled Stand.none = none
+stand-labelled (Stand.more x s) = more (part-labelled (x .part)) (stand-labelled s)
+
+stand-good : {rs : List Record} {hs : List Herd} → Stand HerdOf rs hs → Each GoodHerd hs
+stand-good Stand.none = none
+stand-good (Stand.more x s) = more (herd-good x) (stand-good s)
+
+-- ---- the farm
+
+farm-good : {rs : List Record} {f : Farm} → FarmOf rs f → GoodFarm f
+farm-good {f = f} x =
+    subst GoodFarm (sym (x .is))
+    (record {
+      room = x .most;
+      herds = rw (herds-of (x .herds)) (stand-good (x .stand));
+      labels = rw (herds-of (x .herds)) (distinct (stand-labelled (x .stand)) (x .apart));
+    })
+
+pub accepted-passes : (s : List ℕ) (f : Farm) → readOf s ≡ accepted f → checkFarm f ≡ Accepted
+accepted-passes s f e = good-farm f (farm-good (accepts-exactly s f .0 e .says))

@@ -1,0 +1,282 @@
+-- The first refusal: a file is refused with a number and a record exactly where that is the first refusal that applies, in 01's order; and a
+-- file is accepted exactly where none applies. Assumes nothing.
+use Prim.Native.Nat.{ℕ, suc, _+_, _<_, _≤_}
+use mathlib.Core.Path.{_≡_, refl, sym, ap, subst, _∙_}
+use mathlib.Core.Logic.{_↔_, _⊎_, inl, inr}
+use mathlib.Core.Bool.{Bool, true, false}
+use mathlib.Core.List.{List, _∷_, _++_}
+use native.Mathlib.Omega.{arith}
+use lib.Dec.{ltb}
+use lib.ListN.{length, length-append}
+use borrow.Author.Tests.{ltb-true, ltb-false}
+use Rattle.cut.specs.Total.{Each}
+use Rattle.csv.specs.Grammar.{FileOf, Breaks}
+use Rattle.csv.specs.Reading.{Reading, _then_, end, broken, readingOf}
+use Rattle.csv.proofs.Files.{file-read, read-file, breaks-read, read-breaks}
+use Rattle.farm.specs.declared.Farm.{Farm}
+use Rattle.farm.specs.declared.Fault.{Fault}
+use Rattle.farm.specs.declared.Fault.the-variants.{FileTooLong, RecordBroken, InputMissing}
+use Rattle.farm.specs.Refusals.{number}
+use Rattle.reader.specs.declared.FileAnswer.{FileAnswer}
+use Rattle.reader.specs.Files.{refused, accepted, fileMost, readOf}
+use Rattle.rules.specs.Rules.{Record, KeepsRules}
+use Rattle.rules.specs.Refusals.{Applies, Lacks, RecordAt, AppliesAt, Sooner, too-long-first, from-the-front, in-that-order, then-missing, first-herd, First}
+use Rattle.rules.proofs.Faults.{one-fault, applies-within, NoneBelow}
+use Rattle.rules.proofs.Runs.{Clean, Ran, accepts, breaks, wrong, missing, Answered, too-long, read, answered}
+use Rattle.rules.proofs.Readings.{thens, whole-thens, broken-thens, record-read, read-record, Stops, at-end, at-break, split-read, one-thens, end-not-broken, shorter, as-long, split-list, at-split}
+use Rattle.rules.proofs.Accepts.{accepts-exactly}
+
+-- ---- the order, by numbers
+
+data Rank : ℕ → Fault → Type 0 where
+  before-all : Rank 0 FileTooLong
+  of-record : {n : ℕ} {f : Fault} → 2 ≤ number f → number f ≤ 11 → Rank n f
+  after-all : {n : ℕ} → Rank n InputMissing
+
+rank : {s : List ℕ} {n : ℕ} {f : Fault} → AppliesAt s n f → Rank n f
+rank (AppliesAt.too-long _) = before-all
+rank (AppliesAt.broken _) = of-record {f = RecordBroken} (omega arith) (omega arith)
+rank (AppliesAt.wrong {fault = f} _ a) = let w = applies-within a in of-record {f = f} (omega (arith, w .low)) (w .high)
+rank (AppliesAt.missing _ _ _ _ _) = after-all
+
+rank-some : {n : ℕ} {f : Fault} → Rank n f → 1 ≤ number f
+rank-some before-all = omega arith
+rank-some (of-record h _) = omega arith
+rank-some after-all = omega arith
+
+none-before : {m n : ℕ} {f g : Fault} → Sooner m f n g → number g ≡ 1 → n ≡ 0 → 1 ≤ number f → ⊥
+none-before (too-long-first h) e z k = omega arith
+none-before (from-the-front _ _ h) e z k = omega arith
+none-before (in-that-order _ h) e z k = omega arith
+none-before (then-missing _) e z k = omega arith
+none-before (first-herd _) e z k = omega arith
+
+among-records : {m n : ℕ} {f g : Fault} → Sooner m f n g → 2 ≤ number f → number g ≤ 11 → (m < n) ⊎ ((m ≡ n) × (number f < number g))
+among-records (too-long-first _) h k = absurd (omega arith)
+among-records (from-the-front _ _ d) h k = inl d
+among-records (in-that-order _ d) h k = inr (refl, d)
+among-records (then-missing _) h k = absurd (omega arith)
+among-records (first-herd _) h k = absurd (omega arith)
+
+not-after-all : {m n : ℕ} {f g : Fault} → Sooner m f n g → number f ≡ 12 → number g ≤ 11 → ⊥
+not-after-all (too-long-first _) h k = omega arith
+not-after-all (from-the-front d _ _) h k = omega arith
+not-after-all (in-that-order _ d) h k = omega arith
+not-after-all (then-missing _) h k = omega arith
+not-after-all (first-herd _) h k = omega arith
+
+herds-before : {m n : ℕ} {f g : Fault} → Sooner m f n g → number f ≡ 12 → m < n
+herds-before (too-long-first _) h = absurd (omega arith)
+herds-before (from-the-front d _ _) h = absurd (omega arith)
+herds-before (in-that-order d e) h = absurd (omega arith)
+herds-before (then-missing d) h = absurd (omega arith)
+herds-before (first-herd d) h = d
+
+-- ---- what applies to a file, by how it reads
+
+module _ (s : List ℕ) where
+  -- records that are read through, or up to a break, and for which none of 3 to 11 applies
+  module _ (rs : List Record) {x : Reading} (stops : Stops x) (w : readingOf s ≡ thens rs x) (clean : Clean rs) where
+    none-wrong : {before : List Record} {cs : Record} {f : Fault} → RecordAt s before cs → Applies before cs f → ⊥
+    none-wrong {before} {cs} {f} at a =
+        let r = record-read at in
+        let p = split-read (r .rest) rs before cs stops (sym w ∙ r .is) in
+        clean before cs (p .after) (p .is) f a
+
+  module _ (rs : List Record) (w : readingOf s ≡ thens rs end) where
+    none-broken : {rs′ : List Record} → Breaks rs′ s → ⊥
+    none-broken {rs′} b = end-not-broken rs rs′ (sym w ∙ breaks-read rs′ s b ∙ broken-thens rs′)
+
+    same-records : {rs′ : List Record} → FileOf rs′ s → rs ≡ rs′
+    same-records {rs′} f = one-thens rs rs′ at-end (sym w ∙ file-read f ∙ whole-thens rs′)
+
+  not-long : {R : Type 0} → length s ≤ fileMost → fileMost < length s → R
+  not-long a b = absurd (omega arith)
+
+  -- a file that is accepted
+  nothing-applies : (rs : List Record) → length s ≤ fileMost → readingOf s ≡ thens rs end → Clean rs → Each (λ r. Lacks rs r → ⊥) rs → (m : ℕ) (f : Fault) → AppliesAt s m f → ⊥
+  nothing-applies rs short w clean whole m f (AppliesAt.too-long h) = not-long short h
+  nothing-applies rs short w clean whole m f (AppliesAt.broken b) = none-broken rs w b
+  nothing-applies rs short w clean whole m f (AppliesAt.wrong at a) = none-wrong rs at-end w clean at a
+  nothing-applies rs short w clean whole m f (AppliesAt.missing before cs after file l) =
+      let e = same-records rs w file in
+      at-split {a = before} (record { after = after; is = e }) whole (rw (sym e) at l)
+
+  -- one that is too long
+  first-long : fileMost < length s → First s 0 FileTooLong
+  first-long h = record { applies = AppliesAt.too-long h; none-sooner = λ m f a d. none-before d refl refl (rank-some (rank a)) }
+
+  -- one that breaks
+  module _ (rs : List Record) (short : length s ≤ fileMost) (w : readingOf s ≡ thens rs broken) (clean : Clean rs) where
+    none-sooner-break : (m : ℕ) (f : Fault) → AppliesAt s m f → Sooner m f (length rs + 1) RecordBroken → ⊥
+    none-sooner-break m f (AppliesAt.too-long h) d = not-long short h
+    none-sooner-break m f (AppliesAt.broken {rs = rs′} b) d =
+        let e = one-thens rs rs′ at-break (sym w ∙ breaks-read rs′ s b ∙ broken-thens rs′) in
+        go (ap length e) (among-records d (omega arith) (omega arith))
+      where
+        go : length rs ≡ length rs′ → (length rs′ + 1 < length rs + 1) ⊎ ((length rs′ + 1 ≡ length rs + 1) × (2 < 2)) → ⊥
+        go e (inl h) = omega arith
+        go e (inr (_, h)) = omega arith
+    none-sooner-break m f (AppliesAt.wrong at a) d = none-wrong rs at-break w clean at a
+    none-sooner-break m f (AppliesAt.missing before cs after file l) d =
+        end-not-broken (before ++ (cs ∷ after)) rs (sym (whole-thens (before ++ (cs ∷ after))) ∙ sym (file-read file) ∙ w)
+
+    first-break : First s (length rs + 1) RecordBroken
+    first-break = record { applies = AppliesAt.broken (read-breaks rs s (w ∙ sym (broken-thens rs))); none-sooner = none-sooner-break }
+
+  -- one with a record that is refused
+  module _ (before : List Record) (cs : Record) (rest : Reading) {fault : Fault} (short : length s ≤ fileMost) (w : readingOf s ≡ thens before (cs then rest)) (clean : Clean before)
+      (applies : Applies before cs fault) (below : NoneBelow before cs (number fault)) where
+    wrong-sooner : {before′ : List Record} {cs′ : Record} {f : Fault} → RecordAt s before′ cs′ → Applies before′ cs′ f → Sooner (length before′ + 1) f (length before + 1) fault → ⊥
+    wrong-sooner {before′} {cs′} {f} at a d = go (among-records d (omega (arith, applies-within a .low)) (applies-within applies .high))
+      where
+        same : thens before (cs then rest) ≡ thens before′ (cs′ then record-read at .rest)
+        same = sym w ∙ record-read at .is
+
+        go : (length before′ + 1 < length before + 1) ⊎ ((length before′ + 1 ≡ length before + 1) × (number f < number fault)) → ⊥
+        go (inl h) = let p = shorter rest (record-read at .rest) before before′ cs cs′ same (omega arith) in clean before′ cs′ (p .after) (p .is) f a
+        go (inr (e, h)) = let p = as-long rest (record-read at .rest) before before′ cs cs′ same (omega arith) in below f h (rw (p .0, p .1) a)
+
+    none-sooner-wrong : (m : ℕ) (f : Fault) → AppliesAt s m f → Sooner m f (length before + 1) fault → ⊥
+    none-sooner-wrong m f (AppliesAt.too-long h) d = not-long short h
+    none-sooner-wrong m f (AppliesAt.broken {rs = rs′} b) d =
+        let p = split-read rest rs′ before cs at-break (sym (breaks-read rs′ s b ∙ broken-thens rs′) ∙ w) in
+        go (length (p .after)) (ap length (p .is) ∙ length-append before (cs ∷ p .after)) (among-records d (omega arith) (applies-within applies .high))
+      where
+        go : (k : ℕ) → length rs′ ≡ length before + suc k → (length rs′ + 1 < length before + 1) ⊎ ((length rs′ + 1 ≡ length before + 1) × (2 < number fault)) → ⊥
+        go k e (inl h) = omega arith
+        go k e (inr (h, _)) = omega arith
+    none-sooner-wrong m f (AppliesAt.wrong at a) d = wrong-sooner at a d
+    none-sooner-wrong m f (AppliesAt.missing _ _ _ _ _) d = not-after-all d refl (applies-within applies .high)
+
+    first-wrong : First s (length before + 1) fault
+    first-wrong = record { applies = AppliesAt.wrong (read-record s before cs rest w) applies; none-sooner = none-sooner-wrong }
+
+  -- one with a herd that lacks an input
+  module _ (before : List Record) (cs : Record) (after : List Record) (short : length s ≤ fileMost) (w : readingOf s ≡ thens (before ++ (cs ∷ after)) end) (clean : Clean (before ++ (cs ∷ after)))
+      (lacking : Lacks (before ++ (cs ∷ after)) cs) (whole : Each (λ r. Lacks (before ++ (cs ∷ after)) r → ⊥) before) where
+    none-sooner-missing : (m : ℕ) (f : Fault) → AppliesAt s m f → Sooner m f (length before + 1) InputMissing → ⊥
+    none-sooner-missing m f (AppliesAt.too-long h) d = not-long short h
+    none-sooner-missing m f (AppliesAt.broken b) d = none-broken (before ++ (cs ∷ after)) w b
+    none-sooner-missing m f (AppliesAt.wrong at a) d = none-wrong (before ++ (cs ∷ after)) at-end w clean at a
+    none-sooner-missing m f (AppliesAt.missing before′ cs′ after′ file l) d =
+        let e = same-records (before ++ (cs ∷ after)) w file in
+        let h = herds-before d refl in
+        at-split (split-list before before′ cs cs′ after after′ e (omega arith)) whole (rw (sym e) at l)
+
+    first-missing : First s (length before + 1) InputMissing
+    first-missing =
+        record {
+          applies = AppliesAt.missing before cs after (read-file (before ++ (cs ∷ after)) s (w ∙ sym (whole-thens (before ++ (cs ∷ after))))) lacking;
+          none-sooner = none-sooner-missing;
+        }
+
+-- ---- what is answered of a file
+
+pub data Outcome (s : List ℕ) : FileAnswer → Type 0 where
+  takes : {f : Farm} → ((m : ℕ) (other : Fault) → AppliesAt s m other → ⊥) → Outcome s (accepted f)
+  gives : {n : ℕ} {fault : Fault} → First s n fault → Outcome s (refused n fault)
+
+pub outcome : {s : List ℕ} {x : FileAnswer} → Answered s x → Outcome s x
+outcome {s} (too-long h) = gives (first-long s h)
+outcome {s} (read short r) = go r
+  where
+    go : {x : FileAnswer} → Ran (readingOf s) x → Outcome s x
+    go (accepts rs w clean _ whole) = takes (nothing-applies s rs short w clean whole)
+    go (breaks rs w clean) = gives (first-break s rs short w clean)
+    go (wrong before cs rest w clean a below) = gives (first-wrong s before cs rest short w clean a below)
+    go (missing before cs after w clean l whole) = gives (first-missing s before cs after short w clean l whole)
+
+-- ---- there is one first refusal
+
+data Order (m : ℕ) (f : Fault) (n : ℕ) (g : Fault) : Type 0 where
+  sooner : Sooner m f n g → Order m f n g
+  later : Sooner n g m f → Order m f n g
+  same : m ≡ n → f ≡ g → Order m f n g
+
+by-records : (m n : ℕ) (f g : Fault) → number f ≤ 11 → number g ≤ 11 → Order m f n g
+by-records m n f g h k = go (ltb m n) (ltb n m) refl refl
+  where
+    in-one : m ≡ n → Order m f n g
+    in-one e = pick′ (ltb (number f) (number g)) (ltb (number g) (number f)) refl refl
+      where
+        pick′ : (t u : Bool) → ltb (number f) (number g) ≡ t → ltb (number g) (number f) ≡ u → Order m f n g
+        pick′ true u et eu = sooner (subst (λ (i : ℕ). Sooner m f i g) e (in-that-order {fault = f} {other = g} (omega arith) (ltb-true (number f) (number g) et)))
+        pick′ false true et eu = later (subst (λ (i : ℕ). Sooner i g m f) e (in-that-order {fault = g} {other = f} (omega arith) (ltb-true (number g) (number f) eu)))
+        pick′ false false et eu =
+            let a = ltb-false (number f) (number g) et in
+            let b = ltb-false (number g) (number f) eu in
+            same e (one-fault f g (omega arith))
+
+    go : (t u : Bool) → ltb m n ≡ t → ltb n m ≡ u → Order m f n g
+    go true u et eu = sooner (from-the-front {fault = f} {other = g} (omega arith) (omega arith) (ltb-true m n et))
+    go false true et eu = later (from-the-front {fault = g} {other = f} (omega arith) (omega arith) (ltb-true n m eu))
+    go false false et eu = let a = ltb-false m n et in let b = ltb-false n m eu in in-one (omega arith)
+
+by-herds : (m n : ℕ) → Order m InputMissing n InputMissing
+by-herds m n = go (ltb m n) (ltb n m) refl refl
+  where
+    go : (t u : Bool) → ltb m n ≡ t → ltb n m ≡ u → Order m InputMissing n InputMissing
+    go true u et eu = sooner (first-herd (ltb-true m n et))
+    go false true et eu = later (first-herd (ltb-true n m eu))
+    go false false et eu = let a = ltb-false m n et in let b = ltb-false n m eu in same (omega arith) refl
+
+order : {m n : ℕ} {f g : Fault} → Rank m f → Rank n g → Order m f n g
+order before-all before-all = same refl refl
+order before-all (of-record {f = g} h _) = sooner (too-long-first {fault = g} (omega arith))
+order before-all after-all = sooner (too-long-first {fault = InputMissing} (omega arith))
+order (of-record {f = f} h _) before-all = later (too-long-first {fault = f} (omega arith))
+order {m} {n} {f} {g} (of-record _ h) (of-record _ k) = by-records m n f g h k
+order (of-record {f = f} _ h) after-all = sooner (then-missing {fault = f} (omega arith))
+order after-all before-all = later (too-long-first {fault = InputMissing} (omega arith))
+order after-all (of-record {f = g} _ h) = later (then-missing {fault = g} (omega arith))
+order {m} {n} after-all after-all = by-herds m n
+
+pub record One (m : ℕ) (f : Fault) (n : ℕ) (g : Fault) : Type 0 where
+  pub at-record : m ≡ n
+  pub fault : f ≡ g
+
+pub one-first : {s : List ℕ} {m n : ℕ} {f g : Fault} → First s m f → First s n g → One m f n g
+one-first {s} {m} {n} {f} {g} a b = go (order (rank (a .applies)) (rank (b .applies)))
+  where
+    go : Order m f n g → One m f n g
+    go (sooner d) = absurd (b .none-sooner m f (a .applies) d)
+    go (later d) = absurd (a .none-sooner n g (b .applies) d)
+    go (same p q) = record { at-record = p; fault = q }
+
+-- ---- the theorems
+
+module _ (s : List ℕ) (n : ℕ) (fault : Fault) where
+  refused-first : {x : FileAnswer} → Outcome s x → x ≡ refused n fault → First s n fault
+  refused-first (takes _) e = let c = ap (λ (a : FileAnswer). a .checked) e in let z : _≡_ {A = ℕ} 0 1 = cc in absurd (omega arith)
+  refused-first (gives {n = m} {fault = f} x) e =
+      let c = ap (λ (a : FileAnswer). a .checked) e in
+      let p : m ≡ n = cc in
+      let q : f ≡ fault = cc in
+      rw (p, q) at x
+
+  first-refused : {x : FileAnswer} → Outcome s x → First s n fault → x ≡ refused n fault
+  first-refused (takes none) x = absurd (none n fault (x .applies))
+  first-refused (gives {n = m} {fault = f} y) x =
+      let o = one-first y x in
+      ap (λ (k : ℕ). refused k f) (o .at-record) ∙ ap (refused n) (o .fault)
+
+  pub first-refusal : (readOf s ≡ refused n fault) ↔ First s n fault
+  first-refusal = (λ e. refused-first (outcome (answered s)) e, λ x. first-refused (outcome (answered s)) x)
+
+-- a file that keeps the rules, with the farm that it says
+pub record Taken (s : List ℕ) : Type 0 where
+  pub farm : Farm
+  pub keeps : KeepsRules s farm
+
+-- a file keeps the rules exactly where no refusal applies to it
+pub taken-exactly : (s : List ℕ) → Taken s ↔ ((m : ℕ) (other : Fault) → AppliesAt s m other → ⊥)
+taken-exactly s = (λ t. clear (outcome (answered s)) (accepts-exactly s (t .farm) .1 (t .keeps)), λ none. keep none (readOf s) refl (outcome (answered s)))
+  where
+    clear : {x : FileAnswer} {f : Farm} → Outcome s x → x ≡ accepted f → (m : ℕ) (other : Fault) → AppliesAt s m other → ⊥
+    clear (takes none) e = none
+    clear (gives _) e = let c = ap (λ (a : FileAnswer). a .checked) e in let z : _≡_ {A = ℕ} 0 1 = cc in absurd (omega arith)
+
+    keep : ((m : ℕ) (other : Fault) → AppliesAt s m other → ⊥) → (x : FileAnswer) → readOf s ≡ x → Outcome s x → Taken s
+    keep none x e (takes {f = f} _) = record { farm = f; keeps = accepts-exactly s f .0 e }
+    keep none x e (gives {n = n} {fault = f} y) = absurd (none n f (y .applies))

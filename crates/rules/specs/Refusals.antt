@@ -1,0 +1,99 @@
+-- 01, Refusal numbers: when each refusal applies, said of a file's records and not of how they are read, and which is the first.
+-- proofs/Refuses.antt shows that the reader gives exactly that one.
+use Prim.Native.Nat.{ℕ, _+_, _<_}
+use mathlib.Core.Path.{_≡_}
+use mathlib.Core.List.{List, [], _∷_, _++_}
+use lib.ListN.{length, getD}
+use Rattle.cut.specs.Total.{Each}
+use Rattle.csv.specs.Grammar.{FileOf, Front, Before, Breaks}
+use Rattle.inputs.specs.declared.Form.{Form}
+use Rattle.inputs.specs.declared.Form.the-variants.{NoStandard}
+use Rattle.inputs.specs.Inputs.{rows, kindAt, formAt}
+use Rattle.farm.specs.declared.Given.{Given}
+use Rattle.farm.specs.declared.Fault.{Fault}
+use Rattle.farm.specs.declared.Fault.the-variants.{FileTooLong, RecordBroken, NotFourFields, BadLabel, NotInTheList, StandardForbidden, BadValue, EarlierLabel, NoRoomForHerd, OtherKind, GivenAlready, InputMissing}
+use Rattle.farm.specs.Refusals.{number}
+use Rattle.rules.specs.Lists.{Some, Apart, Last}
+use Rattle.rules.specs.Rules.{Record, GoodLabel, Names, IsStandard, ValueIs, herdsMost, bytesMost}
+
+-- ---- a record's fields; one that is not there is empty
+
+abbrev pub labelIn : Record → List ℕ
+labelIn cs = getD cs 0 []
+
+abbrev pub valueIn : Record → List ℕ
+valueIn cs = getD cs 3 []
+
+-- the record names the input
+abbrev pub NamesInput : Record → ℕ → Type 0
+NamesInput cs input = Names (getD cs 1 []) (getD cs 2 []) input
+
+-- two records have one label
+abbrev pub SameLabel : Record → Record → Type 0
+SameLabel r cs = labelIn r ≡ labelIn cs
+
+-- ---- 3 to 11, of the record cs that stands behind these
+
+-- inp_n_excretion and tan_fraction of cattle or pigs
+pub data Forbids : Form → Type 0 where
+  forbids : {decimals most : ℕ} → Forbids (NoStandard decimals most)
+
+-- as many labels stand among the records as there may be herds
+pub record ManyLabels (rs : List Record) : Type 0 where
+  pub labels : List (List ℕ)
+  pub many : length labels ≡ herdsMost
+  pub apart : Apart labels
+  pub each : Each (λ label. Some (λ r. labelIn r ≡ label) rs) labels
+
+pub data Applies (before : List Record) (cs : Record) : Fault → Type 0 where
+  not-four-fields : (length cs ≡ 4 → ⊥) → Applies before cs NotFourFields
+  bad-label : (GoodLabel (labelIn cs) → ⊥) → Applies before cs BadLabel
+  not-in-the-list : ((input : ℕ) → NamesInput cs input → ⊥) → Applies before cs NotInTheList
+  standard-forbidden : {input : ℕ} → NamesInput cs input → Forbids (formAt input) → IsStandard (valueIn cs) → Applies before cs StandardForbidden
+  bad-value : {input : ℕ} → NamesInput cs input → ((given : Given) → ValueIs (formAt input) (valueIn cs) given → ⊥) → Applies before cs BadValue
+  earlier-label : Some (λ r. SameLabel r cs) before → ((r : Record) → Last before r → SameLabel r cs → ⊥) → Applies before cs EarlierLabel
+  no-room-for-herd : (Some (λ r. SameLabel r cs) before → ⊥) → ManyLabels before → Applies before cs NoRoomForHerd
+  other-kind : {r : Record} {i input : ℕ} → Last before r → SameLabel r cs → NamesInput r i → NamesInput cs input → (kindAt i ≡ kindAt input → ⊥)
+      → Applies before cs OtherKind
+  given-already : {input : ℕ} → NamesInput cs input → Some (λ r. SameLabel r cs × NamesInput r input) before → Applies before cs GivenAlready
+
+-- ---- 12
+
+-- the herd of the record cs lacks an input: there is one of its kind that no record of its label names
+pub record Lacks (rs : List Record) (cs : Record) : Type 0 where
+  pub named : ℕ
+  pub names : NamesInput cs named
+  pub input : ℕ
+  pub inside : input < length rows
+  pub kind : kindAt input ≡ kindAt named
+  pub lacking : Each (λ r. SameLabel r cs → NamesInput r input → ⊥) rs
+
+-- ---- a file's refusals
+
+-- the file has this record behind these
+pub record RecordAt (s : List ℕ) (before : List Record) (cs : Record) : Type 0 where
+  pub left : List ℕ
+  pub past : List ℕ
+  pub behind : Before before s left
+  pub front : Front cs left past
+
+-- the refusal applies to the file, with this record number; 12 with each record of a herd that lacks an input
+pub data AppliesAt (s : List ℕ) : ℕ → Fault → Type 0 where
+  too-long : bytesMost < length s → AppliesAt s 0 FileTooLong
+  broken : {rs : List Record} → Breaks rs s → AppliesAt s (length rs + 1) RecordBroken
+  wrong : {before : List Record} {cs : Record} {fault : Fault} → RecordAt s before cs → Applies before cs fault → AppliesAt s (length before + 1) fault
+  missing : (before : List Record) (cs : Record) (after : List Record) → FileOf (before ++ (cs ∷ after)) s → Lacks (before ++ (cs ∷ after)) cs
+      → AppliesAt s (length before + 1) InputMissing
+
+-- "1 comes before all; then records from the front, in each 2 to 11 in that order; then 12", which tells the first record of the first such herd
+pub data Sooner : ℕ → Fault → ℕ → Fault → Type 0 where
+  too-long-first : {m n : ℕ} {fault : Fault} → number FileTooLong < number fault → Sooner m FileTooLong n fault
+  from-the-front : {m n : ℕ} {fault other : Fault} → number fault < number InputMissing → number other < number InputMissing → m < n → Sooner m fault n other
+  in-that-order : {n : ℕ} {fault other : Fault} → number other < number InputMissing → number fault < number other → Sooner n fault n other
+  then-missing : {m n : ℕ} {fault : Fault} → number fault < number InputMissing → Sooner m fault n InputMissing
+  first-herd : {m n : ℕ} → m < n → Sooner m InputMissing n InputMissing
+
+-- the first refusal: it applies, and none that applies is sooner
+pub record First (s : List ℕ) (n : ℕ) (fault : Fault) : Type 0 where
+  pub applies : AppliesAt s n fault
+  pub none-sooner : (m : ℕ) (other : Fault) → AppliesAt s m other → Sooner m other n fault → ⊥
