@@ -57,12 +57,12 @@ file-read (FileOf.last {cs} r n) = reading-front (Front.last r n) ∙ ap (λ (x 
 file-read (FileOf.more {cs} r f) = reading-front (Front.ended r) ∙ ap (λ (x : Reading). cs then x) (file-read f)
 
 -- what a reading that begins with a record says of the front of the file
-record Begun (cs : List (List ℕ)) (X : Reading) (s : List ℕ) : Type 0 where
-  left : List ℕ
-  stands : Front cs s left
-  rest : readingOf left ≡ X
+pub record Begun (cs : List (List ℕ)) (X : Reading) (s : List ℕ) : Type 0 where
+  pub left : List ℕ
+  pub stands : Front cs s left
+  pub rest : readingOf left ≡ X
 
-begun : (s : List ℕ) {cs : List (List ℕ)} {X : Reading} → readingOf s ≡ cs then X → Begun cs X s
+pub begun : (s : List ℕ) {cs : List (List ℕ)} {X : Reading} → readingOf s ≡ cs then X → Begun cs X s
 begun [] {cs} {X} e = let d : end ≡ cs then X = sym reading-none ∙ e in let z : _≡_ {A = ℕ} 0 1 = cc in absurd (omega arith)
 begun (b ∷ u) {cs} {X} e = go (atStart (b ∷ u)) refl
   where

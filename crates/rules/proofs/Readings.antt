@@ -6,9 +6,8 @@ use native.Mathlib.Omega.{arith}
 use lib.ListN.{length}
 use Rattle.cut.specs.Total.{Each, more}
 use Rattle.csv.specs.Grammar.{Front, Before}
-use Rattle.csv.specs.Reading.{Row, row, atStart, Reading, _then_, end, broken, whole, brokenAfter, readingOf}
-use Rattle.csv.proofs.Agrees.{read-stands}
-use Rattle.csv.proofs.Files.{reading-row, reading-broken, reading-none, reading-front}
+use Rattle.csv.specs.Reading.{Reading, _then_, end, broken, whole, brokenAfter, readingOf}
+use Rattle.csv.proofs.Files.{reading-none, reading-front, begun}
 use Rattle.rules.specs.Rules.{Record}
 use Rattle.rules.specs.Refusals.{RecordAt}
 use Rattle.rules.proofs.Lists.{each-back}
@@ -33,24 +32,6 @@ broken-thens [] = refl
 broken-thens (cs ∷ rs) = ap (λ (x : Reading). cs then x) (broken-thens rs)
 
 -- ---- a file's records, by the grammar and as they are read
-
-record Begun (cs : Record) (x : Reading) (s : List ℕ) : Type 0 where
-  left : List ℕ
-  stands : Front cs s left
-  rest : readingOf left ≡ x
-
-begun : (s : List ℕ) {cs : Record} {x : Reading} → readingOf s ≡ cs then x → Begun cs x s
-begun [] {cs} {x} e = let d : end ≡ cs then x = sym reading-none ∙ e in let z : _≡_ {A = ℕ} 0 1 = cc in absurd (omega arith)
-begun (b ∷ u) {cs} {x} e = go (atStart (b ∷ u)) refl
-  where
-    go : (r : Row) → atStart (b ∷ u) ≡ r → Begun cs x (b ∷ u)
-    go (row c ds v) q =
-        let d : ((c ∷ ds) then readingOf v) ≡ (cs then x) = sym (reading-row b u q) ∙ e in
-        let h : _≡_ {A = Record} (c ∷ ds) cs = cc in
-        record { left = v; stands = rw h at (read-stands b u q); rest = cc }
-    go Row.broken q =
-        let d : broken ≡ (cs then x) = sym (reading-broken b u q) ∙ e in
-        let z : _≡_ {A = ℕ} 0 1 = cc in absurd (omega arith)
 
 before-read : {rs : List Record} {s left : List ℕ} → Before rs s left → readingOf s ≡ thens rs (readingOf left)
 before-read Before.none = refl
