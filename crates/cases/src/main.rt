@@ -1,0 +1,47 @@
+// The vectors of the second implementation, run through the library: standard input has files one after the other, each behind its length in
+// four bytes, the lowest first, and each one's answer is printed as the program prints it. The expected output is what the second
+// implementation gives.
+use libc::STDIN_FILENO;
+ghost use Prim.Native.Nat.{_≤_};
+
+// Longer than any file of the vectors.
+const FILE_MOST: usize = 66000;
+
+const LENGTH_BYTES: usize = 4;
+
+fn wide(b: u8) -> usize
+    ensures { λ r. ⌜ r ≤ 255 ⌝ }
+{
+    b as usize
+}
+
+fn length_of(head: &[u8; LENGTH_BYTES]) -> usize {
+    let low = wide(head[0]) + 256 * wide(head[1]);
+    let high = wide(head[2]) + 256 * wide(head[3]);
+    low + 65536 * high
+}
+
+// One file, if there is one more.
+fn run_one(file: &mut [u8]) -> bool {
+    let mut head = [0u8; LENGTH_BYTES];
+    if io::read_full(STDIN_FILENO, &mut head) < LENGTH_BYTES {
+        return false;
+    }
+    let n = length_of(&head);
+    if file.len() < n {
+        return false;
+    }
+    if io::read_full(STDIN_FILENO, &mut file[..n]) < n {
+        return false;
+    }
+    printing::print_file(base::part_of(file, 0, n));
+    true
+}
+
+fn main() {
+    let mut file = [0u8; FILE_MOST];
+    let mut turns = u64::MAX;
+    while turns > 0 && run_one(&mut file) {
+        turns -= 1;
+    }
+}
