@@ -1,12 +1,12 @@
 -- What the line of a refusal is made of, and that it is short.
 -- Assumes nothing.
-use mathlib.Core.Path.{_≡_, ap, _∙_}
-use mathlib.Core.List.{List, [], _∷_, _++_}
-use Prim.Native.Nat.{ℕ, _+_, _≤_, _<_, _^_}
+use mathlib.Core.Path.{_≡_}
+use mathlib.Core.List.{[], _∷_, _++_}
+use Prim.Native.Nat.{ℕ, _≤_, _<_, _^_}
 use native.Mathlib.Omega.{arith}
 use lib.ListN.{length}
 use Rattle.base.specs.Text.{bytes}
-use Rattle.decimal.specs.Writing.{wholeOf, width}
+use Rattle.decimal.specs.Writing.{wholeOf}
 use Rattle.decimal.proofs.Widths.{whole-length}
 use Rattle.decimal.proofs.Kilograms.{whole-short}
 use Rattle.farm.specs.declared.Fault.{Fault}
