@@ -1,0 +1,738 @@
+// The yardstick of the benchmark: Urvendlo's job in plain C, written for speed. A farm file on standard input; its listing, or its refusal,
+// on standard output, in the same bytes.
+//
+//   peer           one farm file
+//   peer cases     farm files one after the other, each behind its length in four bytes, the lowest first
+//   peer repeat    a mode, how often in eight digits, and a farm file: repeats the work inside the process and prints one checksum,
+//                  as the program `repeat` does. The mode is w for the whole job, r for reading alone, l for listing alone
+#include <stdint.h>
+#include <stdio.h>
+#include <stdlib.h>
+#include <string.h>
+#include <unistd.h>
+
+enum { FILE_MOST = 65536, HERDS_MOST = 64, SLOTS = 9, LABEL_MOST = 16 };
+
+// ---- the farm
+
+enum kind { ROUGHAGE, CATTLE, PIGS };
+
+// The slots of each kind, in the order of 01's list.
+enum { R_CATEGORY, R_ANIMALS, R_EXCRETION, R_TAN, R_FREE, R_DAYS, R_HOURS };
+enum { C_ANIMALS, C_EXCRETION, C_TAN, C_YARD_DAYS, C_YARD, C_FLOOR, C_FREE, C_DAYS, C_HOURS };
+enum { P_ANIMALS, P_EXCRETION, P_TAN, P_HOUSING };
+
+static const uint16_t all_given[] = {0x7f, 0x1ff, 0xf};
+
+static const uint32_t STANDARD = UINT32_MAX;
+
+struct herd {
+    uint64_t label[2]; // the bytes of the label, zeros behind them
+    uint32_t label_length;
+    uint16_t kind;
+    uint16_t given; // a bit for each slot
+    uint32_t values[SLOTS];
+    uint32_t first_record;
+};
+
+struct farm {
+    uint32_t count;
+    struct herd herds[HERDS_MOST];
+};
+
+struct refusal {
+    uint32_t number; // 0: accepted
+    uint32_t record;
+};
+
+// ---- the list of inputs
+
+enum form { NUMBER, OR_STANDARD, NO_STANDARD, CATEGORY, YARD, FLOOR, HOUSING };
+
+struct input {
+    uint8_t kind, slot, form, decimals;
+    uint32_t most;
+};
+
+static const struct input inputs[] = {
+    {ROUGHAGE, R_CATEGORY, CATEGORY, 0, 0},
+    {ROUGHAGE, R_ANIMALS, NUMBER, 0, 10000},
+    {ROUGHAGE, R_EXCRETION, OR_STANDARD, 3, 200000},
+    {ROUGHAGE, R_TAN, OR_STANDARD, 2, 10000},
+    {ROUGHAGE, R_FREE, NUMBER, 0, 100},
+    {ROUGHAGE, R_DAYS, NUMBER, 0, 365},
+    {ROUGHAGE, R_HOURS, NUMBER, 1, 240},
+    {CATTLE, C_ANIMALS, NUMBER, 0, 10000},
+    {CATTLE, C_EXCRETION, NO_STANDARD, 3, 200000},
+    {CATTLE, C_TAN, NO_STANDARD, 2, 10000},
+    {CATTLE, C_YARD_DAYS, NUMBER, 0, 365},
+    {CATTLE, C_YARD, YARD, 0, 0},
+    {CATTLE, C_FLOOR, FLOOR, 0, 0},
+    {CATTLE, C_FREE, NUMBER, 0, 100},
+    {CATTLE, C_DAYS, NUMBER, 0, 365},
+    {CATTLE, C_HOURS, NUMBER, 1, 240},
+    {PIGS, P_ANIMALS, NUMBER, 0, 10000},
+    {PIGS, P_EXCRETION, NO_STANDARD, 3, 200000},
+    {PIGS, P_TAN, NO_STANDARD, 2, 10000},
+    {PIGS, P_HOUSING, HOUSING, 0, 0},
+};
+
+enum { AT_ROUGHAGE = 0, AT_CATTLE = 7, AT_PIGS = 16 };
+
+struct text {
+    const uint8_t *at;
+    size_t length;
+};
+
+// Is the text this literal? Its length is known already.
+#define IS(t, literal) (memcmp((t).at, literal, sizeof literal - 1) == 0)
+
+static int excretion_input(struct text name) {
+    switch (name.length) {
+    case 7: return IS(name, "animals") ? C_ANIMALS : -1;
+    case 15: return IS(name, "inp_n_excretion") ? C_EXCRETION : -1;
+    case 12: return IS(name, "tan_fraction") ? C_TAN : -1;
+    default: return -1;
+    }
+}
+
+static int days_input(struct text name) {
+    switch (name.length) {
+    case 12: return IS(name, "grazing_days") ? 0 : -1;
+    case 13: return IS(name, "grazing_hours") ? 1 : -1;
+    default: return -1;
+    }
+}
+
+static int outdoor_input(struct text name) {
+    switch (name.length) {
+    case 9: return IS(name, "yard_days") ? C_YARD_DAYS : -1;
+    case 12: return IS(name, "grazing_days") ? C_DAYS : -1;
+    case 13:
+        if (IS(name, "exercise_yard")) return C_YARD;
+        return IS(name, "grazing_hours") ? C_HOURS : -1;
+    case 22: return IS(name, "free_correction_factor") ? C_FREE : -1;
+    case 30: return IS(name, "floor_properties_exercise_yard") ? C_FLOOR : -1;
+    default: return -1;
+    }
+}
+
+static int offset(int found, int by) { return found < 0 ? -1 : found + by; }
+
+// The place of an input in the list, or -1.
+static int find_input(struct text path, struct text name) {
+    switch (path.length) {
+    case 39:
+        if (IS(path, "Livestock::RoughageConsuming::Excretion")) {
+            if (name.length == 14) return IS(name, "animalcategory") ? AT_ROUGHAGE + R_CATEGORY : -1;
+            return offset(excretion_input(name), AT_ROUGHAGE + R_ANIMALS);
+        }
+        if (name.length == 12 && IS(path, "Livestock::FatteningPigs::Housing::Type") && IS(name, "housing_type")) return AT_PIGS + P_HOUSING;
+        return -1;
+    case 50:
+        if (name.length == 22 && IS(path, "Livestock::RoughageConsuming::Housing::CFreeFactor") && IS(name, "free_correction_factor"))
+            return AT_ROUGHAGE + R_FREE;
+        return -1;
+    case 37: return IS(path, "Livestock::RoughageConsuming::Grazing") ? offset(days_input(name), AT_ROUGHAGE + R_DAYS) : -1;
+    case 33: return IS(path, "Livestock::OtherCattle::Excretion") ? offset(excretion_input(name), AT_CATTLE) : -1;
+    case 31: return IS(path, "Livestock::OtherCattle::Outdoor") ? offset(outdoor_input(name), AT_CATTLE) : -1;
+    case 35: return IS(path, "Livestock::FatteningPigs::Excretion") ? offset(excretion_input(name), AT_PIGS) : -1;
+    default: return -1;
+    }
+}
+
+// ---- values
+
+static int find_category(struct text t) {
+    switch (t.length) {
+    case 11: return IS(t, "fallow_deer") ? 0 : -1;
+    case 8: return IS(t, "red_deer") ? 1 : -1;
+    case 6: return IS(t, "wapiti") ? 2 : -1;
+    case 20: return IS(t, "bison_older_than_3yr") ? 3 : -1;
+    case 22: return IS(t, "bison_younger_than_3yr") ? 4 : -1;
+    case 19: return IS(t, "lama_older_than_2yr") ? 5 : -1;
+    case 21:
+        if (IS(t, "lama_younger_than_2yr")) return 6;
+        return IS(t, "alpaca_older_than_2yr") ? 7 : -1;
+    case 23: return IS(t, "alpaca_younger_than_2yr") ? 8 : -1;
+    case 15: return IS(t, "rabbit_doe_kits") ? 9 : -1;
+    case 12: return IS(t, "rabbit_young") ? 10 : -1;
+    default: return -1;
+    }
+}
+
+static int find_yard(struct text t) {
+    switch (t.length) {
+    case 13: return IS(t, "not_available") ? 0 : -1;
+    case 55: return IS(t, "available_roughage_is_not_supplied_in_the_exercise_yard") ? 1 : -1;
+    case 58: return IS(t, "available_roughage_is_partly_supplied_in_the_exercise_yard") ? 2 : -1;
+    case 63: return IS(t, "available_roughage_is_exclusively_supplied_in_the_exercise_yard") ? 3 : -1;
+    default: return -1;
+    }
+}
+
+static int find_floor(struct text t) {
+    switch (t.length) {
+    case 11: return IS(t, "solid_floor") ? 0 : -1;
+    case 13: return IS(t, "unpaved_floor") ? 1 : -1;
+    case 16: return IS(t, "perforated_floor") ? 2 : -1;
+    case 40: return IS(t, "paddock_or_pasture_used_as_exercise_yard") ? 3 : -1;
+    default: return -1;
+    }
+}
+
+enum { OUTDOOR_PIGS = 4 };
+
+static int find_housing(struct text t) {
+    switch (t.length) {
+    case 19: return IS(t, "Slurry_Conventional") ? 0 : -1;
+    case 12: return IS(t, "Slurry_Label") ? 1 : -1;
+    case 17: return IS(t, "Slurry_Label_Open") ? 2 : -1;
+    case 11: return IS(t, "Deep_Litter") ? 3 : -1;
+    case 7: return IS(t, "Outdoor") ? OUTDOOR_PIGS : -1;
+    default: return -1;
+    }
+}
+
+static int is_standard(struct text t) {
+    if (t.length != 8) return 0;
+    for (size_t i = 0; i < 8; i++) {
+        if ((t.at[i] | 32) != (uint8_t)"standard"[i]) return 0;
+    }
+    return 1;
+}
+
+// A number in units of its last decimal, or -1.
+static int64_t find_number(struct text t, uint32_t decimals, uint32_t most) {
+    const uint8_t *p = t.at, *end = t.at + t.length;
+    if (p == end || *p < '0' || *p > '9') return -1;
+    uint64_t n = *p++ - '0';
+    if (n == 0) {
+        if (p != end && *p != '.') return -1;
+    } else {
+        while (p != end && *p >= '0' && *p <= '9') {
+            n = n * 10 + (*p++ - '0');
+            if (n > most) return -1;
+        }
+    }
+    if (p != end) {
+        if (*p++ != '.' || p == end || (size_t)(end - p) > decimals) return -1;
+        do {
+            if (*p < '0' || *p > '9') return -1;
+            n = n * 10 + (*p++ - '0');
+            decimals--;
+        } while (p != end);
+    }
+    while (decimals-- > 0) n *= 10;
+    return n <= most ? (int64_t)n : -1;
+}
+
+// The value of an input, or the number of the refusal, 6 or 7.
+static uint32_t read_value(const struct input *input, struct text t, uint32_t *value) {
+    int64_t found;
+    switch (input->form) {
+    case OR_STANDARD:
+        if (is_standard(t)) {
+            *value = STANDARD;
+            return 0;
+        }
+        break;
+    case NO_STANDARD:
+        if (is_standard(t)) return 6;
+        break;
+    default: break;
+    }
+    switch (input->form) {
+    case CATEGORY: found = find_category(t); break;
+    case YARD: found = find_yard(t); break;
+    case FLOOR: found = find_floor(t); break;
+    case HOUSING: found = find_housing(t); break;
+    default: found = find_number(t, input->decimals, input->most);
+    }
+    if (found < 0) return 7;
+    *value = (uint32_t)found;
+    return 0;
+}
+
+// ---- the file
+
+// The bytes that end a stretch of an unquoted field.
+static const uint8_t ends_plain[256] = {[','] = 1, ['\r'] = 1, ['\n'] = 1, ['"'] = 1};
+
+// Reads the record at p; answers where the next one starts, or a null pointer where it breaks RFC 4180.
+static const uint8_t *read_record(const uint8_t *p, const uint8_t *end, struct text fields[4], size_t *count) {
+    size_t n = 0;
+    for (;;) {
+        const uint8_t *from = p, *to;
+        if (p != end && *p == '"') {
+            from = ++p;
+            for (;;) {
+                p = memchr(p, '"', (size_t)(end - p));
+                if (!p) return NULL;
+                to = p++;
+                if (p == end || *p != '"') break;
+                p++;
+            }
+            if (p != end && *p != ',' && *p != '\r') return NULL;
+        } else {
+            while (p != end && !ends_plain[*p]) p++;
+            to = p;
+        }
+        if (n < 4) fields[n] = (struct text){from, (size_t)(to - from)};
+        n++;
+        if (p == end) break;
+        if (*p == ',') {
+            p++;
+            continue;
+        }
+        if (*p != '\r' || ++p == end || *p != '\n') return NULL;
+        p++;
+        break;
+    }
+    *count = n;
+    return p;
+}
+
+static int is_good_label(struct text t) {
+    if (t.length < 1 || t.length > LABEL_MOST) return 0;
+    for (size_t i = 0; i < t.length; i++) {
+        uint8_t b = t.at[i];
+        if (b < 32 || b > 126 || b == '"') return 0;
+    }
+    return 1;
+}
+
+static int has_label(const struct herd *herd, const uint64_t label[2], size_t length) {
+    return herd->label[0] == label[0] && herd->label[1] == label[1] && herd->label_length == length;
+}
+
+static struct refusal refused(uint32_t number, uint32_t record) { return (struct refusal){number, record}; }
+
+static struct refusal accepted(void) { return refused(0, 0); }
+
+static __attribute__((noinline)) struct refusal read_farm(const uint8_t *file, size_t length, struct farm *farm) {
+    farm->count = 0;
+    if (length > FILE_MOST) return refused(1, 0);
+    const uint8_t *p = file, *end = file + length;
+    struct herd *herd = NULL;
+    for (uint32_t record = 1; p != end; record++) {
+        struct text fields[4];
+        size_t count;
+        p = read_record(p, end, fields, &count);
+        if (!p) return refused(2, record);
+        if (count != 4) return refused(3, record);
+        if (!is_good_label(fields[0])) return refused(4, record);
+        int place = find_input(fields[1], fields[2]);
+        if (place < 0) return refused(5, record);
+        const struct input *input = &inputs[place];
+        uint32_t value;
+        uint32_t number = read_value(input, fields[3], &value);
+        if (number) return refused(number, record);
+        uint64_t label[2] = {0, 0};
+        memcpy(label, fields[0].at, fields[0].length);
+        if (!herd || !has_label(herd, label, fields[0].length)) {
+            for (uint32_t i = 0; i < farm->count; i++) {
+                if (has_label(&farm->herds[i], label, fields[0].length)) return refused(8, record);
+            }
+            if (farm->count == HERDS_MOST) return refused(9, record);
+            herd = &farm->herds[farm->count++];
+            herd->label[0] = label[0];
+            herd->label[1] = label[1];
+            herd->label_length = (uint32_t)fields[0].length;
+            herd->kind = input->kind;
+            herd->given = 0;
+            herd->first_record = record;
+        }
+        if (herd->kind != input->kind) return refused(10, record);
+        uint16_t bit = (uint16_t)(1u << input->slot);
+        if (herd->given & bit) return refused(11, record);
+        herd->given |= bit;
+        herd->values[input->slot] = value;
+    }
+    for (uint32_t i = 0; i < farm->count; i++) {
+        const struct herd *h = &farm->herds[i];
+        if (h->given != all_given[h->kind]) return refused(12, h->first_record);
+    }
+    return accepted();
+}
+
+// ---- figures, in grams
+
+struct figures {
+    int64_t n, tan;
+    int64_t n_yard, tan_yard, nh3_yard;
+    int64_t n_pasture, tan_pasture, nh3_pasture, n2_pasture, no_pasture, n2o_pasture, n_remain, tan_remain;
+    int64_t n_housing, tan_housing, nh3_housing;
+};
+
+static const uint32_t standards[] = {20000, 40000, 80000, 60000, 20000, 17000, 11000, 11000, 7000, 2600, 790};
+
+// exp(0.0403 x hours) in billionths, by the series' terms 0 to 20, for each tenth of an hour (2.87).
+static const uint32_t k[241] = {
+    1000000000, 1004038131, 1008092569, 1012163379, 1016250628, 1020354382, 1024474707, 1028611670, 1032765339, 1036935781, 1041123064, 1045327256,
+    1049548425, 1053786639, 1058041968, 1062314481, 1066604246, 1070911334, 1075235815, 1079577758, 1083937235, 1088314316, 1092709072, 1097121575,
+    1101551896, 1106000107, 1110466281, 1114950490, 1119452806, 1123973304, 1128512056, 1133069135, 1137644617, 1142238576, 1146851085, 1151482221,
+    1156132057, 1160800670, 1165488136, 1170194530, 1174919929, 1179664410, 1184428050, 1189210926, 1194013116, 1198834698, 1203675750, 1208536351,
+    1213416579, 1218316515, 1223236237, 1228175826, 1233135361, 1238114924, 1243114594, 1248134454, 1253174585, 1258235069, 1263315987, 1268417423,
+    1273539459, 1278682179, 1283845666, 1289030003, 1294235276, 1299461568, 1304708964, 1309977550, 1315267412, 1320578634, 1325911304, 1331265509,
+    1336641334, 1342038867, 1347458196, 1352899409, 1358362595, 1363847841, 1369355238, 1374884875, 1380436840, 1386011226, 1391608121, 1397227617,
+    1402869806, 1408534779, 1414222627, 1419933444, 1425667322, 1431424354, 1437204633, 1443008254, 1448835311, 1454685899, 1460560111, 1466458045,
+    1472379795, 1478325458, 1484295131, 1490288909, 1496306892, 1502349175, 1508415859, 1514507040, 1520622819, 1526763293, 1532928564, 1539118731,
+    1545333895, 1551574156, 1557839616, 1564130377, 1570446541, 1576788211, 1583155488, 1589548478, 1595967284, 1602412009, 1608882760, 1615379640,
+    1621902755, 1628452211, 1635028115, 1641630573, 1648259693, 1654915583, 1661598349, 1668308101, 1675044949, 1681809000, 1688600366, 1695419156,
+    1702265481, 1709139453, 1716041183, 1722970782, 1729928365, 1736914043, 1743927930, 1750970140, 1758040787, 1765139987, 1772267854, 1779424505,
+    1786610055, 1793824621, 1801068320, 1808341271, 1815643590, 1822975398, 1830336812, 1837727952, 1845148939, 1852599893, 1860080935, 1867592186,
+    1875133768, 1882705805, 1890308418, 1897941732, 1905605870, 1913300957, 1921027117, 1928784477, 1936573162, 1944393299, 1952245015, 1960128437,
+    1968043693, 1975990912, 1983970223, 1991981755, 2000025639, 2008102005, 2016210985, 2024352710, 2032527312, 2040734924, 2048975680, 2057249713,
+    2065557158, 2073898149, 2082272822, 2090681313, 2099123759, 2107600296, 2116111063, 2124656198, 2133235839, 2141850125, 2150499197, 2159183196,
+    2167902261, 2176656535, 2185446160, 2194271279, 2203132035, 2212028571, 2220961033, 2229929566, 2238934314, 2247975425, 2257053045, 2266167322,
+    2275318403, 2284506438, 2293731575, 2302993964, 2312293756, 2321631102, 2331006154, 2340419063, 2349869982, 2359359066, 2368886468, 2378452343,
+    2388056846, 2397700133, 2407382361, 2417103687, 2426864270, 2436664266, 2446503837, 2456383141, 2466302338, 2476261591, 2486261061, 2496300910,
+    2506381301, 2516502398, 2526664365, 2536867368, 2547111571, 2557397142, 2567724248, 2578093056, 2588503734, 2598956452, 2609451380, 2619988687,
+    2630568546,
+};
+
+// Rates in ten-thousandths. There is no N2 from pasture.
+static void pasture(struct figures *f, uint64_t nh3_rate, uint64_t n2o_rate) {
+    f->nh3_pasture = (int64_t)((uint64_t)f->tan_pasture * nh3_rate / 10000);
+    f->n2_pasture = 0;
+    f->no_pasture = (int64_t)((uint64_t)f->n_pasture * 55 / 10000);
+    f->n2o_pasture = (int64_t)((uint64_t)f->n_pasture * n2o_rate / 10000);
+    int64_t lost = f->nh3_pasture + f->no_pasture + f->n2o_pasture;
+    f->n_remain = f->n_pasture - lost;
+    f->tan_remain = f->tan_pasture - lost;
+}
+
+// The roughage housing's emission rate in billionths (2.85, 2.87).
+static uint64_t housing_rate(uint64_t days, uint64_t hours, uint64_t free) {
+    const uint64_t one = 1000000000;
+    uint64_t c = one;
+    if (days * hours < 87600) c = ((365 - days) * 240 * one + days * (240 - hours) * k[hours]) / (87600 - days * hours);
+    uint64_t rate = c * 275 / 1000 * (100 - free) / 100;
+    return rate < one ? rate : one;
+}
+
+static void roughage(const uint32_t *v, struct figures *f) {
+    uint64_t a_head = v[R_EXCRETION] == STANDARD ? standards[v[R_CATEGORY]] : v[R_EXCRETION];
+    uint64_t fraction = v[R_TAN] == STANDARD ? 4000 : v[R_TAN];
+    uint64_t n = v[R_ANIMALS] * a_head, tan = n * fraction / 10000;
+    uint64_t out = (uint64_t)v[R_DAYS] * v[R_HOURS];
+    f->n = (int64_t)n;
+    f->tan = (int64_t)tan;
+    f->n_yard = f->tan_yard = f->nh3_yard = 0;
+    f->n_pasture = (int64_t)(n * out / 87600);
+    f->tan_pasture = (int64_t)(tan * out / 87600);
+    pasture(f, 1250, 100);
+    f->n_housing = f->n - f->n_pasture;
+    f->tan_housing = f->tan - f->tan_pasture;
+    f->nh3_housing = (int64_t)((uint64_t)f->tan_housing * housing_rate(v[R_DAYS], v[R_HOURS], v[R_FREE]) / 1000000000);
+}
+
+static const uint8_t yard_tenths[] = {0, 1, 2, 6};
+static const uint8_t floor_hundredths[] = {100, 50, 25, 10};
+
+static void cattle(const uint32_t *v, struct figures *f) {
+    uint64_t n = (uint64_t)v[C_ANIMALS] * v[C_EXCRETION], tan = n * v[C_TAN] / 10000;
+    uint64_t days = v[C_DAYS], yard_days = v[C_YARD_DAYS];
+    uint64_t both = days + yard_days > 365 ? days + yard_days - 365 : 0;
+    uint64_t share = yard_tenths[v[C_YARD]], share_on_both = share > 2 ? 2 : share;
+    uint64_t yard = share * (yard_days - both) + share_on_both * both;
+    uint64_t out = v[C_HOURS] * (10 * (days - both) + (10 - share_on_both) * both);
+    f->n = (int64_t)n;
+    f->tan = (int64_t)tan;
+    f->n_yard = (int64_t)(n * yard / 3650);
+    f->tan_yard = (int64_t)(tan * yard / 3650);
+    f->nh3_yard = (int64_t)((uint64_t)f->tan_yard * 7 * floor_hundredths[v[C_FLOOR]] * (100 - v[C_FREE]) / 100000);
+    f->n_pasture = (int64_t)(n * out / 876000);
+    f->tan_pasture = (int64_t)(tan * out / 876000);
+    pasture(f, 830, 200);
+    f->n_housing = f->n - f->n_yard - f->n_pasture;
+    f->tan_housing = f->tan - f->tan_yard - f->tan_pasture;
+    f->nh3_housing = 0;
+}
+
+static void pigs(const uint32_t *v, struct figures *f) {
+    uint64_t n = (uint64_t)v[P_ANIMALS] * v[P_EXCRETION], tan = n * v[P_TAN] / 10000;
+    int outdoor = v[P_HOUSING] == OUTDOOR_PIGS;
+    f->n = (int64_t)n;
+    f->tan = (int64_t)tan;
+    f->n_yard = f->tan_yard = f->nh3_yard = 0;
+    f->n_pasture = outdoor ? f->n : 0;
+    f->tan_pasture = outdoor ? f->tan : 0;
+    pasture(f, 2000, 200);
+    f->n_housing = f->n - f->n_pasture;
+    f->tan_housing = f->tan - f->tan_pasture;
+    f->nh3_housing = 0;
+}
+
+static void figures_of(const struct herd *herd, struct figures *f) {
+    switch (herd->kind) {
+    case ROUGHAGE: roughage(herd->values, f); break;
+    case CATTLE: cattle(herd->values, f); break;
+    default: pigs(herd->values, f);
+    }
+}
+
+// ---- the listing
+
+static const char pairs[] = "00010203040506070809101112131415161718192021222324252627282930313233343536373839404142434445464748495051525354555657585960616263646566"
+                            "676869707172737475767778798081828384858687888990919293949596979899";
+
+static uint8_t *put_whole(uint8_t *out, uint64_t n) {
+    uint8_t digits[20], *p = digits + sizeof digits;
+    while (n >= 100) {
+        p -= 2;
+        memcpy(p, pairs + n % 100 * 2, 2);
+        n /= 100;
+    }
+    if (n >= 10) {
+        p -= 2;
+        memcpy(p, pairs + n * 2, 2);
+    } else {
+        *--p = (uint8_t)('0' + n);
+    }
+    size_t length = (size_t)(digits + sizeof digits - p);
+    memcpy(out, p, length);
+    return out + length;
+}
+
+// Kilograms with three decimals, and the record's end.
+static uint8_t *put_grams(uint8_t *out, int64_t grams) {
+    uint64_t g = (uint64_t)grams;
+    if (grams < 0) {
+        *out++ = '-';
+        g = -g;
+    }
+    uint64_t rest = g % 1000;
+    out = put_whole(out, g / 1000);
+    out[0] = '.';
+    out[1] = (uint8_t)('0' + rest / 100);
+    memcpy(out + 2, pairs + rest % 100 * 2, 2);
+    out[4] = '\r';
+    out[5] = '\n';
+    return out + 6;
+}
+
+// Room for a label of 16 bytes in quotes.
+enum { LABEL_ROOM = 24 };
+
+// A line: the label as it is printed, the module and the name between commas, the amount. More bytes than the label has are copied, in few
+// moves, and the rest written over.
+#define LINE(literal, grams)                              \
+    do {                                                  \
+        memcpy(out, label, LABEL_ROOM);                   \
+        out += length;                                    \
+        memcpy(out, literal, sizeof literal - 1);         \
+        out = put_grams(out + sizeof literal - 1, grams); \
+    } while (0)
+
+static size_t printed_label(const struct herd *herd, uint8_t label[LABEL_ROOM]) {
+    size_t length = herd->label_length;
+    memset(label, 0, LABEL_ROOM);
+    if (!memchr(herd->label, ',', length)) {
+        memcpy(label, herd->label, LABEL_MOST);
+        return length;
+    }
+    label[0] = '"';
+    memcpy(label + 1, herd->label, LABEL_MOST);
+    label[length + 1] = '"';
+    return length + 2;
+}
+
+#define GRAZING(module)                                          \
+    do {                                                         \
+        LINE("," module ",n_into_grazing,", f->n_pasture);       \
+        LINE("," module ",tan_into_grazing,", f->tan_pasture);   \
+        LINE("," module ",nh3_ngrazing,", f->nh3_pasture);       \
+        LINE("," module ",n2_ngrazing,", f->n2_pasture);         \
+        LINE("," module ",no_ngrazing,", f->no_pasture);         \
+        LINE("," module ",n2o_ngrazing,", f->n2o_pasture);       \
+        LINE("," module ",n_remain_grazing,", f->n_remain);      \
+        LINE("," module ",tan_remain_grazing,", f->tan_remain);  \
+    } while (0)
+
+static uint8_t *list_roughage(uint8_t *out, const uint8_t *label, size_t length, const struct figures *f) {
+    LINE(",Livestock::RoughageConsuming::Excretion,n_excretion,", f->n);
+    LINE(",Livestock::RoughageConsuming::Excretion,tan_excretion,", f->tan);
+    GRAZING("Livestock::RoughageConsuming::Grazing");
+    LINE(",Livestock::RoughageConsuming::Housing,n_into_housing,", f->n_housing);
+    LINE(",Livestock::RoughageConsuming::Housing,tan_into_housing,", f->tan_housing);
+    LINE(",Livestock::RoughageConsuming::Housing,nh3_nhousing,", f->nh3_housing);
+    LINE(",Livestock::RoughageConsuming::Housing,n_outhousing,", f->n_housing - f->nh3_housing);
+    LINE(",Livestock::RoughageConsuming::Housing,tan_outhousing,", f->tan_housing - f->nh3_housing);
+    return out;
+}
+
+static uint8_t *list_cattle(uint8_t *out, const uint8_t *label, size_t length, const struct figures *f) {
+    LINE(",Livestock::OtherCattle::Excretion,n_excretion,", f->n);
+    LINE(",Livestock::OtherCattle::Excretion,tan_excretion,", f->tan);
+    LINE(",Livestock::OtherCattle::Yard,n_into_yard,", f->n_yard);
+    LINE(",Livestock::OtherCattle::Yard,tan_into_yard,", f->tan_yard);
+    LINE(",Livestock::OtherCattle::Yard,nh3_nyard,", f->nh3_yard);
+    LINE(",Livestock::OtherCattle::Yard,n_outyard_liquid,", f->n_yard - f->nh3_yard);
+    LINE(",Livestock::OtherCattle::Yard,tan_outyard_liquid,", f->tan_yard - f->nh3_yard);
+    GRAZING("Livestock::OtherCattle::Grazing");
+    LINE(",Livestock::OtherCattle::Housing,n_into_housing,", f->n_housing);
+    LINE(",Livestock::OtherCattle::Housing,tan_into_housing,", f->tan_housing);
+    return out;
+}
+
+static uint8_t *list_pigs(uint8_t *out, const uint8_t *label, size_t length, const struct figures *f) {
+    LINE(",Livestock::FatteningPigs::Excretion,n_excretion,", f->n);
+    LINE(",Livestock::FatteningPigs::Excretion,tan_excretion,", f->tan);
+    GRAZING("Livestock::FatteningPigs::Grazing");
+    LINE(",Livestock::FatteningPigs::Housing,n_into_housing,", f->n_housing);
+    LINE(",Livestock::FatteningPigs::Housing,tan_into_housing,", f->tan_housing);
+    return out;
+}
+
+static __attribute__((noinline)) uint8_t *list_herd(uint8_t *out, const struct herd *herd) {
+    struct figures f;
+    uint8_t label[LABEL_ROOM];
+    size_t length = printed_label(herd, label);
+    figures_of(herd, &f);
+    switch (herd->kind) {
+    case ROUGHAGE: return list_roughage(out, label, length, &f);
+    case CATTLE: return list_cattle(out, label, length, &f);
+    default: return list_pigs(out, label, length, &f);
+    }
+}
+
+static void add(struct figures *sum, const struct figures *f) {
+    int64_t *to = (int64_t *)sum;
+    const int64_t *from = (const int64_t *)f;
+    for (size_t i = 0; i < sizeof *f / sizeof *from; i++) to[i] += from[i];
+}
+
+static __attribute__((noinline)) uint8_t *list_totals(uint8_t *out, const struct farm *farm) {
+    struct figures sum = {0}, f;
+    for (uint32_t i = 0; i < farm->count; i++) {
+        figures_of(&farm->herds[i], &f);
+        add(&sum, &f);
+    }
+    static const uint8_t label[LABEL_ROOM];
+    const size_t length = 0;
+    LINE(",Livestock,n_excretion,", sum.n);
+    LINE(",Livestock,tan_excretion,", sum.tan);
+    LINE(",Livestock,n_into_housing,", sum.n_housing);
+    LINE(",Livestock,tan_into_housing,", sum.tan_housing);
+    LINE(",Livestock,n_into_yard,", sum.n_yard);
+    LINE(",Livestock,tan_into_yard,", sum.tan_yard);
+    LINE(",Livestock,n_into_grazing,", sum.n_pasture);
+    LINE(",Livestock,tan_into_grazing,", sum.tan_pasture);
+    LINE(",Livestock,nh3_nhousing,", sum.nh3_housing);
+    LINE(",Livestock,nh3_nyard,", sum.nh3_yard);
+    LINE(",Livestock,nh3_ngrazing,", sum.nh3_pasture);
+    LINE(",Livestock,nh3_nhousing_and_yard,", sum.nh3_housing + sum.nh3_yard);
+    LINE(",Livestock,nh3_nlivestock,", sum.nh3_housing + sum.nh3_yard + sum.nh3_pasture);
+    LINE(",Livestock,n2_ngrazing,", sum.n2_pasture);
+    LINE(",Livestock,no_ngrazing,", sum.no_pasture);
+    LINE(",Livestock,n2o_ngrazing,", sum.n2o_pasture);
+    LINE(",Livestock,n_remain_grazing,", sum.n_remain);
+    LINE(",Livestock,tan_remain_grazing,", sum.tan_remain);
+    return out;
+}
+
+// ---- the program
+
+// Longer than any listing of a herd or of the totals.
+enum { LISTING_MOST = 4096 };
+
+static struct farm farm;
+static uint8_t output[(HERDS_MOST + 1) * LISTING_MOST];
+static uint8_t input_bytes[FILE_MOST + 1 + 9];
+
+static size_t read_up_to(uint8_t *to, size_t most) {
+    size_t done = 0;
+    while (done < most) {
+        ssize_t got = read(0, to + done, most - done);
+        if (got <= 0) break;
+        done += (size_t)got;
+    }
+    return done;
+}
+
+static void write_all(const uint8_t *from, size_t length) {
+    while (length > 0) {
+        ssize_t put = write(1, from, length);
+        if (put <= 0) exit(1);
+        from += put;
+        length -= (size_t)put;
+    }
+}
+
+static void answer(const uint8_t *file, size_t length) {
+    uint8_t *out = output;
+    struct refusal r = read_farm(file, length, &farm);
+    if (r.number) {
+        out += sprintf((char *)out, "refused,%u,%u\r\n", r.number, r.record);
+    } else {
+        for (uint32_t i = 0; i < farm.count; i++) out = list_herd(out, &farm.herds[i]);
+        out = list_totals(out, &farm);
+    }
+    write_all(output, (size_t)(out - output));
+}
+
+static int run_cases(void) {
+    static uint8_t file[1 << 20];
+    uint8_t head[4];
+    while (read_up_to(head, 4) == 4) {
+        size_t length = head[0] | (size_t)head[1] << 8 | (size_t)head[2] << 16 | (size_t)head[3] << 24;
+        if (length > sizeof file || read_up_to(file, length) < length) return 1;
+        answer(file, length);
+    }
+    return 0;
+}
+
+// ---- the repeated work. The checksum takes little of each answer, so that it costs nearly nothing and still needs the answer.
+
+static uint64_t mixed(uint64_t sum, uint64_t x) { return (sum * 31 + x) % 1000003; }
+
+static uint64_t farm_sum(uint64_t sum, uint64_t turn) {
+    sum = mixed(sum, farm.count);
+    if (farm.count == 0) return sum;
+    const struct herd *h = &farm.herds[turn % farm.count];
+    uint32_t v = h->values[turn % 4];
+    return mixed(mixed(sum, h->label_length), v == STANDARD ? 1 : v);
+}
+
+static uint64_t text_sum(uint64_t sum, uint64_t turn, const uint8_t *text, const uint8_t *end) {
+    size_t length = (size_t)(end - text);
+    return mixed(mixed(sum, length), text[turn % length]);
+}
+
+static uint64_t listing_sum(uint64_t sum, uint64_t turn) {
+    for (uint32_t i = 0; i < farm.count; i++) sum = text_sum(sum, turn, output, list_herd(output, &farm.herds[i]));
+    return text_sum(sum, turn, output, list_totals(output, &farm));
+}
+
+static int run_repeat(void) {
+    size_t length = read_up_to(input_bytes, sizeof input_bytes);
+    if (length < 9) return 1;
+    uint8_t mode = input_bytes[0];
+    uint64_t times = 0, sum = 0;
+    for (int i = 1; i < 9; i++) times = times * 10 + (uint64_t)(input_bytes[i] - '0');
+    const uint8_t *file = input_bytes + 9;
+    length -= 9;
+    if (mode == 'l' && read_farm(file, length, &farm).number) return 1;
+    for (uint64_t turn = times; turn > 0; turn--) {
+        if (mode != 'l') {
+            struct refusal r = read_farm(file, length, &farm);
+            if (r.number) {
+                sum = mixed(mixed(sum, r.number), r.record);
+                continue;
+            }
+        }
+        sum = mode == 'r' ? farm_sum(sum, turn) : listing_sum(sum, turn);
+    }
+    printf("%llu\n", (unsigned long long)sum);
+    return 0;
+}
+
+int main(int count, char **words) {
+    if (count == 2 && strcmp(words[1], "cases") == 0) return run_cases();
+    if (count == 2 && strcmp(words[1], "repeat") == 0) return run_repeat();
+    size_t length = read_up_to(input_bytes, FILE_MOST + 1);
+    answer(input_bytes, length);
+    return 0;
+}

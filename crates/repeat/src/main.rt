@@ -1,0 +1,219 @@
+// The library's work, repeated inside one process, so that a benchmark can time it. Standard input has a mode, how often in eight digits, and
+// a farm file. The mode is w for the whole job, r for reading alone, l for listing alone. One checksum is printed: it takes little of each
+// answer, so that it costs nearly nothing and still needs the answer.
+use farm::Checked;
+use farm::Farm;
+use farm::Fault;
+use farm::Given;
+use farm::Herd;
+use farm::faults;
+use libc::STDIN_FILENO;
+use libc::STDOUT_FILENO;
+use listing::Written;
+ghost use Prim.Native.Nat.{_≤_};
+
+// The mode and how often.
+const HEAD: usize = 9;
+
+// They, and one byte more than a farm file may have.
+const INPUT_MOST: usize = 65546;
+
+// Longer than any listing of a herd or of the totals.
+const LISTING_MOST: usize = 4096;
+
+const HERDS_MOST: usize = 64;
+
+// A herd of any kind has this many slots in use.
+const SLOTS_LEAST: u64 = 4;
+
+// What the checksum is the remainder of.
+const PRIME: u64 = 1000003;
+
+enum Mode {
+    Whole,
+    Reading,
+    Listing,
+}
+
+fn wide(b: u8) -> u64
+    ensures { λ r. ⌜ r ≤ 255 ⌝ }
+{
+    b as u64
+}
+
+fn with_digit(n: u64, b: u8) -> u64 {
+    n % 10000000 * 10 + wide(b) % 48
+}
+
+fn times_of(digits: &[u8]) -> u64 {
+    let mut n = 0;
+    let mut i = 0;
+    while i < digits.len() {
+        n = with_digit(n, digits[i]);
+        i += 1;
+    }
+    n
+}
+
+fn mode_of(s: &[u8]) -> Mode {
+    if base::same(s, b"r") {
+        return Mode::Reading;
+    }
+    if base::same(s, b"l") {
+        return Mode::Listing;
+    }
+    Mode::Whole
+}
+
+// The checksum with one number more.
+fn mixed(sum: u64, x: u64) -> u64 {
+    (sum % PRIME * 31 + x % PRIME) % PRIME
+}
+
+fn refusal_sum(sum: u64, fault: Fault, record: usize) -> u64 {
+    mixed(mixed(sum, faults::number_of(fault)), record as u64)
+}
+
+fn given_number(given: Given) -> u64 {
+    match given {
+        Given::Missing => 0,
+        Given::Standard => 1,
+        Given::Value(v) => v as u64,
+    }
+}
+
+// Of a farm the number of herds, and of one herd the label's length and a value.
+fn farm_sum(sum: u64, turn: u64, farm: Farm) -> u64 {
+    let counted = mixed(sum, farm.count as u64);
+    if farm.count == 0 {
+        return counted;
+    }
+    let i = turn as usize % farm.count;
+    if HERDS_MOST <= i {
+        return counted;
+    }
+    let h = farm.herds[i];
+    let slot = h.slots[(turn % SLOTS_LEAST) as usize];
+    let given = slot.given;
+    mixed(mixed(counted, h.label.len as u64), given_number(given))
+}
+
+// Of a listing its length and a byte.
+fn text_sum(sum: u64, turn: u64, out: &[u8], n: usize) -> u64 {
+    let counted = mixed(sum, n as u64);
+    if n == 0 {
+        return counted;
+    }
+    let i = turn as usize % n;
+    if out.len() <= i {
+        return counted;
+    }
+    mixed(counted, wide(out[i]))
+}
+
+fn written_sum(sum: u64, turn: u64, out: &[u8], written: Written) -> u64 {
+    match written {
+        Written::Length(n) => text_sum(sum, turn, out, n),
+        Written::Refused(fault, record) => refusal_sum(sum, fault, record),
+    }
+}
+
+fn herd_sum(sum: u64, turn: u64, h: Herd, out: &mut [u8]) -> u64 {
+    let written = calls::herd_listing(h, out);
+    written_sum(sum, turn, out, written)
+}
+
+fn totals_sum(sum: u64, turn: u64, farm: Farm, out: &mut [u8]) -> u64 {
+    let written = calls::totals_listing(farm, out);
+    written_sum(sum, turn, out, written)
+}
+
+fn listing_sum(sum: u64, turn: u64, farm: Farm, out: &mut [u8]) -> u64 {
+    let mut taken = sum;
+    let mut i = 0;
+    while i < HERDS_MOST {
+        if farm.count <= i {
+            break;
+        }
+        let h = farm.herds[i];
+        taken = herd_sum(taken, turn, h, out);
+        i += 1;
+    }
+    totals_sum(taken, turn, farm, out)
+}
+
+// One turn of reading, and of the whole job.
+fn read_sum(sum: u64, turn: u64, file: &[u8]) -> u64 {
+    let answer = calls::read_farm(file);
+    let checked = answer.checked;
+    match checked {
+        Checked::Accepted => farm_sum(sum, turn, answer.farm),
+        Checked::Refused(fault, record) => refusal_sum(sum, fault, record),
+    }
+}
+
+fn whole_sum(sum: u64, turn: u64, file: &[u8], out: &mut [u8]) -> u64 {
+    let answer = calls::read_farm(file);
+    let checked = answer.checked;
+    match checked {
+        Checked::Accepted => listing_sum(sum, turn, answer.farm, out),
+        Checked::Refused(fault, record) => refusal_sum(sum, fault, record),
+    }
+}
+
+// The turns count down.
+fn repeat_reading(times: u64, file: &[u8]) -> u64 {
+    let mut sum = 0;
+    let mut turn = times;
+    while turn > 0 {
+        sum = read_sum(sum, turn, file);
+        turn -= 1;
+    }
+    sum
+}
+
+fn repeat_whole(times: u64, file: &[u8], out: &mut [u8]) -> u64 {
+    let mut sum = 0;
+    let mut turn = times;
+    while turn > 0 {
+        sum = whole_sum(sum, turn, file, out);
+        turn -= 1;
+    }
+    sum
+}
+
+fn repeat_listing(times: u64, farm: Farm, out: &mut [u8]) -> u64 {
+    let mut sum = 0;
+    let mut turn = times;
+    while turn > 0 {
+        sum = listing_sum(sum, turn, farm, out);
+        turn -= 1;
+    }
+    sum
+}
+
+fn listed(times: u64, file: &[u8], out: &mut [u8]) -> u64 {
+    let answer = calls::read_farm(file);
+    repeat_listing(times, answer.farm, out)
+}
+
+fn repeated(mode: Mode, times: u64, file: &[u8]) -> u64 {
+    let mut out = [0u8; LISTING_MOST];
+    match mode {
+        Mode::Whole => repeat_whole(times, file, &mut out),
+        Mode::Reading => repeat_reading(times, file),
+        Mode::Listing => listed(times, file, &mut out),
+    }
+}
+
+fn main() {
+    let mut input = [0u8; INPUT_MOST];
+    let n = io::read_full(STDIN_FILENO, &mut input);
+    let mode = mode_of(base::part_of(&input, 0, 1));
+    let times = times_of(base::part_of(&input, 1, HEAD));
+    io::print_decimal(
+        STDOUT_FILENO,
+        repeated(mode, times, base::part_of(&input, HEAD, n)),
+    );
+    io::write_all(STDOUT_FILENO, b"\n");
+}
