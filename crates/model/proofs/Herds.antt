@@ -114,28 +114,22 @@ module _ (p : Pigs) (s : SoundPigs p) (e : Excretion) (q : e ≡ excretionOf (p 
 -- ---- any kind
 module _ (i : Inputs) (s : Sound i) where
   pub sound-roughage : (r : Roughage) → i ≡ kinds.Roughage r → SoundRoughage r
-  sound-roughage r e = go i s e
+  sound-roughage r e = of (subst Sound e s)
     where
-      go : (j : Inputs) → Sound j → j ≡ kinds.Roughage r → SoundRoughage r
-      go (kinds.Roughage r′) (roughage h) q = let w : r′ ≡ r = cc in subst SoundRoughage w h
-      go (kinds.Cattle c) h q = let z : _≡_ {A = ℕ} 0 1 = cc in absurd (omega arith)
-      go (kinds.Pigs p) h q = let z : _≡_ {A = ℕ} 0 1 = cc in absurd (omega arith)
+      of : Sound (kinds.Roughage r) → SoundRoughage r
+      of (roughage h) = h
 
   pub sound-cattle : (c : Cattle) → i ≡ kinds.Cattle c → SoundCattle c
-  sound-cattle c e = go i s e
+  sound-cattle c e = of (subst Sound e s)
     where
-      go : (j : Inputs) → Sound j → j ≡ kinds.Cattle c → SoundCattle c
-      go (kinds.Cattle c′) (cattle h) q = let w : c′ ≡ c = cc in subst SoundCattle w h
-      go (kinds.Roughage r) h q = let z : _≡_ {A = ℕ} 0 1 = cc in absurd (omega arith)
-      go (kinds.Pigs p) h q = let z : _≡_ {A = ℕ} 0 1 = cc in absurd (omega arith)
+      of : Sound (kinds.Cattle c) → SoundCattle c
+      of (cattle h) = h
 
   pub sound-pigs : (p : Pigs) → i ≡ kinds.Pigs p → SoundPigs p
-  sound-pigs p e = go i s e
+  sound-pigs p e = of (subst Sound e s)
     where
-      go : (j : Inputs) → Sound j → j ≡ kinds.Pigs p → SoundPigs p
-      go (kinds.Pigs p′) (pigs h) q = let w : p′ ≡ p = cc in subst SoundPigs w h
-      go (kinds.Roughage r) h q = let z : _≡_ {A = ℕ} 0 1 = cc in absurd (omega arith)
-      go (kinds.Cattle c) h q = let z : _≡_ {A = ℕ} 0 1 = cc in absurd (omega arith)
+      of : Sound (kinds.Pigs p) → SoundPigs p
+      of (pigs h) = h
 
 module _ (f : Figures) (i : Inputs) where
   pub figures-of-roughage : (r : Roughage) → f ≡ figuresInGrams (ofRoughage cutting r) → i ≡ kinds.Roughage r → f ≡ figuresOf i
