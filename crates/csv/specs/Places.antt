@@ -2,7 +2,8 @@
 -- `proofs/Steps.antt` shows that the bytes at these places are the contents, and that reading goes on where the record has ended.
 use Prim.Native.Nat.{ℕ, zero, suc, _+_, _-_}
 use mathlib.Core.List.{List, [], _∷_}
-use lib.Dec.{leb}
+use mathlib.Core.Bool.{Bool, true}
+use lib.Dec.{eqb, leb}
 use lib.ListN.{length, drop}
 use Rattle.base.specs.Pick.{pick, if_is_then_else_}
 use Rattle.base.specs.Part.{part}
@@ -30,6 +31,19 @@ held s p = part s (p .from) (p .to)
 unfoldable pub lineFrom : Place → ℕ → List ℕ → FieldEnd
 lineFrom p next [] = ends.Broken
 lineFrom p next (b ∷ rest) = if b is lf then ends.Crlf p next else ends.Broken
+
+-- a byte that is no text of an unquoted field: it ends the field, or breaks it
+unfoldable pub endsPlain : ℕ → Bool
+endsPlain b =
+    if b is comma then true else
+    if b is cr then true else
+    if b is lf then true else
+    eqb b quote
+
+-- where an unquoted field's text ends, from the position `at` on, with these bytes to come
+unfoldable pub plainStop : ℕ → List ℕ → ℕ
+plainStop at [] = at
+plainStop at (b ∷ rest) = pick (endsPlain b) at (plainStop (at + 1) rest)
 
 -- in an unquoted field that began at `from`, at the position `at`, with these bytes to come
 unfoldable pub plainFrom : ℕ → ℕ → List ℕ → FieldEnd

@@ -12,7 +12,7 @@
 //
 // Start is a field's first byte, Plain the rest of an unquoted field, Quoted the inside of quotes, Closed past a quote there, which closes the
 // field or is the first of two, and Return past a CR outside quotes. The next field begins in Start, and so does the next record, if a byte is left.
-// `field_end` is Start, `plain_end` Plain, `quoted_end` Quoted and Closed, `line_end` Return.
+// `field_end` is Start, `plain_end` Plain, with its scan in `plain_stop`, `quoted_end` Quoted and Closed, `line_end` Return.
 //
 // Advice for those who change it:
 // - Begin with specs/Grammar.antt. The table stands twice more, with contents in specs/Reading.antt and with positions in specs/Places.antt;
@@ -27,7 +27,7 @@ ghost use mathlib.Core.Path.{_≡_};
 ghost use Prim.Native.Nat.{_+_, _^_, _<_};
 ghost use lib.ListN.{drop};
 ghost use Rattle.base.specs.Pick.{if_is_then_else_};
-ghost use Rattle.csv.specs.Places.{place, held, lineFrom, plainFrom, quotedFrom, fieldFrom, noFields, andField, stepOf};
+ghost use Rattle.csv.specs.Places.{place, held, lineFrom, endsPlain, plainStop, plainFrom, quotedFrom, fieldFrom, noFields, andField, stepOf};
 
 // Where a field's content stands in the file: from its first byte to before `to`.
 pub struct Place {
@@ -76,28 +76,55 @@ fn line_end(s: &[u8], from: usize, to: usize, at: usize) -> FieldEnd
     FieldEnd::Broken
 }
 
-// Plain. An unquoted field that starts at `at`.
-fn plain_end(s: &[u8], at: usize) -> FieldEnd
-    ensures { λ r. ⌜ r ≡ plainFrom at at (drop at (now (s .entry))) ⌝ }
+// Does b end an unquoted field, or break it?
+fn ends_plain(b: u8) -> bool
+    ensures { λ r. ⌜ r ≡ endsPlain b ⌝ }
+{
+    if b == b',' {
+        return true;
+    }
+    if b == b'\r' {
+        return true;
+    }
+    if b == b'\n' {
+        return true;
+    }
+    b == b'"'
+}
+
+// Where the text of an unquoted field ends, from `at` on. No byte above a comma ends it, so one test is enough for most bytes.
+fn plain_stop(s: &[u8], at: usize) -> usize
+    ensures { λ r. ⌜ r ≡ plainStop at (drop at (now (s .entry))) ⌝ }
 {
     let mut i = at;
     while i < s.len() {
         let b = s[i];
-        if b == b',' {
-            return FieldEnd::Comma(Place { from: at, to: i }, i + 1);
-        }
-        if b == b'\r' {
-            return line_end(s, at, i, i + 1);
-        }
-        if b == b'\n' {
-            return FieldEnd::Broken;
-        }
-        if b == b'"' {
-            return FieldEnd::Broken;
+        if b <= b',' {
+            if ends_plain(b) {
+                return i;
+            }
         }
         i += 1;
     }
-    FieldEnd::File(Place { from: at, to: i })
+    i
+}
+
+// Plain. An unquoted field that starts at `at`: what stands where its text ends says how it ends.
+fn plain_end(s: &[u8], at: usize) -> FieldEnd
+    ensures { λ r. ⌜ r ≡ plainFrom at at (drop at (now (s .entry))) ⌝ }
+{
+    let i = plain_stop(s, at);
+    if s.len() <= i {
+        return FieldEnd::File(Place { from: at, to: i });
+    }
+    let b = s[i];
+    if b == b',' {
+        return FieldEnd::Comma(Place { from: at, to: i }, i + 1);
+    }
+    if b == b'\r' {
+        return line_end(s, at, i, i + 1);
+    }
+    FieldEnd::Broken
 }
 
 // Quoted and Closed. A quoted field whose content starts at `at`, past the opening quote.

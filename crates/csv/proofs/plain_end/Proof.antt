@@ -1,75 +1,47 @@
--- `csv::plain_end` meets its contract. The invariant: the scan from i on finds what is sought; the measure is what is left of the file.
+-- `csv::plain_end` meets its contract, by what stands where the text ends.
 -- Assumes nothing.
-use Prim.Native.Nat.{_-_}
-use mathlib.Core.Path.{_≡_}
-use lib.ListN.{length, drop}
-use Rattle.csv.specs.Places.{plainFrom}
 use Rattle.csv.proofs.Scans.{plain-steps}
 use borrow.Author.Needs.{needs}
 use Rattle.csv.proofs.plain_end.Statement.{statement}
 use Rattle.csv.proofs.plain_end.Tie as tie
 
-abbrev Inv-loop : tie.InvT-loop
-Inv-loop s at i₀ i = plainFrom at i (drop i s) ≡ plainFrom at at (drop at s)
+plain-stop-requires : tie.Need-plain-stop-requires
+plain-stop-requires c κs = search needs
 
-abbrev μ-loop : tie.MeasureT-loop
-μ-loop s at i₀ i = length s - i
-
-loop-holds : tie.Need-loop-holds Inv-loop μ-loop
-loop-holds c = search needs
-
-shared-slice-read-b : tie.Need-shared-slice-read-b Inv-loop μ-loop
-shared-slice-read-b c = search needs
-
-add-t10 : tie.Need-add-t10 Inv-loop μ-loop
-add-t10 c = search needs
-
-returns : tie.Need-returns Inv-loop μ-loop
+returns : tie.Need-returns
 returns c = search (needs, plain-steps)
 
-add-line-end : tie.Need-add-line-end Inv-loop μ-loop
-add-line-end c = search needs
+shared-slice-read-b : tie.Need-shared-slice-read-b
+shared-slice-read-b c = search needs
 
-line-end-requires : tie.Need-line-end-requires Inv-loop μ-loop
-line-end-requires c κs = search needs
+add-t11 : tie.Need-add-t11
+add-t11 c = search needs
 
-returns-2 : tie.Need-returns-2 Inv-loop μ-loop
+returns-2 : tie.Need-returns-2
 returns-2 c = search (needs, plain-steps)
 
-returns-3 : tie.Need-returns-3 Inv-loop μ-loop
+add-line-end : tie.Need-add-line-end
+add-line-end c = search needs
+
+line-end-requires : tie.Need-line-end-requires
+line-end-requires c κs = search needs
+
+returns-3 : tie.Need-returns-3
 returns-3 c = search (needs, plain-steps)
 
-returns-4 : tie.Need-returns-4 Inv-loop μ-loop
+returns-4 : tie.Need-returns-4
 returns-4 c = search (needs, plain-steps)
-
-add-i : tie.Need-add-i Inv-loop μ-loop
-add-i c = search needs
-
-loop-less : tie.Need-loop-less Inv-loop μ-loop
-loop-less c = search needs
-
-loop-again : tie.Need-loop-again Inv-loop μ-loop
-loop-again c = search (needs, plain-steps)
-
-returns-5 : tie.Need-returns-5 Inv-loop μ-loop
-returns-5 c = search (needs, plain-steps)
 
 pub plain-end-spec : {M : Type 1} → statement M
 plain-end-spec =
     tie.close
     (tie.spec
-    Inv-loop
-    μ-loop
-    loop-holds
-    shared-slice-read-b
-    add-t10
+    plain-stop-requires
     returns
+    shared-slice-read-b
+    add-t11
+    returns-2
     add-line-end
     line-end-requires
-    returns-2
     returns-3
-    returns-4
-    add-i
-    loop-less
-    loop-again
-    returns-5)
+    returns-4)
