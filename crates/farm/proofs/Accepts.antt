@@ -20,7 +20,7 @@ use Rattle.farm.specs.declared.Checked.{Checked}
 use Rattle.farm.specs.declared.Checked.the-variants.{Accepted, Refused}
 use Rattle.farm.specs.Labels.{labelOk, sameLabel}
 use Rattle.farm.specs.Refusals.{Says, accepts, says, HerdSays, FarmSays}
-use Rattle.farm.specs.Checks.{fits, isMissing, lacksOne, unfitOne, lacks, unfit, earlierLabel, inputLines, herdLines, herdsLines, checkHerd, herdsOf, farmLines, checkFarm}
+use Rattle.farm.specs.Checks.{fits, isMissing, lacksOne, unfitOne, lacks, unfit, hasLabel, inputLines, herdLines, herdsLines, checkHerd, herdsOf, farmLines, checkFarm}
 use Rattle.farm.specs.Accepts.{Passes, GoodHerd, Distinct, GoodFarm}
 use Rattle.farm.proofs.Lines.{Refusing, refusing, Quiet, quiet-passes, accepted-quiet}
 use Rattle.farm.proofs.HerdSteps.{herd-refusing}
@@ -54,14 +54,14 @@ none-unfit (Passes.next m f p) = rw f (none-unfit p)
 
 -- ---- a herd, after those that stand before it
 
-new-and-good : (before : List Herd) (h : Herd) → Quiet (herdLines before h) → (earlierLabel before (h .label) ≡ false) × GoodHerd h
+new-and-good : (before : List Label) (h : Herd) → Quiet (herdLines before h) → (hasLabel before (h .label) ≡ false) × GoodHerd h
 unfolding lacks unfit
 new-and-good before h (more bad (more known (more lacking (more unfitting none)))) = (
   known,
   record { label = not-false (labelOk (h .label)) bad; inputs = passing (rowsOf (h .kind)) (h .slots) lacking unfitting },
 )
 
-quiet-herd : (before : List Herd) (h : Herd) → earlierLabel before (h .label) ≡ false → GoodHerd h → Quiet (herdLines before h)
+quiet-herd : (before : List Label) (h : Herd) → hasLabel before (h .label) ≡ false → GoodHerd h → Quiet (herdLines before h)
 unfolding lacks unfit
 quiet-herd before h new g =
     more (negated (labelOk (h .label)) (g .label)) (more new (more (none-lacks (g .inputs)) (more (none-unfit (g .inputs)) none)))
@@ -71,7 +71,7 @@ unfolding checkHerd
 accepted-herd h e = new-and-good [] h (accepted-quiet (herd-refusing [] h) e) .1
 
 pub good-herd : (h : Herd) → GoodHerd h → checkHerd h ≡ Accepted
-unfolding checkHerd earlierLabel
+unfolding checkHerd
 good-herd h g = quiet-passes (quiet-herd [] h refl g) Accepted
 
 pub passes : (h : Herd) → checkHerd h ≡ Accepted → Passes (rowsOf (h .kind)) (h .slots)
@@ -96,48 +96,45 @@ module _ {A : Type 0} {P : A → Type 0} where
   each-both f none none = none
   each-both f (more p ps) (more q qs) = more (f _ p q) (each-both f ps qs)
 
--- a label is none of the herds' and the last one's
-new-split : (before : List Herd) (h : Herd) (l : Label) → earlierLabel (before ++ (h ∷ [])) l ≡ false → (earlierLabel before l ≡ false) × (sameLabel (h .label) l ≡ false)
-unfolding earlierLabel
-new-split [] h l e = (refl, neither (sameLabel (h .label) l) false e .0)
-new-split (x ∷ before) h l e =
-    let s = neither (sameLabel (x .label) l) (earlierLabel (before ++ (h ∷ [])) l) e in
-    let r = new-split before h l (s .1) in
+-- a label is none of those before and not the last one
+new-split : (before : List Label) (x l : Label) → hasLabel (before ++ (x ∷ [])) l ≡ false → (hasLabel before l ≡ false) × (sameLabel x l ≡ false)
+new-split [] x l e = (refl, neither (sameLabel x l) false e .0)
+new-split (y ∷ before) x l e =
+    let s = neither (sameLabel y l) (hasLabel (before ++ (x ∷ [])) l) e in
+    let r = new-split before x l (s .1) in
     (rw (s .0) (r .0), r .1)
 
-new-join : (before : List Herd) (h : Herd) (l : Label) → earlierLabel before l ≡ false → sameLabel (h .label) l ≡ false → earlierLabel (before ++ (h ∷ [])) l ≡ false
-unfolding earlierLabel
-new-join [] h l e d = rw d
-new-join (x ∷ before) h l e d = let s = neither (sameLabel (x .label) l) (earlierLabel before l) e in rw (s .0) (new-join before h l (s .1) d)
+new-join : (before : List Label) (x l : Label) → hasLabel before l ≡ false → sameLabel x l ≡ false → hasLabel (before ++ (x ∷ [])) l ≡ false
+new-join [] x l e d = rw d
+new-join (y ∷ before) x l e d = let s = neither (sameLabel y l) (hasLabel before l) e in rw (s .0) (new-join before x l (s .1) d)
 
-record Right (before hs : List Herd) : Type 0 where
-  pub new : Each (λ h. earlierLabel before (h .label) ≡ false) hs
+record Right (before : List Label) (hs : List Herd) : Type 0 where
+  pub new : Each (λ h. hasLabel before (h .label) ≡ false) hs
   pub herds : Each GoodHerd hs
   pub labels : Distinct hs
 
-right : (before hs : List Herd) → Quiet (herdsLines before hs) → Right before hs
+right : (before : List Label) (hs : List Herd) → Quiet (herdsLines before hs) → Right before hs
 right before [] q = record { new = none; herds = none; labels = Distinct.none }
 right before (h ∷ hs) q =
-    let here = new-and-good before h (each-front (herdLines before h) (herdsLines (before ++ (h ∷ [])) hs) q) in
-    let rest = right (before ++ (h ∷ [])) hs (each-back (herdLines before h) (herdsLines (before ++ (h ∷ [])) hs) q) in
+    let here = new-and-good before h (each-front (herdLines before h) (herdsLines (before ++ (h .label ∷ [])) hs) q) in
+    let rest = right (before ++ (h .label ∷ [])) hs (each-back (herdLines before h) (herdsLines (before ++ (h .label ∷ [])) hs) q) in
     record {
-      new = more (here .0) (each-map (λ x e. new-split before h (x .label) e .0) (rest .new));
+      new = more (here .0) (each-map (λ x e. new-split before (h .label) (x .label) e .0) (rest .new));
       herds = more (here .1) (rest .herds);
-      labels = Distinct.next (each-map (λ x e. new-split before h (x .label) e .1) (rest .new)) (rest .labels);
+      labels = Distinct.next (each-map (λ x e. new-split before (h .label) (x .label) e .1) (rest .new)) (rest .labels);
     }
 
-quiet-herds : (before hs : List Herd) → Each (λ h. earlierLabel before (h .label) ≡ false) hs → Each GoodHerd hs → Distinct hs → Quiet (herdsLines before hs)
+quiet-herds : (before : List Label) (hs : List Herd) → Each (λ h. hasLabel before (h .label) ≡ false) hs → Each GoodHerd hs → Distinct hs → Quiet (herdsLines before hs)
 quiet-herds before [] new herds labels = none
 quiet-herds before (h ∷ hs) (more n new) (more g herds) (Distinct.next d labels) =
     each-append (quiet-herd before h n g)
-    (quiet-herds (before ++ (h ∷ [])) hs (each-both (λ x. new-join before h (x .label)) new d) herds labels)
+    (quiet-herds (before ++ (h .label ∷ [])) hs (each-both (λ x. new-join before (h .label) (x .label)) new d) herds labels)
 
-herds-refusing : (before hs : List Herd) → Each Refusing (herdsLines before hs)
+herds-refusing : (before : List Label) (hs : List Herd) → Each Refusing (herdsLines before hs)
 herds-refusing before [] = none
-herds-refusing before (h ∷ hs) = each-append (herd-refusing before h) (herds-refusing (before ++ (h ∷ [])) hs)
+herds-refusing before (h ∷ hs) = each-append (herd-refusing before h) (herds-refusing (before ++ (h .label ∷ [])) hs)
 
-all-new : (hs : List Herd) → Each (λ h. earlierLabel [] (h .label) ≡ false) hs
-unfolding earlierLabel
+all-new : (hs : List Herd) → Each (λ h. hasLabel [] (h .label) ≡ false) hs
 all-new hs = each-of (λ h. refl) hs
 
 pub accepted-farm : (f : Farm) → checkFarm f ≡ Accepted → GoodFarm f
@@ -170,15 +167,15 @@ module _ (P : Says → Type 0) (accepted : P accepts) where
       go false here rest = rest
 
 pub herd-says : (h : Herd) → HerdSays (says (checkHerd h))
-unfolding checkHerd earlierLabel
+unfolding checkHerd
 herd-says h = said HerdSays HerdSays.fine {ls = Refused BadLabel 0 when not (labelOk (h .label)) ∷ inputLines h} (more HerdSays.label (more HerdSays.missing (more HerdSays.value none)))
 
-herds-say : (before hs : List Herd) → Each (λ l. FarmSays (says (l .answer))) (herdsLines before hs)
+herds-say : (before : List Label) (hs : List Herd) → Each (λ l. FarmSays (says (l .answer))) (herdsLines before hs)
 herds-say before [] = none
 herds-say before (h ∷ hs) =
     each-append {a = herdLines before h}
     (more (FarmSays.herd HerdSays.label) (more FarmSays.earlier (more (FarmSays.herd HerdSays.missing) (more (FarmSays.herd HerdSays.value) none))))
-    (herds-say (before ++ (h ∷ [])) hs)
+    (herds-say (before ++ (h .label ∷ [])) hs)
 
 pub farm-says : (f : Farm) → FarmSays (says (checkFarm f))
 unfolding checkFarm

@@ -3,10 +3,9 @@ use Prim.Native.Nat.{ℕ, _+_, _≤_, _<_}
 use mathlib.Core.Path.{_≡_, sym, ap, _∙_}
 use mathlib.Core.Bool.{Bool, true, false, not, _||_}
 use mathlib.Core.List.{List, [], _∷_, _++_}
-use native.Mathlib.Numerals.{add-one}
 use native.Mathlib.Omega.{arith}
-use lib.ListN.{length, getD, take, drop}
-use lib.Seq.{take-suc}
+use lib.ListN.{length, getD, take, drop, set}
+use lib.Seq.{take-set-le}
 use borrow.Author.Tests.{lt-ltb, le-ltb}
 use Rattle.base.specs.Pick.{pick}
 use Rattle.base.specs.First.{first}
@@ -20,33 +19,30 @@ use Rattle.farm.specs.declared.Fault.the-variants.{NoRoomForHerd}
 use Rattle.farm.specs.declared.Checked.{Checked}
 use Rattle.farm.specs.declared.Checked.the-variants.{Accepted, Refused}
 use Rattle.farm.specs.Labels.{sameLabel}
-use Rattle.farm.specs.Checks.{earlierLabel, herdLines, herdsLines, herdsOf, checkFarm}
-use Rattle.farm.proofs.Left.{taken-at, taken-end, taken-past}
+use Rattle.farm.specs.Checks.{hasLabel, herdLines, herdsLines, herdsOf, checkFarm}
+use Rattle.farm.proofs.Left.{taken-at, taken-end, taken-past, taken-stored}
 use Rattle.farm.proofs.Lines.{first-append, Refusing, refusing, quiet-passes, accepted-quiet, refused-first}
 
--- ---- the labels of i of the herds were other ones
+-- ---- i of the labels were other ones
 
-module _ (hs : List Herd) (n : ℕ) (l : Label) (i : ℕ) (X : Bool) (inv : earlierLabel (drop i (take n hs)) l ≡ X) where
-  module _ (long : length hs ≡ 64) (b : i < n) (k : i < 64) (d : Herd) (r : Bool) (e : r ≡ sameLabel (getD hs i d .label) l) where
-    next : (r || earlierLabel (drop (i + 1) (take n hs)) l) ≡ X
-    unfolding earlierLabel
-    next = let j : i < length hs = omega arith in rw e (rw (taken-at n hs i d b j, earlierLabel) at inv)
+module _ (ls : List Label) (n : ℕ) (l : Label) (i : ℕ) (X : Bool) (inv : hasLabel (drop i (take n ls)) l ≡ X) where
+  module _ (long : length ls ≡ 64) (b : i < n) (k : i < 64) (d : Label) (r : Bool) (e : r ≡ sameLabel (getD ls i d) l) where
+    next : (r || hasLabel (drop (i + 1) (take n ls)) l) ≡ X
+    next = let j : i < length ls = omega arith in rw e (rw (taken-at n ls i d b j) at inv)
 
     pub label-found : r ≡ true → true ≡ X
     label-found t = sym (rw t) ∙ next
 
-    pub label-not-here : r ≡ false → earlierLabel (drop (i + 1) (take n hs)) l ≡ X
+    pub label-not-here : r ≡ false → hasLabel (drop (i + 1) (take n ls)) l ≡ X
     label-not-here t = sym (rw t) ∙ next
 
   pub label-new : n ≤ i → false ≡ X
-  unfolding earlierLabel
-  label-new b = rw (taken-end n hs i b, earlierLabel) at inv
+  label-new b = rw (taken-end n ls i b) at inv
 
-  pub no-more-herds : length hs ≡ 64 → 64 ≤ i → false ≡ X
-  unfolding earlierLabel
-  no-more-herds long b = rw (taken-past n hs i (omega arith), earlierLabel) at inv
+  pub no-more-labels : length ls ≡ 64 → 64 ≤ i → false ≡ X
+  no-more-labels long b = rw (taken-past n ls i (omega arith)) at inv
 
-pub ruleset earlier-steps = (label-found, label-not-here, label-new, no-more-herds)
+pub ruleset earlier-steps = (label-found, label-not-here, label-new, no-more-labels)
 
 -- ---- a herd: the tests in their order
 
@@ -62,7 +58,7 @@ pub ruleset flags = (flag-true, flag-false, flag-not-true, flag-not-false)
 -- ---- a farm: i herds were accepted
 
 -- the lines of a herd refuse
-pub herd-refusing : (earlier : List Herd) (h : Herd) → Each Refusing (herdLines earlier h)
+pub herd-refusing : (earlier : List Label) (h : Herd) → Each Refusing (herdLines earlier h)
 herd-refusing earlier h = more refusing (more refusing (more refusing (more refusing none)))
 
 module _ (f : Farm) where
@@ -74,29 +70,33 @@ module _ (f : Farm) where
   unfolding checkFarm
   farm-start h = simp (le-ltb 64 (f .count) h)
 
-  module _ (i : ℕ) (inv : first (herdsLines (take i (f .herds)) (drop i (herdsOf f))) Accepted ≡ checkFarm f) where
+  module _ (ls : List Label) (i : ℕ) (inv : first (herdsLines (take i ls) (drop i (herdsOf f))) Accepted ≡ checkFarm f) where
     module _ (long : length (f .herds) ≡ 64) (room : f .count ≤ 64) (b : i < f .count) (d : Herd) (r : Checked)
-        (e : r ≡ first (herdLines (take i (f .herds)) (getD (f .herds) i d)) Accepted) where
+        (e : r ≡ first (herdLines (take i (set ls i (getD (f .herds) i d .label))) (getD (f .herds) i d)) Accepted) where
       abbrev after : Checked
-      after = first (herdsLines (take (i + 1) (f .herds)) (drop (i + 1) (herdsOf f))) Accepted
+      after = first (herdsLines (take i ls ++ (getD (f .herds) i d .label ∷ [])) (drop (i + 1) (herdsOf f))) Accepted
 
-      next-herd : first (herdLines (take i (f .herds)) (getD (f .herds) i d)) after ≡ checkFarm f
+      next-herd : first (herdLines (take i ls) (getD (f .herds) i d)) after ≡ checkFarm f
       next-herd =
           let j : i < length (f .herds) = omega arith in
           let h = getD (f .herds) i d in
-          let s : take (i + 1) (f .herds) ≡ take i (f .herds) ++ (h ∷ []) = rw (add-one, take-suc (f .herds) i d j) in
-          rw s (
-          sym (first-append (herdLines (take i (f .herds)) h) (herdsLines (take i (f .herds) ++ (h ∷ [])) (drop (i + 1) (herdsOf f))) Accepted)
-          ∙ sym (ap (λ (hs : List Herd). first (herdsLines (take i (f .herds)) hs) Accepted) (taken-at (f .count) (f .herds) i d b j))
-          ∙ inv)
+          sym (first-append (herdLines (take i ls) h) (herdsLines (take i ls ++ (h .label ∷ [])) (drop (i + 1) (herdsOf f))) Accepted)
+          ∙ sym (ap (λ (hs : List Herd). first (herdsLines (take i ls) hs) Accepted) (taken-at (f .count) (f .herds) i d b j))
+          ∙ inv
 
-      pub herd-accepted : r ≡ Accepted → after ≡ checkFarm f
-      herd-accepted t =
-          let q = accepted-quiet (herd-refusing (take i (f .herds)) (getD (f .herds) i d)) (sym e ∙ t) in
-          sym (quiet-passes q after) ∙ next-herd
+      -- the herd's own label is stored behind the labels that it is compared with
+      compared : r ≡ first (herdLines (take i ls) (getD (f .herds) i d)) Accepted
+      compared = rw (take-set-le i ls i (getD (f .herds) i d .label) (omega arith)) at e
+
+      pub herd-accepted : length ls ≡ 64 → r ≡ Accepted
+          → first (herdsLines (take (i + 1) (set ls i (getD (f .herds) i d .label))) (drop (i + 1) (herdsOf f))) Accepted ≡ checkFarm f
+      herd-accepted long′ t =
+          let j : i < length ls = omega arith in
+          let q = accepted-quiet (herd-refusing (take i ls) (getD (f .herds) i d)) (sym compared ∙ t) in
+          rw (taken-stored ls i (getD (f .herds) i d .label) j) (sym (quiet-passes q after) ∙ next-herd)
 
       pub herd-refused : {fault : Fault} {place : ℕ} → r ≡ Refused fault place → Refused fault place ≡ checkFarm f
-      herd-refused t = sym (refused-first (herd-refusing (take i (f .herds)) (getD (f .herds) i d)) (sym e ∙ t) after) ∙ next-herd
+      herd-refused t = sym (refused-first (herd-refusing (take i ls) (getD (f .herds) i d)) (sym compared ∙ t) after) ∙ next-herd
 
     pub herds-accepted : f .count ≤ i → Accepted ≡ checkFarm f
     herds-accepted b = rw (taken-end (f .count) (f .herds) i b) at inv

@@ -1,14 +1,18 @@
 -- The steps of `byte_ok`, `label_ok` and `same_label`, each in the form that a place of the code wants. Assumes nothing.
-use Prim.Native.Nat.{ℕ, _+_, _≤_, _<_}
-use mathlib.Core.Path.{_≡_, sym, _∙_}
+use Prim.Native.Nat.{ℕ, _+_, _-_, _≤_, _<_}
+use mathlib.Core.Path.{_≡_, refl, sym, ap, _∙_}
 use mathlib.Core.Bool.{Bool, true, false, not, _&&_}
+use mathlib.Core.List.{List, [], _∷_, _++_}
 use native.Mathlib.Omega.{arith}
-use lib.ListN.{length, getD, drop}
+use lib.Dec.{eqb}
+use lib.ListN.{length, getD, take, drop}
+use lib.Seq.{length-take-le}
 use borrow.Author.Tests.{lt-leb, le-leb, eq-eqb, ne-eqb, not-true, not-false}
+use Rattle.base.specs.Pick.{pick}
 use Rattle.base.specs.Part.{sameBytes}
 use Rattle.farm.specs.declared.Label.{Label}
 use Rattle.farm.specs.Labels.{byteOk, allOk, text, labelOk, sameLabel}
-use Rattle.farm.proofs.Left.{taken-at, taken-end}
+use Rattle.farm.proofs.Left.{taken-at, taken-end, taken-last}
 
 -- ---- a byte
 
@@ -52,7 +56,20 @@ module _ (l : Label) where
 
 pub ruleset label-steps = (no-byte, past-room, label-start, byte-bad, byte-good, bytes-good)
 
--- ---- two labels: i bytes were the same
+-- ---- two labels: all bytes from i on were the same
+
+-- texts of one length are the same exactly where the last bytes are and what stands before them is
+same-last : (a b : List ℕ) (x y : ℕ) → length a ≡ length b → sameBytes (a ++ (x ∷ [])) (b ++ (y ∷ [])) ≡ pick (eqb x y) (sameBytes a b) false
+unfolding sameBytes
+same-last [] [] x y l = refl
+same-last [] (v ∷ b) x y l = absurd (omega arith)
+same-last (u ∷ a) [] x y l = absurd (omega arith)
+same-last (u ∷ a) (v ∷ b) x y l = ap (λ (t : Bool). pick (eqb u v) t false) (same-last a b x y (omega arith)) ∙ go (eqb u v) (eqb x y)
+  where
+    go : (s t : Bool) → pick s (pick t (sameBytes a b) false) false ≡ pick t (pick s (sameBytes a b) false) false
+    go true t = refl
+    go false true = refl
+    go false false = refl
 
 module _ (a b : Label) where
   pub other-length : (a .len ≡ b .len → ⊥) → false ≡ sameLabel a b
@@ -64,33 +81,28 @@ module _ (a b : Label) where
     unfolding sameLabel
     both-long h = simp (eq-eqb (a .len) (b .len) l, lt-leb (a .len) 16 h)
 
-    module _ (room : a .len ≤ 16) where
-      pub same-start : sameBytes (text a) (text b) ≡ sameLabel a b
-      unfolding sameLabel
-      same-start = simp (eq-eqb (a .len) (b .len) l, le-leb (a .len) 16 room)
+    pub same-start : a .len ≤ 16 → sameBytes (take (a .len) (a .bytes)) (take (a .len) (b .bytes)) ≡ sameLabel a b
+    unfolding sameLabel
+    same-start room = rw (eq-eqb (a .len) (b .len) l, le-leb (a .len) 16 room, ← l)
 
-      module _ (i : ℕ) (inv : sameBytes (drop i (text a)) (drop i (text b)) ≡ sameLabel a b) where
-        module _ (long : length (a .bytes) ≡ 16) (long′ : length (b .bytes) ≡ 16) (h : i < a .len) where
-          pub byte-other : (getD (a .bytes) i 0 ≡ getD (b .bytes) i 0 → ⊥) → false ≡ sameLabel a b
-          unfolding sameBytes
-          byte-other n =
-              let k : i < b .len = omega arith in
-              let s : i < length (a .bytes) = omega arith in
-              let t : i < length (b .bytes) = omega arith in
-              simp (taken-at (a .len) (a .bytes) i 0 h s, taken-at (b .len) (b .bytes) i 0 k t, sameBytes, ne-eqb _ _ n) at inv
+  module _ (i : ℕ) (inv : sameBytes (take i (a .bytes)) (take i (b .bytes)) ≡ sameLabel a b) where
+    module _ (long : length (a .bytes) ≡ 16) (long′ : length (b .bytes) ≡ 16) (h : 0 < i) (room : i ≤ 16) where
+      next-same : pick (eqb (getD (a .bytes) (i - 1) 0) (getD (b .bytes) (i - 1) 0)) (sameBytes (take (i - 1) (a .bytes)) (take (i - 1) (b .bytes))) false ≡ sameLabel a b
+      next-same =
+          let s : take i (a .bytes) ≡ take (i - 1) (a .bytes) ++ (getD (a .bytes) (i - 1) 0 ∷ []) = taken-last (a .bytes) i 0 h (omega arith) in
+          let t : take i (b .bytes) ≡ take (i - 1) (b .bytes) ++ (getD (b .bytes) (i - 1) 0 ∷ []) = taken-last (b .bytes) i 0 h (omega arith) in
+          let k = length-take-le (i - 1) (a .bytes) (omega arith) in
+          let k′ = length-take-le (i - 1) (b .bytes) (omega arith) in
+          sym (same-last (take (i - 1) (a .bytes)) (take (i - 1) (b .bytes)) _ _ (k ∙ sym k′)) ∙ (rw (s, t) at inv)
 
-          pub byte-same : getD (a .bytes) i 0 ≡ getD (b .bytes) i 0 → sameBytes (drop (i + 1) (text a)) (drop (i + 1) (text b)) ≡ sameLabel a b
-          unfolding sameBytes
-          byte-same e =
-              let k : i < b .len = omega arith in
-              let s : i < length (a .bytes) = omega arith in
-              let t : i < length (b .bytes) = omega arith in
-              simp (taken-at (a .len) (a .bytes) i 0 h s, taken-at (b .len) (b .bytes) i 0 k t, sameBytes, eq-eqb _ _ e) at inv
+      pub byte-other : (getD (a .bytes) (i - 1) 0 ≡ getD (b .bytes) (i - 1) 0 → ⊥) → false ≡ sameLabel a b
+      byte-other n = sym (rw (ne-eqb _ _ n)) ∙ next-same
 
-        pub bytes-same : a .len ≤ i → true ≡ sameLabel a b
-        unfolding sameBytes
-        bytes-same h =
-            let k : b .len ≤ i = omega arith in
-            simp (taken-end (a .len) (a .bytes) i h, taken-end (b .len) (b .bytes) i k, sameBytes) at inv
+      pub byte-same : getD (a .bytes) (i - 1) 0 ≡ getD (b .bytes) (i - 1) 0 → sameBytes (take (i - 1) (a .bytes)) (take (i - 1) (b .bytes)) ≡ sameLabel a b
+      byte-same e = sym (rw (eq-eqb _ _ e)) ∙ next-same
+
+    pub bytes-same : i ≤ 0 → true ≡ sameLabel a b
+    unfolding sameBytes
+    bytes-same h = let z : i ≡ 0 = omega arith in rw z at inv
 
 pub ruleset same-label-steps = (other-length, both-long, same-start, byte-other, byte-same, bytes-same)

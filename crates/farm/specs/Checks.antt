@@ -3,7 +3,7 @@
 -- 4, 8 (label of an earlier herd), 12, 7."
 use Prim.Native.Nat.{ℕ}
 use mathlib.Core.Bool.{Bool, true, false, not, _||_}
-use mathlib.Core.List.{List, [], _∷_, _++_}
+use mathlib.Core.List.{List, [], _∷_, _++_, map}
 use lib.ListN.{take}
 use lib.Dec.{leb, ltb}
 use Rattle.base.specs.First.{Line, _when_, first}
@@ -63,23 +63,31 @@ lacks h = lacksOne (rowsOf (h .kind)) (h .slots)
 unfoldable pub unfit : Herd → Bool
 unfit h = unfitOne (rowsOf (h .kind)) (h .slots)
 
+-- one of the labels is this one
+abbrev pub hasLabel : List Label → Label → Bool
+hasLabel [] l = false
+hasLabel (x ∷ xs) l = sameLabel x l || hasLabel xs l
+
+-- the labels of herds, in their order
+abbrev pub labelsOf : List Herd → List Label
+labelsOf hs = map (λ h. h .label) hs
+
 -- one of the herds has the label
 unfoldable pub earlierLabel : List Herd → Label → Bool
-earlierLabel [] l = false
-earlierLabel (h ∷ hs) l = sameLabel (h .label) l || earlierLabel hs l
+earlierLabel hs l = hasLabel (labelsOf hs) l
 
--- the tests of a herd's inputs, and of a herd that stands after these, in their order
+-- the tests of a herd's inputs, and of a herd that stands after those with these labels, in their order
 abbrev pub inputLines : Herd → List (Line Checked)
 inputLines h = Refused InputMissing 0 when lacks h ∷ Refused BadValue 0 when unfit h ∷ []
 
-abbrev pub herdLines : List Herd → Herd → List (Line Checked)
+abbrev pub herdLines : List Label → Herd → List (Line Checked)
 herdLines earlier h =
-    Refused BadLabel 0 when not (labelOk (h .label)) ∷ Refused EarlierLabel 0 when earlierLabel earlier (h .label) ∷ inputLines h
+    Refused BadLabel 0 when not (labelOk (h .label)) ∷ Refused EarlierLabel 0 when hasLabel earlier (h .label) ∷ inputLines h
 
 -- herd by herd
-abbrev pub herdsLines : List Herd → List Herd → List (Line Checked)
+abbrev pub herdsLines : List Label → List Herd → List (Line Checked)
 herdsLines earlier [] = []
-herdsLines earlier (h ∷ hs) = herdLines earlier h ++ herdsLines (earlier ++ (h ∷ [])) hs
+herdsLines earlier (h ∷ hs) = herdLines earlier h ++ herdsLines (earlier ++ (h .label ∷ [])) hs
 
 -- a herd by itself: no herd is earlier
 unfoldable pub checkHerd : Herd → Checked

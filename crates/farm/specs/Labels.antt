@@ -1,11 +1,13 @@
--- 01, The farm file: "The label has 1 to 16 bytes from 32 to 126, byte 34 excepted." And when two labels are one.
+-- 01, The farm file: "The label has 1 to 16 bytes from 32 to 126, byte 34 excepted." And when two labels are one, and
+-- labels that say nothing.
 use Prim.Native.Nat.{ℕ}
 use mathlib.Core.List.{List, [], _∷_}
 use mathlib.Core.Bool.{Bool, true, not, _&&_}
-use lib.ListN.{length, take}
+use lib.ListN.{take, replicate}
 use lib.Dec.{leb, eqb}
 use Rattle.base.specs.Part.{sameBytes}
 use Rattle.farm.specs.declared.Label.{Label}
+use Rattle.farm.specs.declared.labels.Labels.{Labels}
 
 unfoldable pub byteOk : ℕ → Bool
 byteOk b = leb 32 b && (leb b 126 && not (eqb b 34))
@@ -25,3 +27,10 @@ labelOk l = leb 1 (l .len) && (leb (l .len) 16 && allOk (text l))
 -- of one length of at most 16, with the same bytes in use
 unfoldable pub sameLabel : Label → Label → Bool
 sameLabel a b = eqb (a .len) (b .len) && (leb (a .len) 16 && sameBytes (text a) (text b))
+
+-- a label and labels that say nothing
+abbrev pub noLabel : Label
+noLabel = record { bytes = replicate 16 0; len = 0 }
+
+abbrev pub noLabels : Labels
+noLabels = record { of = replicate 64 noLabel }

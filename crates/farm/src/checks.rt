@@ -6,12 +6,13 @@ use crate::Given;
 use crate::Herd;
 use crate::Label;
 use crate::labels;
+use crate::labels::Labels;
 use inputs::Form;
 ghost use mathlib.Core.Path.{_≡_};
 ghost use lib.ListN.{take};
 ghost use Rattle.base.specs.First.{first};
 ghost use Rattle.farm.specs.declared.Checked.the-variants.{Accepted};
-ghost use Rattle.farm.specs.Checks.{standardFits, valueFits, fits, isMissing, lacks, unfit, earlierLabel, inputLines, herdLines, checkHerd, checkFarm};
+ghost use Rattle.farm.specs.Checks.{standardFits, valueFits, fits, isMissing, lacks, unfit, hasLabel, inputLines, herdLines, checkHerd, checkFarm};
 
 const HERDS_MOST: usize = 64;
 
@@ -95,17 +96,17 @@ pub fn has_unfit(h: Herd) -> bool
     false
 }
 
-// Has one of the first `upto` herds this label?
-pub fn earlier_label(farm: Farm, upto: usize, l: Label) -> bool
-    ensures { λ r. ⌜ r ≡ earlierLabel (take upto (farm .herds)) l ⌝ }
+// Is this one of the first `upto` labels?
+pub fn earlier_label(labels: Labels, upto: usize, l: Label) -> bool
+    ensures { λ r. ⌜ r ≡ hasLabel (take upto (labels .of)) l ⌝ }
 {
     let mut i = 0;
     while i < upto {
         if HERDS_MOST <= i {
             return false;
         }
-        let h = farm.herds[i];
-        if labels::same_label(h.label, l) {
+        let earlier = labels.of[i];
+        if labels::same_label(earlier, l) {
             return true;
         }
         i += 1;
@@ -136,14 +137,14 @@ pub fn check_herd(h: Herd) -> Checked
     check_inputs(h)
 }
 
-// A herd that stands after the first `place` of a farm: 4, 8, 12, 7.
-fn check_after(farm: Farm, place: usize, h: Herd) -> Checked
-    ensures { λ r. ⌜ r ≡ first (herdLines (take place (farm .herds)) h) Accepted ⌝ }
+// A herd that stands after those of the first `place` labels: 4, 8, 12, 7.
+fn check_after(labels: Labels, place: usize, h: Herd) -> Checked
+    ensures { λ r. ⌜ r ≡ first (herdLines (take place (labels .of)) h) Accepted ⌝ }
 {
     if !labels::label_ok(h.label) {
         return Checked::Refused(Fault::BadLabel, 0);
     }
-    if earlier_label(farm, place, h.label) {
+    if earlier_label(labels, place, h.label) {
         return Checked::Refused(Fault::EarlierLabel, 0);
     }
     check_inputs(h)
@@ -157,10 +158,13 @@ pub fn check_farm(farm: Farm) -> Checked
     if HERDS_MOST < count {
         return Checked::Refused(Fault::NoRoomForHerd, 0);
     }
+    let mut labels = labels::no_labels();
     let mut i = 0;
     while i < count {
         let h = farm.herds[i];
-        match check_after(farm, i, h) {
+        let label = h.label;
+        labels.of[i] = label;
+        match check_after(labels, i, h) {
             Checked::Accepted => {
                 i += 1;
             }

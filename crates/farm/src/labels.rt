@@ -1,7 +1,12 @@
 // Labels: 1 to 16 bytes from 32 to 126, byte 34 excepted; two are one label where the bytes in use are the same.
 use crate::Label;
 ghost use mathlib.Core.Path.{_≡_};
-ghost use Rattle.farm.specs.Labels.{byteOk, labelOk, sameLabel};
+ghost use Rattle.farm.specs.Labels.{byteOk, labelOk, sameLabel, noLabels};
+
+// Labels of herds, in their order, apart from the rest of a farm: they are handed over for each herd.
+pub struct Labels {
+    pub of: [Label; 64],
+}
 
 const LABEL_MOST: usize = 16;
 
@@ -41,7 +46,7 @@ pub fn label_ok(l: Label) -> bool
     true
 }
 
-// Are the bytes in use the same?
+// Are the bytes in use the same? From the last to the first: labels of one farm tend to be alike in front.
 pub fn same_label(a: Label, b: Label) -> bool
     ensures { λ r. ⌜ r ≡ sameLabel a b ⌝ }
 {
@@ -52,12 +57,24 @@ pub fn same_label(a: Label, b: Label) -> bool
     if LABEL_MOST < n {
         return false;
     }
-    let mut i = 0;
-    while i < n {
+    let mut i = n;
+    while 0 < i {
+        i -= 1;
         if a.bytes[i] != b.bytes[i] {
             return false;
         }
-        i += 1;
     }
     true
+}
+
+// Labels that say nothing.
+pub fn no_labels() -> Labels
+    ensures { λ r. ⌜ r ≡ noLabels ⌝ }
+{
+    Labels {
+        of: [Label {
+            bytes: [0u8; 16],
+            len: 0,
+        }; 64],
+    }
 }

@@ -1,19 +1,19 @@
--- The loop keeps that one of the herds from i on has the label exactly where one of all has. Assumes nothing.
+-- The loop keeps that one of the labels from i on is this one exactly where one of all is. Assumes nothing.
 use Prim.Native.Nat.{_-_, _≤_}
 use mathlib.Core.Path.{_≡_}
 use lib.ListN.{take, drop}
 use borrow.Author.Needs.{needs}
-use Rattle.farm.specs.Checks.{earlierLabel}
+use Rattle.farm.specs.Checks.{hasLabel}
 use Rattle.farm.proofs.Left.{length-mapped}
 use Rattle.farm.proofs.HerdSteps.{earlier-steps}
 use Rattle.farm.proofs.checks.earlier_label.Statement.{statement}
 use Rattle.farm.proofs.checks.earlier_label.Tie as tie
 
 abbrev Inv-loop : tie.InvT-loop
-Inv-loop upto l farm i₀ i = (i ≤ upto) × (earlierLabel (drop i (take upto (farm .herds))) l ≡ earlierLabel (take upto (farm .herds)) l)
+Inv-loop upto l labels i₀ i = (i ≤ upto) × (hasLabel (drop i (take upto (labels .of))) l ≡ hasLabel (take upto (labels .of)) l)
 
 abbrev μ-loop : tie.MeasureT-loop
-μ-loop upto l farm i₀ i = upto - i
+μ-loop upto l labels i₀ i = upto - i
 
 loop-holds : tie.Need-loop-holds Inv-loop μ-loop
 loop-holds c = search needs
@@ -21,11 +21,11 @@ loop-holds c = search needs
 returns : tie.Need-returns Inv-loop μ-loop
 returns c = search (needs, earlier-steps, length-mapped)
 
-mul-h : tie.Need-mul-h Inv-loop μ-loop
-mul-h c = search needs
+mul-earlier : tie.Need-mul-earlier Inv-loop μ-loop
+mul-earlier c = search needs
 
-element-copy-out-h : tie.Need-element-copy-out-h Inv-loop μ-loop
-element-copy-out-h c = search needs
+element-copy-out-earlier : tie.Need-element-copy-out-earlier Inv-loop μ-loop
+element-copy-out-earlier c = search needs
 
 same-label-requires : tie.Need-same-label-requires Inv-loop μ-loop
 same-label-requires c κs = search needs
@@ -53,8 +53,8 @@ earlier-label-spec =
     μ-loop
     loop-holds
     returns
-    mul-h
-    element-copy-out-h
+    mul-earlier
+    element-copy-out-earlier
     same-label-requires
     returns-2
     add-i

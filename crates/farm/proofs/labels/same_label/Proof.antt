@@ -1,19 +1,19 @@
--- The loop keeps that the bytes from i on are the same exactly where the labels are. Assumes nothing.
-use Prim.Native.Nat.{_-_, _≤_}
+-- The loop keeps that the bytes before i are the same exactly where the labels are. Assumes nothing.
+use Prim.Native.Nat.{_≤_}
 use mathlib.Core.Path.{_≡_}
-use lib.ListN.{drop}
+use lib.ListN.{take}
 use borrow.Author.Needs.{needs}
 use Rattle.base.specs.Part.{sameBytes}
-use Rattle.farm.specs.Labels.{text, sameLabel}
+use Rattle.farm.specs.Labels.{sameLabel}
 use Rattle.farm.proofs.LabelSteps.{same-label-steps}
 use Rattle.farm.proofs.labels.same_label.Statement.{statement}
 use Rattle.farm.proofs.labels.same_label.Tie as tie
 
 abbrev Inv-loop : tie.InvT-loop
-Inv-loop a b n i₀ i = (i ≤ n) × (sameBytes (drop i (text a)) (drop i (text b)) ≡ sameLabel a b)
+Inv-loop a b n i₀ i = (i ≤ 16) × (sameBytes (take i (a .bytes)) (take i (b .bytes)) ≡ sameLabel a b)
 
 abbrev μ-loop : tie.MeasureT-loop
-μ-loop a b n i₀ i = n - i
+μ-loop a b n i₀ i = i
 
 returns : tie.Need-returns Inv-loop μ-loop
 returns c = search (needs, same-label-steps)
@@ -24,6 +24,9 @@ returns-2 c = search (needs, same-label-steps)
 loop-holds : tie.Need-loop-holds Inv-loop μ-loop
 loop-holds c = search (needs, same-label-steps)
 
+sub-i : tie.Need-sub-i Inv-loop μ-loop
+sub-i c = search needs
+
 element-copy-out-if3 : tie.Need-element-copy-out-if3 Inv-loop μ-loop
 element-copy-out-if3 c = search needs
 
@@ -32,9 +35,6 @@ element-copy-out-if3-2 c = search needs
 
 returns-3 : tie.Need-returns-3 Inv-loop μ-loop
 returns-3 c = search (needs, same-label-steps)
-
-add-i : tie.Need-add-i Inv-loop μ-loop
-add-i c = search needs
 
 loop-less : tie.Need-loop-less Inv-loop μ-loop
 loop-less c = search needs
@@ -54,10 +54,10 @@ same-label-spec =
     returns
     returns-2
     loop-holds
+    sub-i
     element-copy-out-if3
     element-copy-out-if3-2
     returns-3
-    add-i
     loop-less
     loop-again
     returns-4)
