@@ -43,7 +43,7 @@ module _ (s : List ℕ) (at : ℕ) where
 
   -- what is found is a record of the grammar: at its places stand its contents, and reading goes on past it
   pub found-stands : {f : Fields} {n : ReaderPlace} → stepOf s at ≡ Record f n → ReadAs s at f n
-  found-stands e = next-reads s at (stepOf s at) refl e
+  found-stands e = next-reads s at e
 
   -- every record of the grammar is found
   pub stands-found : {cs : List (List ℕ)} {left : List ℕ} → Front cs (drop at s) left → Finds s at cs left

@@ -1,6 +1,5 @@
 -- The reader's outcome at a position of the file, and what is read of the rest of the file from there. A loop over a file's records keeps
--- `g (readingOf (drop at s)) ≡ X` for a function g of its own; a turn of it opens the reading by `next-reads`, `broken-read` or `end-read`,
--- and puts what stands at the places for the contents by `holds` of `next-reads`. `next-fits` and `next-less` serve its bounds.
+-- `g (readingOf (drop at s)) ≡ X` for a function g of its own; a turn of it opens the reading by what `says` gives for the outcome.
 -- Assumes nothing.
 use Prim.Native.Nat.{ℕ, zero, suc, _-_, _+_, _<_, _≤_}
 use mathlib.Core.List.{List, [], _∷_, _++_, append-assoc}
@@ -21,7 +20,7 @@ use Rattle.csv.specs.declared.FieldEnd.{FieldEnd}
 use Rattle.csv.specs.declared.FieldEnd.the-variants as ends
 use Rattle.csv.specs.declared.Step.{Step}
 use Rattle.csv.specs.declared.Step.the-variants.{Record, Broken, End}
-use Rattle.csv.specs.Reading.{Row, row, withField, atStart, Reading, _then_, end, readingOf, Parts, partsOf}
+use Rattle.csv.specs.Reading.{Row, row, withField, atStart, Reading, end, readingOf, partsOf}
 use Rattle.csv.specs.Places.{held, partsAt, reader, noFields, andField, fieldFrom, rowFrom, stepOf}
 use Rattle.csv.specs.Outcome.{InFile, Placed, ReadAs}
 use Rattle.csv.proofs.Cases.{by-test}
@@ -168,58 +167,14 @@ module _ (s : List ℕ) (at : ℕ) where
           let l : at < length s = leb-false (length s) at e in
           told-says l (row-told s at l (suc (length s - at)) noFields at [] (none-held s) (none-placed s) (omega arith) (omega arith) (omega arith)) refl
 
--- a record of four fields is its parts
-pub four-fields : (cs : List (List ℕ)) → length cs ≡ 4 → cs ≡ partsOf cs .first ∷ partsOf cs .second ∷ partsOf cs .third ∷ partsOf cs .fourth ∷ []
-four-fields [] e = absurd (omega arith)
-four-fields (a ∷ []) e = absurd (omega arith)
-four-fields (a ∷ b ∷ []) e = absurd (omega arith)
-four-fields (a ∷ b ∷ c ∷ []) e = absurd (omega arith)
-four-fields (a ∷ b ∷ c ∷ d ∷ []) e = refl
-four-fields (a ∷ b ∷ c ∷ d ∷ x ∷ cs) e = absurd (omega arith)
-
--- where the bytes at a record's places are its contents, its four fields stand there
-listed : (p q : Parts) → p ≡ q → q .first ∷ q .second ∷ q .third ∷ q .fourth ∷ [] ≡ p .first ∷ p .second ∷ p .third ∷ p .fourth ∷ []
-listed p q e = rw e
-
--- the reader was asked at `at`, and answered r
-module _ (s : List ℕ) (at : ℕ) (r : Step) (q : r ≡ stepOf s at) where
-  said : {o : Step} → r ≡ o → Says s at o
-  said e = rw (sym q ∙ e) at (says s at)
-
-  module _ {f : Fields} {n : ReaderPlace} (e : r ≡ Record f n) where
-    pub next-reads : ReadAs s at f n
-    next-reads = go (said e)
-      where
-        go : {f : Fields} {n : ReaderPlace} → Says s at (Record f n) → ReadAs s at f n
-        go (Says.found x) = x
-
-    pub next-fits : n .at ≤ length s
-    next-fits = next-reads .fits
-
-    pub next-less : length s - n .at < length s - at
-    next-less = omega (arith, next-reads)
-
-    -- a record of four fields
-    pub four-read : f .count ≡ 4 → readingOf (drop at s) ≡ (held s (f .first) ∷ held s (f .second) ∷ held s (f .third) ∷ held s (f .fourth) ∷ []) then readingOf (drop (n .at) s)
-    four-read k =
-        let x = next-reads in
-        let long : length (x .contents) ≡ 4 = sym (ap (λ (p : Parts). p .count) (x .holds)) ∙ k in
-        x .reads
-        ∙ ap (λ (cs : List (List ℕ)). cs then readingOf (drop (n .at) s))
-        (four-fields (x .contents) long ∙ listed (partsAt s f) (partsOf (x .contents)) (x .holds))
-
-  -- a broken record
-  pub broken-read : r ≡ Broken → readingOf (drop at s) ≡ Reading.broken
-  broken-read e = go (said e)
+-- the reader finds a record at `at`
+module _ (s : List ℕ) (at : ℕ) {f : Fields} {n : ReaderPlace} (e : stepOf s at ≡ Record f n) where
+  pub next-reads : ReadAs s at f n
+  next-reads = go (rw e at (says s at))
     where
-      go : Says s at Broken → readingOf (drop at s) ≡ Reading.broken
-      go (Says.broken _ _ x) = x
+      go : Says s at (Record f n) → ReadAs s at f n
+      go (Says.found x) = x
 
-  -- the end of the file
-  pub end-read : r ≡ End → readingOf (drop at s) ≡ end
-  end-read e = go (said e)
-    where
-      go : Says s at End → readingOf (drop at s) ≡ end
-      go (Says.ended l) = rw (rest-end s at l) reading-none
-
-pub ruleset reading-steps = (next-reads, next-fits, next-less, four-read, broken-read, end-read)
+-- the end of the file
+pub end-read : (s : List ℕ) (at : ℕ) → length s ≤ at → readingOf (drop at s) ≡ end
+end-read s at l = rw (rest-end s at l) reading-none

@@ -1,105 +1,205 @@
--- The loop over a file's records: what is read from here on, X, is what is read from the front. Each turn opens the reading by what the reader
--- found. Assumes nothing.
-use Prim.Native.Nat.{ℕ, _+_, _≤_, _<_}
+-- The loop over a file's records: what is read from here on, X, is what is read from the front. Each turn opens the reading by what is met at
+-- the place. Assumes nothing.
+use Prim.Native.Nat.{ℕ, _+_, _-_, _≤_, _<_}
 use mathlib.Core.Path.{_≡_, sym, ap, _∙_}
 use mathlib.Core.List.{List}
 use native.Mathlib.Omega.{arith}
 use lib.Dec.{lit<}
-use lib.ListN.{drop}
+use lib.ListN.{length, take, drop, set, length-set}
 use Rattle.base.specs.First.{first}
-use Rattle.csv.specs.declared.Fields.{Fields}
 use Rattle.csv.specs.declared.ReaderPlace.{ReaderPlace}
 use Rattle.csv.specs.declared.Step.{Step}
-use Rattle.csv.specs.declared.Step.the-variants.{Record, Broken, End}
-use Rattle.csv.specs.Reading.{readingOf}
-use Rattle.csv.specs.Places.{partsAt, stepOf}
-use Rattle.csv.proofs.Steps.{next-reads, broken-read, end-read}
+use Rattle.csv.specs.Reading.{Parts, readingOf}
+use Rattle.csv.specs.Places.{partsAt}
+use Rattle.csv.proofs.Steps.{Says, says, end-read}
+use Rattle.farm.specs.declared.Label.{Label}
+use Rattle.farm.specs.declared.Herd.{Herd}
+use Rattle.farm.specs.declared.Farm.{Farm}
+use Rattle.farm.specs.declared.labels.Labels.{Labels}
 use Rattle.farm.specs.declared.Fault.{Fault}
 use Rattle.farm.specs.declared.Fault.the-variants.{RecordBroken}
 use Rattle.farm.specs.declared.Checked.{Checked}
 use Rattle.farm.specs.declared.Checked.the-variants.{Accepted, Refused}
+use Rattle.farm.specs.Labels.{noLabels}
+use Rattle.farm.specs.Checks.{labelsOf, herdsOf}
+use Rattle.farm.proofs.LabelsSoFar.{labels-stored}
 use Rattle.reader.specs.declared.Turn.{Turn}
-use Rattle.reader.specs.declared.Turn.the-variants.{Adds, Wrong, Begins}
-use Rattle.reader.specs.declared.Turned.{Turned}
-use Rattle.reader.specs.declared.Progress.{Progress}
-use Rattle.reader.specs.declared.Begun.{Begun}
+use Rattle.reader.specs.declared.Turn.the-variants.{Adds, Wrong, Begins, Ends}
+use Rattle.reader.specs.declared.Current.{Current}
+use Rattle.reader.specs.declared.Met.{Met}
 use Rattle.reader.specs.declared.FileAnswer.{FileAnswer}
-use Rattle.reader.specs.Entries.{entryOf}
-use Rattle.reader.specs.Files.{refused, nothingRead, recordLines, taken, finished, readFrom}
-use Rattle.reader.specs.Turns.{turnOf, begun}
-use Rattle.reader.proofs.TurnSays.{withCurrent, TurnSays, turn-says, BegunSays, begun-says}
+use Rattle.reader.specs.Herds.{noHerd}
+use Rattle.reader.specs.Files.{Progress, noFarm, refused, nothingRead, recordLines, taken, closed, finished, readFrom}
+use Rattle.reader.specs.Turns.{progress, nothingCurrent, followedBy, metBy, metAt, counted, admitted, Underway}
+use Rattle.reader.proofs.TurnSays.{newLines, beginning, withCurrent, TurnSays, turn-says, Admits, admits}
+use Rattle.reader.proofs.FileSteps.{none-yet, one-counted, stored, closed-farm, closed-lacking}
 
 -- what is read from a place on, where the n-th record comes
 abbrev pub onFrom : List ℕ → ReaderPlace → ℕ → Progress → FileAnswer
 onFrom s place n p = readFrom n p (readingOf (drop (place .at) s))
 
-module _ (s : List ℕ) {place : ReaderPlace} (e : place .at ≡ 0) {p : Progress} (q : p ≡ nothingRead) where
-  pub front-read : onFrom s place 1 p ≡ readFrom 1 nothingRead (readingOf s)
-  front-read = rw (e, q)
+-- ---- what is met says what is read
 
-  pub front-room : p .farm .count < 64
-  front-room = rw q (lit< tt)
+data MetSays (s : List ℕ) (place : ReaderPlace) (n : ℕ) (p : Progress) : Turn → Herd → ReaderPlace → Type 0 where
+  ends : {h : Herd} {next : ReaderPlace} → onFrom s place n p ≡ finished p → MetSays s place n p Ends h next
+  wrong : {fault : Fault} {h : Herd} {next : ReaderPlace} → onFrom s place n p ≡ refused n fault → MetSays s place n p (Wrong fault) h next
+  adds : {h : Herd} {next : ReaderPlace} → (p .herd ≡ noHerd → ⊥) → onFrom s place n p ≡ onFrom s next (n + 1) (withCurrent p h) → place .at < next .at → next .at ≤ length s
+      → MetSays s place n p Adds h next
+  begins : {h : Herd} {next : ReaderPlace} → onFrom s place n p ≡ first (newLines n p (h .label)) (onFrom s next (n + 1) (beginning n p h))
+      → place .at < next .at → next .at ≤ length s
+      → MetSays s place n p Begins h next
 
-pub ruleset front-steps = (front-read, front-room)
+module _ (s : List ℕ) (place : ReaderPlace) (n : ℕ) (p : Progress) where
+  turn-met : (x : Parts) (next : ReaderPlace) → onFrom s place n p ≡ first (recordLines n p x) (onFrom s next (n + 1) (taken n p x)) → place .at < next .at → next .at ≤ length s
+      → {t : Turn} {h : Herd} → TurnSays n p x t h → MetSays s place n p t h next
+  turn-met x next e past fits (TurnSays.wrong l) = MetSays.wrong (e ∙ l _)
+  turn-met x next e past fits (TurnSays.adds some l k) = MetSays.adds some (e ∙ l _ ∙ ap (onFrom s next (n + 1)) k) past fits
+  turn-met x next e past fits (TurnSays.begins {h} l k) =
+      MetSays.begins (e ∙ l _ ∙ ap (λ (q : Progress). first (newLines n p (h .label)) (onFrom s next (n + 1) q)) k) past fits
 
--- the reader was asked at a place, and answered o
-module _ (s : List ℕ) (place : ReaderPlace) (n : ℕ) (p : Progress) (X : FileAnswer) (inv : onFrom s place n p ≡ X) {o : Step} (q : o ≡ stepOf s (place .at)) where
-  pub read-through : o ≡ End → {r : FileAnswer} → r ≡ finished p → r ≡ X
+  step-met : {o : Step} → Says s (place .at) o → let m = metBy s place (p .herd) o in MetSays s place n p (m .turn) (m .herd) (m .next)
   unfolding readFrom
-  read-through e w = w ∙ rw (end-read s (place .at) o q e, readFrom) at inv
+  step-met (Says.found {f} {n = next} x) =
+      let e : onFrom s place n p ≡ first (recordLines n p (partsAt s f)) (onFrom s next (n + 1) (taken n p (partsAt s f))) = rw (x .reads, readFrom, x .holds) in
+      turn-met (partsAt s f) next e (x .past) (x .fits) (turn-says n p (partsAt s f))
+  step-met (Says.broken b a e) = MetSays.wrong {fault = RecordBroken} (rw (e, readFrom))
+  step-met (Says.ended l) = MetSays.ends (rw (end-read s (place .at) l, readFrom))
 
-  pub read-broken : o ≡ Broken → {r : FileAnswer} → r ≡ refused n RecordBroken → r ≡ X
-  unfolding readFrom
-  read-broken e w = w ∙ rw (broken-read s (place .at) o q e, readFrom) at inv
+  met-says : let m = metAt s place (p .herd) in MetSays s place n p (m .turn) (m .herd) (m .next)
+  unfolding metAt
+  met-says = step-met (says s (place .at))
 
-  module _ {f : Fields} {next : ReaderPlace} (e : o ≡ Record f next) where
-    -- where the record is taken
-    abbrev after : FileAnswer
-    after = onFrom s next (n + 1) (taken n p (partsAt s f))
+-- ---- how far the loop is
 
-    record-read : first (recordLines n p (partsAt s f)) after ≡ X
-    unfolding readFrom
-    record-read = let x = next-reads s (place .at) o q e in simp (x .reads, readFrom, ← x .holds) at inv
+-- at a place where the n-th record comes: the farm has room for the herd being read, the first of the labels are those of its herds, and what is
+-- read from here on is what is read from the front
+pub record Reached (s : List ℕ) (place : ReaderPlace) (f : Farm) (ls : List Label) (c : Current) (n : ℕ) : Type 0 where
+  pub inside : place .at ≤ length s
+  pub numbered : (0 < n) × (n ≤ place .at + 1)
+  pub room : f .count < 64
+  pub underway : Underway (progress f c)
+  pub herds-long : length (f .herds) ≡ 64
+  pub labels-long : length ls ≡ 64
+  pub labelled : take (f .count) ls ≡ labelsOf (herdsOf f)
+  pub reads : onFrom s place n (progress f c) ≡ readFrom 1 nothingRead (readingOf s)
 
-    pub number-next : n ≤ place .at + 1 → n + 1 ≤ next .at + 1
-    number-next h = omega (arith, next-reads s (place .at) o q e .past)
+pub at-front : (s : List ℕ) {place : ReaderPlace} → place .at ≡ 0 → {f : Farm} → f ≡ noFarm → {ls : Labels} → ls ≡ noLabels → {c : Current} → c ≡ nothingCurrent
+    → Reached s place f (ls .of) c 1
+at-front s e q l w =
+    record {
+      inside = omega arith;
+      numbered = (omega arith, omega arith);
+      room = rw q (lit< tt);
+      underway = Underway.not-yet (rw (q, w));
+      herds-long = rw q;
+      labels-long = rw l;
+      labelled = rw q;
+      reads = rw (e, q, w);
+    }
 
-    module _ {t : Turned} (w : t ≡ turnOf (p .herd) (entryOf (partsAt s f))) where
-      turn-is : {u : Turn} → t .turn ≡ u → TurnSays n p (partsAt s f) u (t .herd)
-      turn-is z = rw (sym w, z) at (turn-says n p (partsAt s f))
+-- ---- a turn
 
-      pub read-wrong : {fault : Fault} → t .turn ≡ Wrong fault → {r : FileAnswer} → r ≡ refused n fault → r ≡ X
-      read-wrong {fault} z {r} v = go (turn-is z)
-        where
-          go : TurnSays n p (partsAt s f) (Wrong fault) (t .herd) → r ≡ X
-          go (TurnSays.wrong l) = v ∙ sym (l after) ∙ record-read
+-- it takes the record
+data Taken : Turn → Type 0 where
+  on-adds : Taken Adds
+  on-begins : Taken Begins
 
-      pub read-adds : t .turn ≡ Adds → onFrom s next (n + 1) (withCurrent p (t .herd)) ≡ X
-      read-adds z = go (turn-is z)
-        where
-          go : TurnSays n p (partsAt s f) Adds (t .herd) → onFrom s next (n + 1) (withCurrent p (t .herd)) ≡ X
-          go (TurnSays.adds l k) = ap (onFrom s next (n + 1)) (sym k) ∙ sym (l after) ∙ record-read
+module _ (s : List ℕ) (place : ReaderPlace) (f : Farm) (ls : List Label) (c : Current) (n : ℕ) (x : Reached s place f ls c n)
+    {m : Met} (w : m ≡ metAt s place (c .herd)) where
+  abbrev X : FileAnswer
+  X = readFrom 1 nothingRead (readingOf s)
 
-      module _ (z : t .turn ≡ Begins) {b : Begun} (v : b ≡ begun n p (t .herd)) where
-        begun-is : {c : Checked} → b .checked ≡ c → BegunSays n p (t .herd) c (b .progress)
-        begun-is y = rw (sym v, y) at (begun-says n p (t .herd))
+  met-is : {u : Turn} → m .turn ≡ u → MetSays s place n (progress f c) u (m .herd) (m .next)
+  met-is z = rw (sym w, z) at (met-says s place n (progress f c))
 
-        pub read-refused : {fault : Fault} {k : ℕ} → b .checked ≡ Refused fault k → {r : FileAnswer} → r ≡ refused k fault → r ≡ X
-        read-refused {fault} {k} y {r} u = go (turn-is z) (begun-is y)
-          where
-            go : TurnSays n p (partsAt s f) Begins (t .herd) → BegunSays n p (t .herd) (Refused fault k) (b .progress) → r ≡ X
-            go (TurnSays.begins l j) (BegunSays.refuses m) = u ∙ sym (m after) ∙ sym (l after) ∙ record-read
+  pub read-through : m .turn ≡ Ends → {r : FileAnswer} → r ≡ finished (progress f c) → r ≡ X
+  read-through z {r} v = go (met-is z)
+    where
+      go : MetSays s place n (progress f c) Ends (m .herd) (m .next) → r ≡ X
+      go (MetSays.ends e) = v ∙ sym e ∙ x .reads
 
-        pub read-begun : b .checked ≡ Accepted → onFrom s next (n + 1) (b .progress) ≡ X
-        read-begun y = go (turn-is z) (begun-is y)
-          where
-            go : TurnSays n p (partsAt s f) Begins (t .herd) → BegunSays n p (t .herd) Accepted (b .progress) → onFrom s next (n + 1) (b .progress) ≡ X
-            go (TurnSays.begins l j) (BegunSays.accepts m k room) = ap (onFrom s next (n + 1)) (k ∙ sym j) ∙ sym (m after) ∙ sym (l after) ∙ record-read
+  pub read-wrong : {fault : Fault} → m .turn ≡ Wrong fault → {r : FileAnswer} → r ≡ refused n fault → r ≡ X
+  read-wrong {fault} z {r} v = go (met-is z)
+    where
+      go : MetSays s place n (progress f c) (Wrong fault) (m .herd) (m .next) → r ≡ X
+      go (MetSays.wrong e) = v ∙ sym e ∙ x .reads
 
-        pub begun-room : b .checked ≡ Accepted → b .progress .farm .count < 64
-        begun-room y = go (begun-is y)
-          where
-            go : BegunSays n p (t .herd) Accepted (b .progress) → b .progress .farm .count < 64
-            go (BegunSays.accepts m k room) = rw k room
+  past-it : {u : Turn} → Taken u → m .turn ≡ u → (place .at < m .next .at) × (m .next .at ≤ length s)
+  past-it t z = go t (met-is z)
+    where
+      go : {u : Turn} → Taken u → MetSays s place n (progress f c) u (m .herd) (m .next) → (place .at < m .next .at) × (m .next .at ≤ length s)
+      go Taken.on-adds (MetSays.adds some e past fits) = (past, fits)
+      go Taken.on-begins (MetSays.begins e past fits) = (past, fits)
 
-pub ruleset read-steps = (read-through, read-broken, number-next, read-wrong, read-adds, read-refused, read-begun, begun-room)
+  module _ (z : m .turn ≡ Adds) where
+    pub adds-less : length s - m .next .at < length s - place .at
+    adds-less = omega (arith, past-it Taken.on-adds z)
+
+    pub added : Reached s (m .next) f ls (record { herd = m .herd; first = c .first; lacking = c .lacking }) (n + 1)
+    added =
+        let y = past-it Taken.on-adds z in
+        record {
+          inside = y .1;
+          numbered = (omega arith, omega (arith, y, x .numbered));
+          room = x .room;
+          underway = go (met-is z) (x .underway);
+          herds-long = x .herds-long;
+          labels-long = x .labels-long;
+          labelled = x .labelled;
+          reads = on (met-is z);
+        }
+      where
+        on : MetSays s place n (progress f c) Adds (m .herd) (m .next) → onFrom s (m .next) (n + 1) (withCurrent (progress f c) (m .herd)) ≡ X
+        on (MetSays.adds some e past fits) = sym e ∙ x .reads
+
+        go : MetSays s place n (progress f c) Adds (m .herd) (m .next) → Underway (progress f c) → Underway (withCurrent (progress f c) (m .herd))
+        go (MetSays.adds some e past fits) (Underway.reading k) = Underway.reading k
+        go (MetSays.adds some e past fits) (Underway.not-yet k) = absurd (some (ap (λ (p : Progress). p .herd) k))
+
+  -- a record of another label
+  module _ (z : m .turn ≡ Begins) {b : Checked} (v : b ≡ admitted (take (f .count) ls) (counted (f .count) (c .first)) (m .herd .label) n) where
+    admits-is : {k : Checked} → b ≡ k → Admits n (progress f c) (m .herd .label) k
+    admits-is y =
+        let e : admitted (labelsOf (herdsOf f)) (closed (progress f c) .farm .count) (m .herd .label) n ≡ b = rw (closed-farm (x .underway), sym (x .labelled)) (sym v) in
+        rw (e ∙ y) at (admits n (progress f c) (m .herd .label))
+
+    pub read-refused : {fault : Fault} {k : ℕ} → b ≡ Refused fault k → {r : FileAnswer} → r ≡ refused k fault → r ≡ X
+    read-refused {fault} {k} y {r} q = go (met-is z) (admits-is y)
+      where
+        go : MetSays s place n (progress f c) Begins (m .herd) (m .next) → Admits n (progress f c) (m .herd .label) (Refused fault k) → r ≡ X
+        go (MetSays.begins e past fits) (Admits.refuses h) = q ∙ sym (h _) ∙ sym e ∙ x .reads
+
+    pub begins-less : length s - m .next .at < length s - place .at
+    begins-less = omega (arith, past-it Taken.on-begins z)
+
+    pub begun : b ≡ Accepted → {k : ℕ} → k ≡ counted (f .count) (c .first) → {d : Current} → d ≡ followedBy c (m .herd) n
+        → Reached s (m .next) (stored f (c .herd) k) (set ls (f .count) (c .herd .label)) d (n + 1)
+    begun y {k} q {d} t =
+        let g = past-it Taken.on-begins z in
+        record {
+          inside = g .1;
+          numbered = (omega arith, omega (arith, g, x .numbered));
+          room = roomy (admits-is y);
+          underway = Underway.reading (λ e. let n-zero : n ≡ 0 = sym (ap (λ (c : Current). c .first) t) ∙ e in omega (arith, x .numbered));
+          herds-long = rw length-set (x .herds-long);
+          labels-long = rw length-set (x .labels-long);
+          labelled = labels (x .underway);
+          reads = on (met-is z) (admits-is y);
+        }
+      where
+        roomy : Admits n (progress f c) (m .herd .label) Accepted → k < 64
+        roomy (Admits.accepts h room) = rw q (rw (closed-farm (x .underway)) at room)
+
+        labels : Underway (progress f c) → take k (set ls (f .count) (c .herd .label)) ≡ labelsOf (take k (set (f .herds) (f .count) (c .herd)))
+        labels (Underway.not-yet e) = rw (q, none-yet e)
+        labels (Underway.reading k) =
+            rw (q, sym (one-counted (f .count) (c .first) k)) (labels-stored ls (f .herds) (f .count) (x .labelled) (x .labels-long) (x .herds-long) (x .room) (c .herd))
+
+        is : progress (stored f (c .herd) k) d ≡ beginning n (progress f c) (m .herd)
+        is = rw (t, q, closed-farm (x .underway), closed-lacking (x .underway))
+
+        on : MetSays s place n (progress f c) Begins (m .herd) (m .next) → Admits n (progress f c) (m .herd .label) Accepted
+            → onFrom s (m .next) (n + 1) (progress (stored f (c .herd) k) d) ≡ X
+        on (MetSays.begins e past fits) (Admits.accepts h room) = ap (onFrom s (m .next) (n + 1)) is ∙ sym (h _) ∙ sym e ∙ x .reads
+
+pub ruleset read-steps = (at-front, read-through, read-wrong, adds-less, added, read-refused, begins-less, begun)

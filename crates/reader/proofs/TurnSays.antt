@@ -1,42 +1,48 @@
 -- The code looks at 3 to 7, then at the label: where it is that of the herd being read at 10 and 11, else at 8 and 9. That gives the first that
 -- applies of 3 to 11 as they are listed, since 8 and 9 are of another label and 10 and 11 of the herd's own. Assumes nothing.
-use Prim.Native.Nat.{ℕ, _<_}
-use mathlib.Core.Path.{_≡_, refl, ap, _∙_, subst}
+use Prim.Native.Nat.{ℕ, _≤_, _<_}
+use mathlib.Core.Path.{_≡_, refl, sym, ap, _∙_, subst}
 use mathlib.Core.Bool.{Bool, true, false, not, _&&_}
 use mathlib.Core.List.{List, [], _∷_, _++_}
 use lib.Dec.{eqb, leb}
 use lib.ListN.{length}
-use borrow.Author.Tests.{leb-false}
+use native.Mathlib.Omega.{arith}
+use borrow.Author.Tests.{eqb-true, leb-true, leb-false}
 use Rattle.base.specs.Pick.{pick}
 use Rattle.base.specs.First.{Line, _when_, first}
+use Rattle.csv.specs.declared.Fields.{Fields}
+use Rattle.csv.specs.declared.ReaderPlace.{ReaderPlace}
+use Rattle.csv.specs.declared.Step.{Step}
+use Rattle.csv.specs.declared.Step.the-variants.{Record, Broken, End}
 use Rattle.csv.specs.Reading.{Parts}
+use Rattle.csv.specs.Places.{partsAt, stepOf}
 use Rattle.inputs.specs.declared.Found.{Found}
 use Rattle.inputs.specs.declared.Found.the-variants.{At, Nowhere}
 use Rattle.inputs.specs.Inputs.{rows, kindAt, formAt}
 use Rattle.inputs.specs.Find.{findInput}
+use Rattle.inputs.proofs.Tables.{both-true}
 use Rattle.inputs.proofs.Founds.{find-input-at}
 use Rattle.farm.specs.declared.Label.{Label}
 use Rattle.farm.specs.declared.Given.{Given}
 use Rattle.farm.specs.declared.Herd.{Herd}
 use Rattle.farm.specs.declared.Fault.{Fault}
-use Rattle.farm.specs.declared.Fault.the-variants.{NotFourFields, BadLabel, NotInTheList, StandardForbidden, BadValue, EarlierLabel, NoRoomForHerd, OtherKind, GivenAlready}
+use Rattle.farm.specs.declared.Fault.the-variants.{RecordBroken, NotFourFields, BadLabel, NotInTheList, StandardForbidden, BadValue, EarlierLabel, NoRoomForHerd, OtherKind, GivenAlready}
 use Rattle.farm.specs.declared.Checked.{Checked}
 use Rattle.farm.specs.declared.Checked.the-variants.{Accepted, Refused}
-use Rattle.farm.specs.Labels.{labelOk}
-use Rattle.farm.specs.Checks.{earlierLabel, herdsOf}
+use Rattle.farm.specs.Labels.{labelOk, sameLabel}
+use Rattle.farm.specs.Checks.{hasLabel, labelsOf, earlierLabel, herdsOf}
 use Rattle.reader.specs.declared.Told.{Told}
 use Rattle.reader.specs.declared.Told.the-variants as tolds
 use Rattle.reader.specs.declared.Entry.{Entry}
 use Rattle.reader.specs.declared.Turn.{Turn}
-use Rattle.reader.specs.declared.Turn.the-variants.{Adds, Wrong, Begins}
+use Rattle.reader.specs.declared.Turn.the-variants.{Adds, Wrong, Begins, Ends}
 use Rattle.reader.specs.declared.Turned.{Turned}
-use Rattle.reader.specs.declared.Progress.{Progress}
 use Rattle.reader.specs.declared.FileAnswer.{FileAnswer}
 use Rattle.reader.specs.Values.{valueOf}
 use Rattle.reader.specs.Entries.{labelIn, isNowhere, placeIn, foundIn, inputIn, isForbidden, isUnfit, givenBy, givenIn, entryLines, toldIn, entryOf}
-use Rattle.reader.specs.Herds.{sameKind, withInput, newHerd, hasInput}
-use Rattle.reader.specs.Files.{refused, closed, isCurrent, recordLines, taken}
-use Rattle.reader.specs.Turns.{Listed, turned, addingTo, turnTo, turnOf, unbegun, beginning, begun}
+use Rattle.reader.specs.Herds.{noHerd, sameKind, withInput, newHerd, hasInput}
+use Rattle.reader.specs.Files.{Progress, refused, closed, isCurrent, recordLines, taken}
+use Rattle.reader.specs.Turns.{Listed, turned, addingTo, turnTo, turnOf, metBy, metAt, admitted}
 
 -- ---- lists of refusals, whatever a refusal is said as
 
@@ -112,20 +118,56 @@ entry-listed x = go (foundIn x) refl
     go (At i) e = told-listed i (givenBy (valueOf (formAt i) (x .fourth))) (find-input-at (x .second) (x .third) i e .inside) (by (At i))
     go Nowhere e = nowhere a b
 
+-- ---- nor of a bad label, which a herd that says nothing has
+
+input-good : (x : Parts) {j : ℕ} {v : Given} → toldIn x ≡ tolds.Input j v → labelOk (labelIn x) ≡ true
+unfolding toldIn
+input-good x {j} {v} e = go (not (eqb (x .count) 4)) (labelOk (labelIn x)) _ e
+  where
+    go : (a good : Bool) (t : Told) → pick a (tolds.Wrong NotFourFields) (pick (not good) (tolds.Wrong BadLabel) t) ≡ tolds.Input j v → good ≡ true
+    go a true t h = refl
+    go true false t h = cc
+    go false false t h = cc
+
+no-label : (l : Label) → sameLabel (noHerd .label) l ≡ true → labelOk l ≡ true → ⊥
+unfolding sameLabel labelOk
+no-label l s k =
+    let none : 0 ≡ l .len = eqb-true 0 (l .len) (both-true (eqb 0 (l .len)) _ s .0) in
+    let some : 1 ≤ l .len = leb-true 1 (l .len) (both-true (leb 1 (l .len)) _ k .0) in
+    omega arith
+
 -- ---- so says the record
 
 pub told-is-listed : (x : Parts) {y : Entry} → y ≡ entryOf x → Listed (y .told)
 unfolding entryOf
 told-is-listed x e = rw e (entry-listed x)
 
-pub turn-said : (h : Herd) (x : Parts) {y : Entry} {r : Turned} → y ≡ entryOf x → r ≡ turnOf h y → r ≡ turnOf h (entryOf x)
-turn-said h x e q = rw e at q
+module _ (s : List ℕ) (place : ReaderPlace) (h : Herd) {o : Step} (q : o ≡ stepOf s (place .at)) where
+  met-is : {x : Step} → o ≡ x → metAt s place h ≡ metBy s place h x
+  unfolding metAt
+  met-is e = ap (metBy s place h) (sym q ∙ e)
+
+  pub met-record : {f : Fields} {next : ReaderPlace} → o ≡ Record f next → {y : Entry} → y ≡ entryOf (partsAt s f) → {t : Turned} → t ≡ turnOf h y
+      → record { turn = t .turn; herd = t .herd; next = next } ≡ metAt s place h
+  met-record e v w = rw (w, v) (sym (met-is e))
+
+  pub met-broken : o ≡ Broken → record { turn = Wrong RecordBroken; herd = h; next = place } ≡ metAt s place h
+  met-broken e = sym (met-is e)
+
+  pub met-end : o ≡ End → record { turn = Ends; herd = h; next = place } ≡ metAt s place h
+  met-end e = sym (met-is e)
+
+pub ruleset met-steps = (met-record, met-broken, met-end)
 
 -- ---- the turn says what the lines give, and what is read then
 
 -- the lines of a record of another label
-abbrev newLines : ℕ → Progress → Label → List (Line FileAnswer)
+abbrev pub newLines : ℕ → Progress → Label → List (Line FileAnswer)
 newLines n p l = refused n EarlierLabel when earlierLabel (herdsOf (p .farm)) l ∷ refused n NoRoomForHerd when leb 64 (closed p .farm .count) ∷ []
+
+-- the herd h, whose first record is the n-th, is the one being read
+abbrev pub beginning : ℕ → Progress → Herd → Progress
+beginning n p h = record { farm = closed p .farm; herd = h; first = n; lacking = closed p .lacking }
 
 -- as far as p, with this herd being read
 abbrev pub withCurrent : Progress → Herd → Progress
@@ -133,7 +175,7 @@ withCurrent p h = record { farm = p .farm; herd = h; first = p .first; lacking =
 
 pub data TurnSays (n : ℕ) (p : Progress) (x : Parts) : Turn → Herd → Type 0 where
   wrong : {fault : Fault} {h : Herd} → ((z : FileAnswer) → first (recordLines n p x) z ≡ refused n fault) → TurnSays n p x (Wrong fault) h
-  adds : {h : Herd} → ((z : FileAnswer) → first (recordLines n p x) z ≡ z) → taken n p x ≡ withCurrent p h → TurnSays n p x Adds h
+  adds : {h : Herd} → (p .herd ≡ noHerd → ⊥) → ((z : FileAnswer) → first (recordLines n p x) z ≡ z) → taken n p x ≡ withCurrent p h → TurnSays n p x Adds h
   begins : {h : Herd} → ((z : FileAnswer) → first (recordLines n p x) z ≡ first (newLines n p (h .label)) z) → taken n p x ≡ beginning n p h → TurnSays n p x Begins h
 
 module _ (n : ℕ) (p : Progress) (x : Parts) where
@@ -157,22 +199,22 @@ module _ (n : ℕ) (p : Progress) (x : Parts) where
   took own = pick own (withCurrent p (withInput (p .herd) i g)) (beginning n p (newHerd (labelIn x) i g))
 
   -- the herd's own label: 10 and 11
-  own-turn : (same given : Bool)
+  own-turn : (p .herd ≡ noHerd → ⊥) → (same given : Bool)
       → ((z : FileAnswer) → first (recordLines n p x) z ≡ pick (not same) (refused n OtherKind) (pick given (refused n GivenAlready) z))
       → taken n p x ≡ took true
       → let t = pick (not same) (turned (Wrong OtherKind) (p .herd)) (pick given (turned (Wrong GivenAlready) (p .herd)) (turned Adds (withInput (p .herd) i g))) in
       TurnSays n p x (t .turn) (t .herd)
-  own-turn false given l t = TurnSays.wrong l
-  own-turn true true l t = TurnSays.wrong l
-  own-turn true false l t = TurnSays.adds l t
+  own-turn some false given l t = TurnSays.wrong l
+  own-turn some true true l t = TurnSays.wrong l
+  own-turn some true false l t = TurnSays.adds some l t
 
   -- 3 to 7 do not apply
-  input-turn : (own : Bool) → ((z : FileAnswer) → first (recordLines n p x) z ≡ first (behind own) z) → taken n p x ≡ took own
+  input-turn : labelOk (labelIn x) ≡ true → (own : Bool) → isCurrent p x ≡ own → ((z : FileAnswer) → first (recordLines n p x) z ≡ first (behind own) z) → taken n p x ≡ took own
       → let t = pick own (addingTo (p .herd) i g) (turned Begins (newHerd (labelIn x) i g)) in
       TurnSays n p x (t .turn) (t .herd)
   unfolding addingTo newHerd withInput
-  input-turn true l t = own-turn (sameKind (p .herd .kind) (kindAt i)) (hasInput (p .herd) i) l t
-  input-turn false l t = TurnSays.begins l t
+  input-turn good true e l t = own-turn (λ q. no-label (labelIn x) (rw q at e) good) (sameKind (p .herd .kind) (kindAt i)) (hasInput (p .herd) i) l t
+  input-turn good false e l t = TurnSays.begins l t
 
   told-lines : {t : Told} → toldIn x ≡ t → (z : FileAnswer) → first (recordLines n p x) z ≡ decided (refused n) (first (behind (isCurrent p x)) z) t
   unfolding toldIn recordLines
@@ -183,27 +225,26 @@ module _ (n : ℕ) (p : Progress) (x : Parts) where
   told-turn (tolds.Wrong fault) e = TurnSays.wrong (told-lines e)
   told-turn (tolds.Input j v) e =
       subst (λ (t : Told). TurnSays n p x (turnTo (p .herd) (labelIn x) t .turn) (turnTo (p .herd) (labelIn x) t .herd)) (told-input i g (faults x) e)
-      (input-turn (isCurrent p x) (told-lines e) refl)
+      (input-turn (input-good x e) (isCurrent p x) refl (told-lines e) refl)
 
   pub turn-says : let t = turnOf (p .herd) (entryOf x) in TurnSays n p x (t .turn) (t .herd)
   unfolding turnOf entryOf
   turn-says = told-turn (toldIn x) refl
 
--- ---- and another herd is begun
+-- ---- another label: 8 and 9
 
-pub data BegunSays (n : ℕ) (p : Progress) (h : Herd) : Checked → Progress → Type 0 where
-  refuses : {fault : Fault} {k : ℕ} {q : Progress} → ((z : FileAnswer) → first (newLines n p (h .label)) z ≡ refused k fault) → BegunSays n p h (Refused fault k) q
-  accepts : {q : Progress} → ((z : FileAnswer) → first (newLines n p (h .label)) z ≡ z) → q ≡ beginning n p h → closed p .farm .count < 64 → BegunSays n p h Accepted q
+pub data Admits (n : ℕ) (p : Progress) (l : Label) : Checked → Type 0 where
+  refuses : {fault : Fault} {k : ℕ} → ((z : FileAnswer) → first (newLines n p l) z ≡ refused k fault) → Admits n p l (Refused fault k)
+  accepts : ((z : FileAnswer) → first (newLines n p l) z ≡ z) → closed p .farm .count < 64 → Admits n p l Accepted
 
-pub begun-says : (n : ℕ) (p : Progress) (h : Herd) → BegunSays n p h (begun n p h .checked) (begun n p h .progress)
-unfolding begun
-begun-says n p h = go (earlierLabel (herdsOf (p .farm)) (h .label)) (leb 64 (closed p .farm .count)) (λ z. refl) refl
+pub admits : (n : ℕ) (p : Progress) (l : Label) → Admits n p l (admitted (labelsOf (herdsOf (p .farm))) (closed p .farm .count) l n)
+unfolding admitted earlierLabel
+admits n p l = go (hasLabel (labelsOf (herdsOf (p .farm))) l) (leb 64 (closed p .farm .count)) (λ z. refl) refl
   where
     go : (earlier full : Bool)
-        → ((z : FileAnswer) → first (newLines n p (h .label)) z ≡ pick earlier (refused n EarlierLabel) (pick full (refused n NoRoomForHerd) z))
+        → ((z : FileAnswer) → first (newLines n p l) z ≡ pick earlier (refused n EarlierLabel) (pick full (refused n NoRoomForHerd) z))
         → leb 64 (closed p .farm .count) ≡ full
-        → let b = pick earlier (unbegun n p EarlierLabel) (pick full (unbegun n p NoRoomForHerd) (record { checked = Accepted; progress = beginning n p h })) in
-        BegunSays n p h (b .checked) (b .progress)
-    go true full l e = BegunSays.refuses l
-    go false true l e = BegunSays.refuses l
-    go false false l e = BegunSays.accepts l refl (leb-false 64 (closed p .farm .count) e)
+        → Admits n p l (pick earlier (Refused EarlierLabel n) (pick full (Refused NoRoomForHerd n) Accepted))
+    go true full h e = Admits.refuses h
+    go false true h e = Admits.refuses h
+    go false false h e = Admits.accepts h (leb-false 64 (closed p .farm .count) e)

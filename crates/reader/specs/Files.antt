@@ -16,7 +16,6 @@ use Rattle.farm.specs.declared.Fault.the-variants.{FileTooLong, RecordBroken, E
 use Rattle.farm.specs.declared.Checked.the-variants.{Accepted, Refused}
 use Rattle.farm.specs.Labels.{sameLabel}
 use Rattle.farm.specs.Checks.{lacks, earlierLabel, herdsOf}
-use Rattle.reader.specs.declared.Progress.{Progress}
 use Rattle.reader.specs.declared.FileAnswer.{FileAnswer}
 use Rattle.reader.specs.Entries.{entryLines, labelIn, inputIn, givenIn}
 use Rattle.reader.specs.Herds.{noHerd, sameKind, withInput, newHerd, hasInput}
@@ -32,6 +31,14 @@ abbrev pub accepted : Farm → FileAnswer
 accepted f = record { checked = Accepted; farm = f }
 
 -- ---- how far a file is read
+
+-- the herds before the one being read; that one, and the number of its first record, 0 where there is none yet; and of the herds before it, the
+-- first record of the first that lacks an input, 0 where none does
+pub record Progress : Type 0 where
+  pub farm : Farm
+  pub herd : Herd
+  pub first : ℕ
+  pub lacking : ℕ
 
 abbrev pub nothingRead : Progress
 nothingRead = record { farm = noFarm; herd = noHerd; first = 0; lacking = 0 }

@@ -1,26 +1,26 @@
 // The whole file: 1 before all, then records from the front, then 12.
-use crate::Begun;
+use crate::Current;
 use crate::FileAnswer;
-use crate::Progress;
+use crate::Met;
 use crate::Turn;
-use crate::Turned;
 use crate::entries;
 use crate::herds;
-use csv::Fields;
 use csv::ReaderPlace;
 use csv::Step;
 use farm::Checked;
 use farm::Farm;
 use farm::Fault;
 use farm::Herd;
+use farm::Label;
 use farm::checks;
+use farm::labels;
+use farm::labels::Labels;
 ghost use mathlib.Core.Path.{_≡_};
 ghost use Prim.Native.Nat.{_<_};
 ghost use Rattle.csv.specs.Reading.{readingOf};
-ghost use Rattle.csv.specs.Places.{partsAt};
-ghost use Rattle.reader.specs.Entries.{entryOf};
-ghost use Rattle.reader.specs.Files.{noFarm, refused, nothingRead, lackingWith, closed, finished, readFrom, readOf};
-ghost use Rattle.reader.specs.Turns.{turnOf, begun};
+ghost use lib.ListN.{take};
+ghost use Rattle.reader.specs.Files.{noFarm, refused, nothingRead, lackingWith, finished, readFrom, readOf};
+ghost use Rattle.reader.specs.Turns.{Underway, progress, nothingCurrent, followedBy, counted, admitted, metAt};
 
 // At most so many bytes, and so many herds.
 const FILE_MOST: usize = 65536;
@@ -45,11 +45,10 @@ fn refused(record: usize, fault: Fault) -> FileAnswer
     }
 }
 
-fn nothing_read() -> Progress
-    ensures { λ r. ⌜ r ≡ nothingRead ⌝ }
+fn nothing_read() -> Current
+    ensures { λ r. ⌜ r ≡ nothingCurrent ⌝ }
 {
-    Progress {
-        farm: no_farm(),
+    Current {
         herd: herds::no_herd(),
         first: 0,
         lacking: 0,
@@ -69,118 +68,123 @@ fn lacking_with(before: usize, herd: Herd, first: usize) -> usize
     0
 }
 
-// The herd being read, where there is one, has all its records.
-fn closed(p: Progress) -> Progress
-    requires { ⌜ p .farm .count < 64 ⌝ }
-    ensures { λ r. ⌜ r ≡ closed p ⌝ }
+// How many herds the farm has with the one being read, where there is one.
+fn counted(count: usize, first: usize) -> usize
+    requires { ⌜ count < 64 ⌝ }
+    ensures { λ r. ⌜ r ≡ counted count first ⌝ }
 {
-    let first = p.first;
     if first == 0 {
-        return p;
+        return count;
     }
-    let herd = p.herd;
-    let mut farm = p.farm;
-    let count = farm.count;
-    farm.herds[count] = herd;
-    farm.count = count + 1;
-    Progress {
-        farm,
-        herd: herds::no_herd(),
-        first: 0,
-        lacking: lacking_with(p.lacking, herd, first),
-    }
+    count + 1
 }
 
-// A record of another label than the herd being read: 8, 9, or that herd is closed and this one, of which it is the first record, begun.
-fn begun(p: Progress, number: usize, herd: Herd) -> Begun
-    requires { ⌜ p .farm .count < 64 ⌝ }
-    ensures { λ r. ⌜ r ≡ begun number p herd ⌝ }
+// A record of another label than the herd being read, the farm having these labels: 8, or 9.
+fn admitted(labels: Labels, count: usize, first: usize, label: Label, number: usize) -> Checked
+    requires { ⌜ count < 64 ⌝ }
+    ensures { λ r. ⌜ r ≡ admitted (take count (labels .of)) (counted count first) label number ⌝ }
 {
-    let farm = p.farm;
-    if checks::earlier_label(farm, farm.count, herd.label) {
-        return Begun {
-            checked: Checked::Refused(Fault::EarlierLabel, number),
-            progress: p,
-        };
+    if checks::earlier_label(labels, count, label) {
+        return Checked::Refused(Fault::EarlierLabel, number);
     }
-    let done = closed(p);
-    let farm = done.farm;
-    if HERDS_MOST <= farm.count {
-        return Begun {
-            checked: Checked::Refused(Fault::NoRoomForHerd, number),
-            progress: p,
-        };
+    if HERDS_MOST <= counted(count, first) {
+        return Checked::Refused(Fault::NoRoomForHerd, number);
     }
-    Begun {
-        checked: Checked::Accepted,
-        progress: Progress {
-            farm,
-            herd,
-            first: number,
-            lacking: done.lacking,
-        },
+    Checked::Accepted
+}
+
+// The herd whose first record has this number, after the one that was being read.
+fn followed_by(c: Current, herd: Herd, number: usize) -> Current
+    ensures { λ r. ⌜ r ≡ followedBy c herd number ⌝ }
+{
+    Current {
+        herd,
+        first: number,
+        lacking: lacking_with(c.lacking, c.herd, c.first),
     }
 }
 
 // Read through: 12, or the farm.
-fn finished(p: Progress) -> FileAnswer
-    requires { ⌜ p .farm .count < 64 ⌝ }
-    ensures { λ r. ⌜ r ≡ finished p ⌝ }
+fn finished(closed: Farm, c: Current) -> FileAnswer
+    requires { ⌜ (closed .count < 64) × Underway (progress closed c) ⌝ }
+    ensures { λ r. ⌜ r ≡ finished (progress closed c) ⌝ }
 {
-    let done = closed(p);
-    let lacking = done.lacking;
+    let herd = c.herd;
+    let lacking = lacking_with(c.lacking, herd, c.first);
     if lacking != 0 {
         return refused(lacking, Fault::InputMissing);
     }
-    let farm = done.farm;
+    let mut farm = closed;
+    let count = farm.count;
+    farm.herds[count] = herd;
+    farm.count = counted(count, c.first);
     FileAnswer {
         checked: Checked::Accepted,
         farm,
     }
 }
 
-// How the record with these fields stands to the herd being read.
-fn turn_at(s: &[u8], f: Fields, herd: Herd) -> Turned
-    ensures { λ r. ⌜ r ≡ turnOf herd (entryOf (partsAt (now (s .entry)) f)) ⌝ }
+// What stands at a place.
+fn met_at(s: &[u8], place: ReaderPlace, herd: Herd) -> Met
+    ensures { λ r. ⌜ r ≡ metAt (now (s .entry)) place herd ⌝ }
 {
-    herds::turn_of(herd, entries::entry_of(s, f))
+    match place.next(s) {
+        Step::End => Met {
+            turn: Turn::Ends,
+            herd,
+            next: place,
+        },
+        Step::Broken => Met {
+            turn: Turn::Wrong(Fault::RecordBroken),
+            herd,
+            next: place,
+        },
+        Step::Record(f, next) => {
+            let t = herds::turn_of(herd, entries::entry_of(s, f));
+            let turn = t.turn;
+            let herd = t.herd;
+            Met { turn, herd, next }
+        }
+    }
 }
 
-// The records from the front. Of what is read so far only the herd being read changes at each record; the farm, at each herd.
+// The records from the front. The farm is changed where it stands: to hand it over and back would copy it for each herd.
 fn read_records(s: &[u8]) -> FileAnswer
     ensures { λ r. ⌜ r ≡ readFrom 1 nothingRead (readingOf (now (s .entry))) ⌝ }
 {
     let mut place = ReaderPlace::front();
-    let mut p = nothing_read();
+    let mut farm = no_farm();
+    let mut labels = labels::no_labels();
+    let mut c = nothing_read();
     let mut number: usize = 1;
     loop {
-        match place.next(s) {
-            Step::End => return finished(p),
-            Step::Broken => return refused(number, Fault::RecordBroken),
-            Step::Record(f, next) => {
-                let t = turn_at(s, f, p.herd);
-                let turn = t.turn;
-                let herd = t.herd;
-                match turn {
-                    Turn::Wrong(fault) => return refused(number, fault),
-                    Turn::Adds => {
-                        p.herd = herd;
-                        place = next;
-                        number += 1;
-                        continue;
-                    }
-                    Turn::Begins => {
-                        let b = begun(p, number, herd);
-                        let checked = b.checked;
-                        if let Checked::Refused(fault, record) = checked {
-                            return refused(record, fault);
-                        }
-                        p = b.progress;
-                        place = next;
-                        number += 1;
-                        continue;
-                    }
+        let m = met_at(s, place, c.herd);
+        let turn = m.turn;
+        let herd = m.herd;
+        match turn {
+            Turn::Ends => return finished(farm, c),
+            Turn::Wrong(fault) => return refused(number, fault),
+            Turn::Adds => {
+                c.herd = herd;
+                place = m.next;
+                number += 1;
+                continue;
+            }
+            Turn::Begins => {
+                let count = farm.count;
+                let checked = admitted(labels, count, c.first, herd.label, number);
+                if let Checked::Refused(fault, record) = checked {
+                    return refused(record, fault);
                 }
+                let done = c.herd;
+                let label = done.label;
+                farm.herds[count] = done;
+                farm.count = counted(count, c.first);
+                labels.of[count] = label;
+                c = followed_by(c, herd, number);
+                place = m.next;
+                number += 1;
+                continue;
             }
         }
     }

@@ -5,6 +5,7 @@ mod entries; // what a record says by itself: refusals 3 to 7
 mod herds; // a herd as its records come: refusals 10 and 11
 pub mod files; // the whole file: refusals 1, 2, 8, 9 and 12
 
+use csv::ReaderPlace;
 use farm::Checked;
 use farm::Farm;
 use farm::Fault;
@@ -31,11 +32,12 @@ pub struct Entry {
     pub told: Told,
 }
 
-// How a record stands to the herd being read: it adds to it, it is wrong, or it begins another.
+// How what comes next stands to the herd being read: it is a record that adds to it, that is wrong, or that begins another; or the file ends.
 pub enum Turn {
     Adds,
     Wrong(Fault),
     Begins,
+    Ends,
 }
 
 // The turn, and the herd that is being read then.
@@ -44,19 +46,19 @@ pub struct Turned {
     pub herd: Herd,
 }
 
-// How far a file is read: the herds before the one being read; that one, and the number of its first record, 0 where there is none yet;
-// and of the herds before it, the first record of the first that lacks an input, 0 where none does.
-pub struct Progress {
-    pub farm: Farm,
+// The herd being read, and the number of its first record, 0 where there is none yet; and of the herds before it, the first record of the
+// first that lacks an input, 0 where none does.
+pub struct Current {
     pub herd: Herd,
     pub first: usize,
     pub lacking: usize,
 }
 
-// What a record of another label than the herd being read gives: a refusal, or that it was taken, and how far the file is read then.
-pub struct Begun {
-    pub checked: Checked,
-    pub progress: Progress,
+// What stands at a place of the file: the turn, the herd that is being read then, and the place past it.
+pub struct Met {
+    pub turn: Turn,
+    pub herd: Herd,
+    pub next: ReaderPlace,
 }
 
 // What a file gives: its farm, or the refusal and a farm of no herds.

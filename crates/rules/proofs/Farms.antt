@@ -20,11 +20,10 @@ use Rattle.farm.specs.declared.Farm.{Farm}
 use Rattle.farm.specs.declared.Fault.the-variants.{EarlierLabel, NoRoomForHerd, OtherKind, GivenAlready}
 use Rattle.farm.specs.Labels.{sameLabel}
 use Rattle.farm.specs.Checks.{earlierLabel, herdsOf}
-use Rattle.reader.specs.declared.Progress.{Progress}
 use Rattle.reader.specs.declared.FileAnswer.{FileAnswer}
 use Rattle.reader.specs.Entries.{labelOf, inputIn, givenIn}
 use Rattle.reader.specs.Herds.{noHerd, sameKind, withInput, newHerd, hasInput}
-use Rattle.reader.specs.Files.{refused, withHerd, lackingWith, closed, recordLines, taken}
+use Rattle.reader.specs.Files.{Progress, refused, withHerd, lackingWith, closed, recordLines, taken}
 use Rattle.rules.specs.Lists.{Some, here, there, Apart, Pairs}
 use Rattle.rules.specs.Rules.{Record, GoodLabel, Says, Gives, PartOf, Stand, farmOf, labels}
 use Rattle.rules.proofs.Lists.{neither, apart-last}

@@ -23,11 +23,10 @@ use Rattle.farm.specs.declared.Fault.the-variants.{EarlierLabel, NoRoomForHerd,
 use Rattle.farm.specs.Labels.{sameLabel}
 use Rattle.farm.specs.Refusals.{number}
 use Rattle.farm.specs.Checks.{isMissing, lacks, earlierLabel}
-use Rattle.reader.specs.declared.Progress.{Progress}
 use Rattle.reader.specs.declared.FileAnswer.{FileAnswer}
 use Rattle.reader.specs.Entries.{labelOf}
 use Rattle.reader.specs.Herds.{sameKind, slotOf, newHerd, withInput, hasInput}
-use Rattle.reader.specs.Files.{refused, nothingRead, lackingWith, closed, recordLines, taken}
+use Rattle.reader.specs.Files.{Progress, refused, nothingRead, lackingWith, closed, recordLines, taken}
 use Rattle.rules.specs.Lists.{Some, Last, Apart}
 use Rattle.rules.specs.Rules.{Record, Says, Gives, PartOf, Stand, farmOf, labels}
 use Rattle.rules.specs.Refusals.{labelIn, NamesInput, SameLabel, ManyLabels, Applies, earlier-label, no-room-for-herd, other-kind, given-already}

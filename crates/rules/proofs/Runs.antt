@@ -13,9 +13,8 @@ use Rattle.farm.specs.declared.Farm.{Farm}
 use Rattle.farm.specs.declared.Fault.{Fault}
 use Rattle.farm.specs.declared.Fault.the-variants.{FileTooLong, RecordBroken, InputMissing}
 use Rattle.farm.specs.Refusals.{number}
-use Rattle.reader.specs.declared.Progress.{Progress}
 use Rattle.reader.specs.declared.FileAnswer.{FileAnswer}
-use Rattle.reader.specs.Files.{refused, accepted, nothingRead, taken, readFrom, fileMost, readOf}
+use Rattle.reader.specs.Files.{Progress, refused, accepted, nothingRead, taken, readFrom, fileMost, readOf}
 use Rattle.rules.specs.Rules.{Record, FarmOf}
 use Rattle.rules.specs.Refusals.{Applies, Lacks}
 use Rattle.rules.proofs.Faults.{NoneBelow, none-at-all}

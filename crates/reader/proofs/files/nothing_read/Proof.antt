@@ -1,11 +1,8 @@
--- `reader::files::nothing_read` meets its contract: a farm of no herds, and no herd being read. Assumes nothing.
+-- `reader::files::nothing_read` meets its contract: no herd is being read. Assumes nothing.
 use borrow.Author.Needs.{needs}
 use Rattle.reader.proofs.FileSteps.{empty-steps}
 use Rattle.reader.proofs.files.nothing_read.Statement.{statement}
 use Rattle.reader.proofs.files.nothing_read.Tie as tie
-
-no-farm-requires : tie.Need-no-farm-requires
-no-farm-requires c κs = search needs
 
 no-herd-requires : tie.Need-no-herd-requires
 no-herd-requires c κs = search needs
@@ -14,4 +11,4 @@ returns : tie.Need-returns
 returns c = search (needs, empty-steps)
 
 pub nothing-read-spec : {M : Type 1} → statement M
-nothing-read-spec = tie.close (tie.spec no-farm-requires no-herd-requires returns)
+nothing-read-spec = tie.close (tie.spec no-herd-requires returns)
