@@ -20,7 +20,7 @@ use Rattle.farm.specs.declared.Checked.the-variants as checks
 use Rattle.farm.specs.Checks.{checkHerd, checkFarm, herdsOf}
 use Rattle.farm.proofs.Accepts.{farm-count, farm-each}
 use Rattle.reader.specs.declared.FileAnswer.{FileAnswer}
-use Rattle.reader.specs.Herds.{noHerd}
+use Rattle.farm.specs.Herds.{noHerd}
 use Rattle.reader.specs.Files.{readOf, accepted}
 use Rattle.rules.specs.Rules.{farmOf}
 use Rattle.rules.proofs.Accepts.{accepts-exactly}

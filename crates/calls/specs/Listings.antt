@@ -12,7 +12,7 @@ use Rattle.farm.specs.declared.Checked.{Checked}
 use Rattle.farm.specs.declared.Checked.the-variants as checks
 use Rattle.farm.specs.Checks.{checkHerd, checkFarm}
 use Rattle.model.specs.Answers.{herdFigures, farmAnswer}
-use Rattle.reader.specs.Herds.{noHerd}
+use Rattle.farm.specs.Herds.{noHerd}
 use Rattle.reader.specs.Files.{readOf}
 use Rattle.listing.specs.declared.Written.{Written}
 use Rattle.listing.specs.declared.Written.the-variants.{Refused}

@@ -1,4 +1,5 @@
--- Two labels of at most 16 bytes are one exactly where their bytes in use are the same. Assumes nothing.
+-- Two labels of at most 16 bytes are one exactly where their bytes in use are the same; and a good label is not the one that says nothing.
+-- Assumes nothing.
 use Prim.Native.Nat.{ℕ, _≤_}
 use mathlib.Core.Path.{_≡_, refl, ap, sym, _∙_}
 use mathlib.Core.Bool.{Bool, true, false, _&&_}
@@ -7,25 +8,24 @@ use native.Mathlib.Omega.{arith}
 use lib.Dec.{leb, eqb}
 use lib.ListN.{length}
 use lib.Seq.{length-take-le}
-use borrow.Author.Tests.{eq-eqb, leb-true, le-leb}
+use borrow.Author.Tests.{eq-eqb, ne-eqb, leb-true, le-leb}
 use Rattle.base.specs.Part.{sameBytes}
 use Rattle.inputs.proofs.Founds.{same-eq}
 use Rattle.farm.specs.declared.Label.{Label}
-use Rattle.farm.specs.Labels.{allOk, text, labelOk, sameLabel}
+use Rattle.farm.specs.Labels.{allOk, text, labelOk, sameLabel, noLabel}
 
 second : (a b : Bool) → (a && b) ≡ true → b ≡ true
 second true b e = e
 second false b e = cc
 
--- a good label has at most 16 bytes
-pub label-room : (l : Label) → labelOk l ≡ true → l .len ≤ 16
-unfolding labelOk
-label-room l e = go (leb 1 (l .len)) (leb (l .len) 16) (allOk (text l)) refl e
+-- a good label has a byte
+pub no-label : (l : Label) → labelOk l ≡ true → sameLabel noLabel l ≡ false
+unfolding labelOk sameLabel
+no-label l e = go (leb 1 (l .len)) refl e
   where
-    go : (s t u : Bool) → leb (l .len) 16 ≡ t → (s && (t && u)) ≡ true → l .len ≤ 16
-    go true true u h e = leb-true (l .len) 16 h
-    go true false u h e = let z : _≡_ {A = ℕ} 0 1 = cc in absurd (omega arith)
-    go false t u h e = let z : _≡_ {A = ℕ} 0 1 = cc in absurd (omega arith)
+    go : (t : Bool) → leb 1 (l .len) ≡ t → (t && (leb (l .len) 16 && allOk (text l))) ≡ true → sameLabel noLabel l ≡ false
+    go true h e = let some : 1 ≤ l .len = leb-true 1 (l .len) h in rw (ne-eqb 0 (l .len) (λ z. omega arith))
+    go false h e = cc
 
 pub same-text : (a b : Label) → sameLabel a b ≡ true → text a ≡ text b
 unfolding sameLabel

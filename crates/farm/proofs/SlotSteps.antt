@@ -12,10 +12,10 @@ use Rattle.inputs.specs.declared.Form.{Form}
 use Rattle.inputs.specs.declared.Form.the-variants.{Number, OrStandard, NoStandard, OneOf}
 use Rattle.inputs.specs.Inputs.{rows, rowsOf, countOf, firstOf, noRow, formAt}
 use Rattle.inputs.proofs.Places.{count-most, form-of-place}
-use Rattle.farm.specs.declared.Slot.{Slot}
 use Rattle.farm.specs.declared.Given.{Given}
-use Rattle.farm.specs.declared.Given.the-variants.{Missing, Value}
+use Rattle.farm.specs.declared.Given.the-variants.{Value}
 use Rattle.farm.specs.declared.Herd.{Herd}
+use Rattle.farm.specs.Herds.{noSlot}
 use Rattle.farm.specs.Checks.{valueFits, fits, isMissing, lacksOne, unfitOne, lacks, unfit}
 use Rattle.farm.proofs.Left.{left-at, left-end}
 
@@ -46,10 +46,6 @@ pub stretch-inside : (k : Kind) → firstOf k + countOf k ≤ length rows
 stretch-inside Roughage = lit≤ tt
 stretch-inside Cattle = lit≤ tt
 stretch-inside Pigs = lit≤ tt
-
--- what the prover takes for a slot past the end
-abbrev pub noSlot : Slot
-noSlot = record { given = Missing }
 
 module _ (h : Herd) (i : ℕ) {count : ℕ} (q : count ≡ countOf (h .kind)) where
   module _ (long : length (h .slots) ≡ 9) (b : i < count) where

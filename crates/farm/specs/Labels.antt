@@ -1,9 +1,9 @@
--- 01, The farm file: "The label has 1 to 16 bytes from 32 to 126, byte 34 excepted." And when two labels are one, and
+-- 01, The farm file: "The label has 1 to 16 bytes from 32 to 126, byte 34 excepted." And the label that a text is, when two labels are one, and
 -- labels that say nothing.
 use Prim.Native.Nat.{ℕ}
-use mathlib.Core.List.{List, [], _∷_}
+use mathlib.Core.List.{List, [], _∷_, _++_}
 use mathlib.Core.Bool.{Bool, true, not, _&&_}
-use lib.ListN.{take, replicate}
+use lib.ListN.{length, take, replicate}
 use lib.Dec.{leb, eqb}
 use Rattle.base.specs.Part.{sameBytes}
 use Rattle.farm.specs.declared.Label.{Label}
@@ -27,6 +27,10 @@ labelOk l = leb 1 (l .len) && (leb (l .len) 16 && allOk (text l))
 -- of one length of at most 16, with the same bytes in use
 unfoldable pub sameLabel : Label → Label → Bool
 sameLabel a b = eqb (a .len) (b .len) && (leb (a .len) 16 && sameBytes (text a) (text b))
+
+-- the label that a text is: its first 16 bytes, zeros behind them, and its own length; past 16 that is no good label
+unfoldable pub labelOf : List ℕ → Label
+labelOf s = record { bytes = take 16 (s ++ replicate 16 0); len = length s }
 
 -- a label and labels that say nothing
 abbrev pub noLabel : Label

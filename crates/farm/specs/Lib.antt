@@ -1,4 +1,5 @@
 pub mod Labels
+pub mod Herds
 pub mod Refusals
 pub mod Checks
 pub mod Accepts

@@ -21,13 +21,13 @@ use Rattle.inputs.specs.Find.{findInput}
 use Rattle.farm.specs.declared.Label.{Label}
 use Rattle.farm.specs.declared.Given.{Given}
 use Rattle.farm.specs.declared.Fault.the-variants.{NotFourFields, BadLabel, NotInTheList, StandardForbidden, BadValue}
-use Rattle.farm.specs.Labels.{labelOk}
+use Rattle.farm.specs.Labels.{labelOk, labelOf}
 use Rattle.reader.specs.declared.Said.{Said}
 use Rattle.reader.specs.declared.Said.the-variants.{Is, Forbidden, Unfit}
 use Rattle.reader.specs.declared.Told.{Told}
 use Rattle.reader.specs.declared.Told.the-variants.{Input, Wrong}
 use Rattle.reader.specs.Values.{valueOf}
-use Rattle.reader.specs.Entries.{labelOf, labelIn, toldIn, toldOf, entryOf}
+use Rattle.reader.specs.Entries.{labelIn, toldIn, toldOf, entryOf}
 
 -- ---- the label: a text stored over zeros is the text with zeros behind it
 

@@ -15,7 +15,7 @@ use Rattle.farm.specs.declared.Checked.the-variants.{Accepted, Refused}
 use Rattle.farm.specs.Checks.{lacks, hasLabel}
 use Rattle.reader.specs.declared.Current.{Current}
 use Rattle.reader.specs.declared.FileAnswer.{FileAnswer}
-use Rattle.reader.specs.Herds.{noHerd}
+use Rattle.farm.specs.Herds.{noHerd}
 use Rattle.reader.specs.Files.{Progress, noFarm, nothingRead, refused, accepted, lackingWith, lackingNow, closed, finished}
 use Rattle.reader.specs.Turns.{progress, nothingCurrent, followedBy, counted, admitted, Underway}
 

@@ -20,7 +20,8 @@ use Rattle.reader.specs.declared.Told.the-variants as tolds
 use Rattle.reader.specs.declared.Entry.{Entry}
 use Rattle.reader.specs.declared.Turn.the-variants.{Adds, Wrong, Begins}
 use Rattle.reader.specs.declared.Turned.{Turned}
-use Rattle.reader.specs.Herds.{noSlot, kindNumber, slotOf, withInput, newHerd, hasInput}
+use Rattle.farm.specs.Herds.{noSlot, slotOf}
+use Rattle.reader.specs.Herds.{kindNumber, withInput, newHerd, hasInput}
 use Rattle.reader.specs.Turns.{turned, addingTo, turnOf, Listed}
 
 -- ---- a slot

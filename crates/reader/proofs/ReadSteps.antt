@@ -28,7 +28,7 @@ use Rattle.reader.specs.declared.Turn.the-variants.{Adds, Wrong, Begins,
 use Rattle.reader.specs.declared.Current.{Current}
 use Rattle.reader.specs.declared.Met.{Met}
 use Rattle.reader.specs.declared.FileAnswer.{FileAnswer}
-use Rattle.reader.specs.Herds.{noHerd}
+use Rattle.farm.specs.Herds.{noHerd}
 use Rattle.reader.specs.Files.{Progress, noFarm, refused, nothingRead, recordLines, taken, closed, finished, readFrom}
 use Rattle.reader.specs.Turns.{progress, nothingCurrent, followedBy, metBy, metAt, counted, admitted, Underway}
 use Rattle.reader.proofs.TurnSays.{newLines, beginning, withCurrent, TurnSays, turn-says, Admits, admits}

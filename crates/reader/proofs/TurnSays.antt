@@ -1,13 +1,12 @@
 -- The code looks at 3 to 7, then at the label: where it is that of the herd being read at 10 and 11, else at 8 and 9. That gives the first that
 -- applies of 3 to 11 as they are listed, since 8 and 9 are of another label and 10 and 11 of the herd's own. Assumes nothing.
-use Prim.Native.Nat.{ℕ, _≤_, _<_}
+use Prim.Native.Nat.{ℕ, _<_}
 use mathlib.Core.Path.{_≡_, refl, sym, ap, _∙_, subst}
-use mathlib.Core.Bool.{Bool, true, false, not, _&&_}
+use mathlib.Core.Bool.{Bool, true, false, true≢false, not, _&&_}
 use mathlib.Core.List.{List, [], _∷_, _++_}
 use lib.Dec.{eqb, leb}
 use lib.ListN.{length}
-use native.Mathlib.Omega.{arith}
-use borrow.Author.Tests.{eqb-true, leb-true, leb-false}
+use borrow.Author.Tests.{leb-false}
 use Rattle.base.specs.Pick.{pick}
 use Rattle.base.specs.First.{Line, _when_, first}
 use Rattle.csv.specs.declared.Fields.{Fields}
@@ -20,7 +19,6 @@ use Rattle.inputs.specs.declared.Found.{Found}
 use Rattle.inputs.specs.declared.Found.the-variants.{At, Nowhere}
 use Rattle.inputs.specs.Inputs.{rows, kindAt, formAt}
 use Rattle.inputs.specs.Find.{findInput}
-use Rattle.inputs.proofs.Tables.{both-true}
 use Rattle.inputs.proofs.Founds.{find-input-at}
 use Rattle.farm.specs.declared.Label.{Label}
 use Rattle.farm.specs.declared.Given.{Given}
@@ -29,7 +27,8 @@ use Rattle.farm.specs.declared.Fault.{Fault}
 use Rattle.farm.specs.declared.Fault.the-variants.{RecordBroken, NotFourFields, BadLabel, NotInTheList, StandardForbidden, BadValue, EarlierLabel, NoRoomForHerd, OtherKind, GivenAlready}
 use Rattle.farm.specs.declared.Checked.{Checked}
 use Rattle.farm.specs.declared.Checked.the-variants.{Accepted, Refused}
-use Rattle.farm.specs.Labels.{labelOk, sameLabel}
+use Rattle.farm.proofs.LabelTexts.{no-label}
+use Rattle.farm.specs.Labels.{labelOk}
 use Rattle.farm.specs.Checks.{hasLabel, labelsOf, earlierLabel, herdsOf}
 use Rattle.reader.specs.declared.Told.{Told}
 use Rattle.reader.specs.declared.Told.the-variants as tolds
@@ -40,7 +39,8 @@ use Rattle.reader.specs.declared.Turned.{Turned}
 use Rattle.reader.specs.declared.FileAnswer.{FileAnswer}
 use Rattle.reader.specs.Values.{valueOf}
 use Rattle.reader.specs.Entries.{labelIn, isNowhere, placeIn, foundIn, inputIn, isForbidden, isUnfit, givenBy, givenIn, entryLines, toldIn, entryOf}
-use Rattle.reader.specs.Herds.{noHerd, sameKind, withInput, newHerd, hasInput}
+use Rattle.farm.specs.Herds.{noHerd}
+use Rattle.reader.specs.Herds.{sameKind, withInput, newHerd, hasInput}
 use Rattle.reader.specs.Files.{Progress, refused, closed, isCurrent, recordLines, taken}
 use Rattle.reader.specs.Turns.{Listed, turned, addingTo, turnTo, turnOf, metBy, metAt, admitted}
 
@@ -118,7 +118,7 @@ entry-listed x = go (foundIn x) refl
     go (At i) e = told-listed i (givenBy (valueOf (formAt i) (x .fourth))) (find-input-at (x .second) (x .third) i e .inside) (by (At i))
     go Nowhere e = nowhere a b
 
--- ---- nor of a bad label, which a herd that says nothing has
+-- ---- nor of a bad label
 
 input-good : (x : Parts) {j : ℕ} {v : Given} → toldIn x ≡ tolds.Input j v → labelOk (labelIn x) ≡ true
 unfolding toldIn
@@ -128,13 +128,6 @@ input-good x {j} {v} e = go (not (eqb (x .count) 4)) (labelOk (labelIn x)) _ e
     go a true t h = refl
     go true false t h = cc
     go false false t h = cc
-
-no-label : (l : Label) → sameLabel (noHerd .label) l ≡ true → labelOk l ≡ true → ⊥
-unfolding sameLabel labelOk
-no-label l s k =
-    let none : 0 ≡ l .len = eqb-true 0 (l .len) (both-true (eqb 0 (l .len)) _ s .0) in
-    let some : 1 ≤ l .len = leb-true 1 (l .len) (both-true (leb 1 (l .len)) _ k .0) in
-    omega arith
 
 -- ---- so says the record
 
@@ -213,7 +206,7 @@ module _ (n : ℕ) (p : Progress) (x : Parts) where
       → let t = pick own (addingTo (p .herd) i g) (turned Begins (newHerd (labelIn x) i g)) in
       TurnSays n p x (t .turn) (t .herd)
   unfolding addingTo newHerd withInput
-  input-turn good true e l t = own-turn (λ q. no-label (labelIn x) (rw q at e) good) (sameKind (p .herd .kind) (kindAt i)) (hasInput (p .herd) i) l t
+  input-turn good true e l t = own-turn (λ q. true≢false (sym (rw q at e) ∙ no-label (labelIn x) good)) (sameKind (p .herd .kind) (kindAt i)) (hasInput (p .herd) i) l t
   input-turn good false e l t = TurnSays.begins l t
 
   told-lines : {t : Told} → toldIn x ≡ t → (z : FileAnswer) → first (recordLines n p x) z ≡ decided (refused n) (first (behind (isCurrent p x)) z) t

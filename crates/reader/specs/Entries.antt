@@ -1,8 +1,8 @@
 -- What a record says by itself: its label, the input that it names and the value that it gives; and refusals 3 to 7 (01, Refusal numbers).
 use Prim.Native.Nat.{ℕ}
 use mathlib.Core.Bool.{Bool, true, false, not}
-use mathlib.Core.List.{List, [], _∷_, _++_}
-use lib.ListN.{length, take, drop, replicate}
+use mathlib.Core.List.{List, [], _∷_}
+use lib.ListN.{drop}
 use lib.Dec.{eqb}
 use Rattle.base.specs.First.{Line, _when_, first}
 use Rattle.csv.specs.Reading.{Parts}
@@ -15,17 +15,13 @@ use Rattle.farm.specs.declared.Given.{Given}
 use Rattle.farm.specs.declared.Given.the-variants.{Missing}
 use Rattle.farm.specs.declared.Fault.{Fault}
 use Rattle.farm.specs.declared.Fault.the-variants.{NotFourFields, BadLabel, NotInTheList, StandardForbidden, BadValue}
-use Rattle.farm.specs.Labels.{labelOk}
+use Rattle.farm.specs.Labels.{labelOk, labelOf}
 use Rattle.reader.specs.declared.Said.{Said}
 use Rattle.reader.specs.declared.Said.the-variants.{Is, Forbidden, Unfit}
 use Rattle.reader.specs.declared.Told.{Told}
 use Rattle.reader.specs.declared.Told.the-variants.{Input, Wrong}
 use Rattle.reader.specs.declared.Entry.{Entry}
 use Rattle.reader.specs.Values.{valueOf}
-
--- the label that a text is: its first 16 bytes, zeros behind them, and its own length; past 16 that is no good label
-unfoldable pub labelOf : List ℕ → Label
-labelOf s = record { bytes = take 16 (s ++ replicate 16 0); len = length s }
 
 -- the label that a record has
 abbrev pub labelIn : Parts → Label

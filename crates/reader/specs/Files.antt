@@ -18,7 +18,8 @@ use Rattle.farm.specs.Labels.{sameLabel}
 use Rattle.farm.specs.Checks.{lacks, earlierLabel, herdsOf}
 use Rattle.reader.specs.declared.FileAnswer.{FileAnswer}
 use Rattle.reader.specs.Entries.{entryLines, labelIn, inputIn, givenIn}
-use Rattle.reader.specs.Herds.{noHerd, sameKind, withInput, newHerd, hasInput}
+use Rattle.farm.specs.Herds.{noHerd}
+use Rattle.reader.specs.Herds.{sameKind, withInput, newHerd, hasInput}
 
 -- a farm of no herds
 abbrev pub noFarm : Farm

@@ -1,27 +1,16 @@
 -- A herd as its records come: a new one, one input more, and what 10 and 11 ask: the kind of the herd, and whether it has the input already.
-use Prim.Native.Nat.{ℕ, _-_}
+use Prim.Native.Nat.{ℕ}
 use mathlib.Core.Bool.{Bool, not}
 use lib.ListN.{getD, set, replicate}
 use lib.Dec.{eqb}
 use Rattle.inputs.specs.declared.Kind.{Kind}
 use Rattle.inputs.specs.declared.Kind.the-variants.{Roughage, Cattle, Pigs}
-use Rattle.inputs.specs.Inputs.{kindAt, firstOf}
+use Rattle.inputs.specs.Inputs.{kindAt}
 use Rattle.farm.specs.declared.Label.{Label}
 use Rattle.farm.specs.declared.Given.{Given}
-use Rattle.farm.specs.declared.Given.the-variants.{Missing}
-use Rattle.farm.specs.declared.Slot.{Slot}
 use Rattle.farm.specs.declared.Herd.{Herd}
+use Rattle.farm.specs.Herds.{slotOf, noSlot}
 use Rattle.farm.specs.Checks.{isMissing}
-
--- a slot, a label and a herd that say nothing
-abbrev pub noSlot : Slot
-noSlot = record { given = Missing }
-
-abbrev pub noLabel : Label
-noLabel = record { bytes = replicate 16 0; len = 0 }
-
-abbrev pub noHerd : Herd
-noHerd = record { label = noLabel; kind = Roughage; slots = replicate 9 noSlot }
 
 -- two kinds are one
 abbrev pub kindNumber : Kind → ℕ
@@ -32,11 +21,7 @@ kindNumber Pigs = 2
 abbrev pub sameKind : Kind → Kind → Bool
 sameKind a b = eqb (kindNumber a) (kindNumber b)
 
--- the slot of an input in a herd of its kind
-abbrev pub slotOf : ℕ → ℕ
-slotOf input = input - firstOf (kindAt input)
-
--- the herd with a value in that slot
+-- the herd with a value in the slot of an input
 unfoldable pub withInput : Herd → ℕ → Given → Herd
 withInput h input g = record { label = h .label; kind = h .kind; slots = set (h .slots) (slotOf input) (record { given = g }) }
 

@@ -33,7 +33,8 @@ use Rattle.reader.specs.declared.Turned.{Turned}
 use Rattle.reader.specs.declared.Current.{Current}
 use Rattle.reader.specs.declared.Met.{Met}
 use Rattle.reader.specs.Entries.{entryOf}
-use Rattle.reader.specs.Herds.{noHerd, sameKind, withInput, newHerd, hasInput}
+use Rattle.farm.specs.Herds.{noHerd}
+use Rattle.reader.specs.Herds.{sameKind, withInput, newHerd, hasInput}
 use Rattle.reader.specs.Files.{Progress, nothingRead, lackingWith}
 
 abbrev pub turned : Turn → Herd → Turned

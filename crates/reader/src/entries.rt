@@ -10,7 +10,8 @@ use farm::labels;
 use inputs::Found;
 ghost use mathlib.Core.Path.{_≡_};
 ghost use Rattle.csv.specs.Places.{partsAt};
-ghost use Rattle.reader.specs.Entries.{labelOf, toldOf, entryOf};
+ghost use Rattle.farm.specs.Labels.{labelOf};
+ghost use Rattle.reader.specs.Entries.{toldOf, entryOf};
 
 const LABEL_MOST: usize = 16;
 

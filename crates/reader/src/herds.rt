@@ -15,7 +15,8 @@ ghost use mathlib.Core.Path.{_≡_};
 ghost use Prim.Native.Nat.{_<_};
 ghost use lib.ListN.{length};
 ghost use Rattle.inputs.specs.Inputs.{rows};
-ghost use Rattle.reader.specs.Herds.{noHerd, kindNumber, slotOf, withInput, newHerd, hasInput};
+ghost use Rattle.farm.specs.Herds.{noHerd, slotOf};
+ghost use Rattle.reader.specs.Herds.{kindNumber, withInput, newHerd, hasInput};
 ghost use Rattle.reader.specs.Turns.{addingTo, turnOf, Listed};
 
 // A herd that says nothing.

@@ -17,13 +17,13 @@ use Rattle.inputs.proofs.Founds.{find-input-at, find-input-of}
 use Rattle.farm.specs.declared.Given.{Given}
 use Rattle.farm.specs.declared.Fault.{Fault}
 use Rattle.farm.specs.declared.Fault.the-variants.{NotFourFields, BadLabel, NotInTheList, StandardForbidden, BadValue}
-use Rattle.farm.specs.Labels.{labelOk}
+use Rattle.farm.specs.Labels.{labelOk, labelOf}
 use Rattle.farm.specs.Refusals.{number}
 use Rattle.reader.specs.declared.Said.{Said}
 use Rattle.reader.specs.declared.Said.the-variants.{Is, Forbidden, Unfit}
 use Rattle.reader.specs.declared.FileAnswer.{FileAnswer}
 use Rattle.reader.specs.Values.{valueOf}
-use Rattle.reader.specs.Entries.{labelOf, inputIn, givenIn, entryLines}
+use Rattle.reader.specs.Entries.{inputIn, givenIn, entryLines}
 use Rattle.reader.specs.Files.{refused}
 use Rattle.rules.specs.Rules.{Record, GoodLabel, Names, ValueIs, Says, says}
 use Rattle.rules.specs.Refusals.{labelIn, valueIn, NamesInput, Applies, not-four-fields, bad-label, not-in-the-list, standard-forbidden, bad-value}

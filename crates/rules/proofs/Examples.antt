@@ -17,12 +17,12 @@ use Rattle.farm.specs.declared.Given.the-variants.{Standard, Value}
 use Rattle.farm.specs.declared.Slot.{Slot}
 use Rattle.farm.specs.declared.Herd.{Herd}
 use Rattle.farm.specs.declared.Fault.the-variants.{RecordBroken, NotFourFields, BadLabel, NotInTheList, StandardForbidden, BadValue, EarlierLabel, OtherKind, GivenAlready, InputMissing}
-use Rattle.farm.specs.Labels.{byteOk, labelOk, sameLabel}
+use Rattle.farm.specs.Labels.{byteOk, labelOk, sameLabel, labelOf}
 use Rattle.farm.specs.Checks.{lacks, earlierLabel}
 use Rattle.reader.specs.declared.FileAnswer.{FileAnswer}
 use Rattle.reader.specs.Values.{isStandard, valueOf}
-use Rattle.reader.specs.Entries.{labelOf}
-use Rattle.reader.specs.Herds.{noSlot, withInput, newHerd}
+use Rattle.farm.specs.Herds.{noSlot}
+use Rattle.reader.specs.Herds.{withInput, newHerd}
 use Rattle.reader.specs.Files.{refused, accepted, closed, recordLines, taken, finished, readFrom, readOf}
 use Rattle.rules.specs.Rules.{farmOf, KeepsRules}
 use Rattle.rules.proofs.Accepts.{accepts-exactly}

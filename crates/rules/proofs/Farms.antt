@@ -18,11 +18,12 @@ use Rattle.farm.specs.declared.Given.{Given}
 use Rattle.farm.specs.declared.Herd.{Herd}
 use Rattle.farm.specs.declared.Farm.{Farm}
 use Rattle.farm.specs.declared.Fault.the-variants.{EarlierLabel, NoRoomForHerd, OtherKind, GivenAlready}
-use Rattle.farm.specs.Labels.{sameLabel}
+use Rattle.farm.specs.Labels.{sameLabel, labelOf}
 use Rattle.farm.specs.Checks.{earlierLabel, herdsOf}
 use Rattle.reader.specs.declared.FileAnswer.{FileAnswer}
-use Rattle.reader.specs.Entries.{labelOf, inputIn, givenIn}
-use Rattle.reader.specs.Herds.{noHerd, sameKind, withInput, newHerd, hasInput}
+use Rattle.reader.specs.Entries.{inputIn, givenIn}
+use Rattle.farm.specs.Herds.{noHerd}
+use Rattle.reader.specs.Herds.{sameKind, withInput, newHerd, hasInput}
 use Rattle.reader.specs.Files.{Progress, refused, withHerd, lackingWith, closed, recordLines, taken}
 use Rattle.rules.specs.Lists.{Some, here, there, Apart, Pairs}
 use Rattle.rules.specs.Rules.{Record, GoodLabel, Says, Gives, PartOf, Stand, farmOf, labels}

@@ -20,12 +20,12 @@ use Rattle.farm.specs.declared.Herd.{Herd}
 use Rattle.farm.specs.declared.Farm.{Farm}
 use Rattle.farm.specs.declared.Fault.{Fault}
 use Rattle.farm.specs.declared.Fault.the-variants.{EarlierLabel, NoRoomForHerd, OtherKind, GivenAlready}
-use Rattle.farm.specs.Labels.{sameLabel}
+use Rattle.farm.specs.Labels.{sameLabel, labelOf}
 use Rattle.farm.specs.Refusals.{number}
 use Rattle.farm.specs.Checks.{isMissing, lacks, earlierLabel}
 use Rattle.reader.specs.declared.FileAnswer.{FileAnswer}
-use Rattle.reader.specs.Entries.{labelOf}
-use Rattle.reader.specs.Herds.{sameKind, slotOf, newHerd, withInput, hasInput}
+use Rattle.farm.specs.Herds.{slotOf}
+use Rattle.reader.specs.Herds.{sameKind, newHerd, withInput, hasInput}
 use Rattle.reader.specs.Files.{Progress, refused, nothingRead, lackingWith, closed, recordLines, taken}
 use Rattle.rules.specs.Lists.{Some, Last, Apart}
 use Rattle.rules.specs.Rules.{Record, Says, Gives, PartOf, Stand, farmOf, labels}

@@ -22,8 +22,9 @@ use Rattle.farm.specs.declared.Given.{Given}
 use Rattle.farm.specs.declared.Slot.{Slot}
 use Rattle.farm.specs.declared.Herd.{Herd}
 use Rattle.farm.specs.Checks.{isMissing, lacksOne, lacks}
-use Rattle.reader.specs.Entries.{labelOf}
-use Rattle.reader.specs.Herds.{noSlot, sameKind, slotOf, withInput, newHerd, hasInput}
+use Rattle.farm.specs.Labels.{labelOf}
+use Rattle.farm.specs.Herds.{noSlot, slotOf}
+use Rattle.reader.specs.Herds.{sameKind, withInput, newHerd, hasInput}
 use Rattle.rules.specs.Lists.{Some, here, there, Apart, Pairs}
 use Rattle.rules.specs.Rules.{Record, ValueIs, Says, Gives, PartOf, HerdOf}
 use Rattle.rules.proofs.Lists.{neither, each-front, each-back, meet, apart-last, pairs-append, pairs-map, fellow}

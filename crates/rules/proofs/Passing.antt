@@ -19,7 +19,7 @@ use Rattle.farm.specs.Labels.{labelOk, sameLabel}
 use Rattle.farm.specs.Checks.{fits, isMissing, checkFarm}
 use Rattle.farm.specs.Accepts.{Passes, GoodHerd, Distinct, GoodFarm}
 use Rattle.farm.proofs.Accepts.{good-farm}
-use Rattle.reader.specs.Herds.{noSlot, slotOf}
+use Rattle.farm.specs.Herds.{noSlot, slotOf}
 use Rattle.reader.specs.Files.{accepted, readOf}
 use Rattle.rules.specs.Lists.{Apart}
 use Rattle.rules.specs.Rules.{Record, ValueIs, HerdOf, Stand, labels, FarmOf}

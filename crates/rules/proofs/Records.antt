@@ -9,8 +9,7 @@ use Rattle.cut.specs.Total.{Each, none, more}
 use Rattle.cut.proofs.Totals.{each-map}
 use Rattle.inputs.specs.Inputs.{kindAt}
 use Rattle.farm.specs.declared.Herd.{Herd}
-use Rattle.farm.specs.Labels.{text}
-use Rattle.reader.specs.Entries.{labelOf}
+use Rattle.farm.specs.Labels.{text, labelOf}
 use Rattle.rules.specs.Lists.{Some, here, there, Apart}
 use Rattle.rules.specs.Rules.{Record, GoodLabel, Gives, PartOf, Stand, labels}
 use Rattle.rules.specs.Refusals.{labelIn, NamesInput, ManyLabels}

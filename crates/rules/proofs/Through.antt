@@ -17,11 +17,11 @@ use Rattle.farm.specs.declared.Label.{Label}
 use Rattle.farm.specs.declared.Given.{Given}
 use Rattle.farm.specs.declared.Herd.{Herd}
 use Rattle.farm.specs.declared.Farm.{Farm}
-use Rattle.farm.specs.Labels.{sameLabel}
+use Rattle.farm.specs.Labels.{sameLabel, labelOf}
 use Rattle.farm.specs.Checks.{lacks, earlierLabel, herdsOf}
 use Rattle.reader.specs.declared.FileAnswer.{FileAnswer}
-use Rattle.reader.specs.Entries.{labelOf}
-use Rattle.reader.specs.Herds.{sameKind, slotOf, withInput, newHerd, hasInput}
+use Rattle.farm.specs.Herds.{slotOf}
+use Rattle.reader.specs.Herds.{sameKind, withInput, newHerd, hasInput}
 use Rattle.reader.specs.Files.{Progress, accepted, nothingRead, closed, taken, finished, readFrom}
 use Rattle.rules.specs.Lists.{Apart, Pairs}
 use Rattle.rules.specs.Rules.{Record, GoodLabel, Says, Gives, PartOf, HerdOf, Stand, farmOf, labels, FarmOf}

@@ -18,8 +18,8 @@ use Rattle.farm.specs.declared.Given.{Given}
 use Rattle.farm.specs.declared.Given.the-variants.{Standard, Value}
 use Rattle.farm.specs.declared.Herd.{Herd}
 use Rattle.farm.specs.declared.Farm.{Farm}
-use Rattle.reader.specs.Entries.{labelOf}
-use Rattle.reader.specs.Herds.{noSlot, noHerd, slotOf}
+use Rattle.farm.specs.Labels.{labelOf}
+use Rattle.farm.specs.Herds.{noSlot, noHerd, slotOf}
 use Rattle.rules.specs.Lists.{Some, Apart, Pairs}
 
 -- a record: the contents of its fields
@@ -108,7 +108,7 @@ herdsMost = 64
 
 -- the farm of these herds, in this order; the places behind them say nothing
 abbrev pub farmOf : List Herd → Farm
-farmOf hs = record { herds = hs ++ replicate (64 - length hs) noHerd; count = length hs }
+farmOf hs = record { herds = hs ++ replicate (herdsMost - length hs) noHerd; count = length hs }
 
 abbrev pub labels : List Herd → List Label
 labels hs = map (λ h. h .label) hs
