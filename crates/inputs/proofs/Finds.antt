@@ -10,25 +10,12 @@ use native.Mathlib.Omega.{arith}
 use lib.ListN.{length, getD, take, drop, drop-of-length-le}
 use lib.Seq.{drop-cons, take-nil}
 use Rattle.base.specs.Pick.{pick}
-use Rattle.base.specs.Text.{bytes}
-use Rattle.base.specs.Part.{sameBytes}
 use Rattle.inputs.specs.declared.Form.{Form}
 use Rattle.inputs.specs.declared.Form.the-variants.{OneOf}
 use Rattle.inputs.specs.declared.Found.{Found}
 use Rattle.inputs.specs.declared.Found.the-variants.{At, Nowhere}
 use Rattle.inputs.specs.Inputs.{Row, noRow, valueNames}
 use Rattle.inputs.specs.Find.{firstFrom, isRow, isName, findName}
-
--- ---- `is_input`: are the module m and the name n the row's?
-
-module _ (m n : List ℕ) (row : Row) {r : Bool} (e : r ≡ sameBytes n (bytes (row .name))) where
-  pub other-name : r ≡ false → false ≡ isRow m n row
-  unfolding isRow
-  other-name h = rw (sym e ∙ h)
-
-  pub right-name : r ≡ true → {q : Bool} → q ≡ sameBytes m (bytes (row .path)) → q ≡ isRow m n row
-  unfolding isRow
-  right-name h {q} p = rw (sym e ∙ h) p
 
 -- ---- a search: `rest` is still to be looked at from i on, and X is what the whole search finds
 

@@ -1,4 +1,5 @@
 pub mod Tables
+pub mod Arms
 pub mod Finds
 pub mod Places
 pub mod Founds

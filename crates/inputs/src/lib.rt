@@ -1,13 +1,16 @@
 // 01's list of inputs, once as data: for each its kind of herd, its module, its name, and how its value reads. The reader, the record
-// checks and whatever writes a farm go by it. A new input is a row here and a row in specs/Inputs.antt, at the end of its kind's; a new
-// module or name stands in its text too.
+// checks and whatever writes a farm go by it. The data are matches on a place in the list and not tables, which the compiler would build
+// anew at every use. A new input is a row in form_of, a row in its kind's is_.._input and a row in specs/Inputs.antt, at the end of its
+// kind's; the places after it and the constants that count them go up by one. So does a new name that a value may be, in its list.
 ghost use mathlib.Core.Path.{_≡_};
-ghost use Prim.Native.Nat.{_+_, _<_};
+ghost use mathlib.Core.Bool.{_&&_};
+ghost use mathlib.Core.List.{_++_};
+ghost use Prim.Native.Nat.{_≤_, _<_};
 ghost use lib.ListN.{length, getD, take, drop};
 ghost use Rattle.base.specs.Part.{sameBytes};
-ghost use Rattle.inputs.specs.Inputs.{rows, noRow, valueNames, kindAt, formAt, firstOf, countOf};
+ghost use Rattle.inputs.specs.declared.Kind.the-variants.{Cattle, Pigs};
+ghost use Rattle.inputs.specs.Inputs.{categories, yards, floors, valueNames, rows, noRow, kindAt, formAt, firstOf, countOf};
 ghost use Rattle.inputs.specs.Find.{firstFrom, isRow, findInput, isName, findName};
-ghost use Rattle.inputs.specs.Pieces.{pieceAt};
 
 // The three kinds of herd.
 pub enum Kind {
@@ -25,99 +28,20 @@ pub enum Form {
     OneOf(usize, usize),
 }
 
-// A row of the list, by the places of its module and its name in the texts below.
-pub struct Input {
-    pub module: usize,
-    pub name: usize,
-    pub form: Form,
-}
-
 // A place in a list, if there is one.
 pub enum Found {
     At(usize),
     Nowhere,
 }
 
-// The modules of the list, one after the other, and where each starts; the last start is the text's end.
-const MODULES: [u8; 264] =
-    *b"Livestock::RoughageConsuming::ExcretionLivestock::RoughageConsuming::Housing::CFreeFactorLivestock::RoughageConsuming::GrazingLivestock::OtherCattle::ExcretionLivestock::OtherCattle::OutdoorLivestock::FatteningPigs::ExcretionLivestock::FatteningPigs::Housing::Type";
+// The names that a value may be stand list after list, the categories first: where the other lists start, and how many names there are.
+const FIRST_OF_YARDS: usize = 11;
 
-const MODULE_STARTS: [usize; 8] = [0, 39, 89, 126, 159, 190, 225, 264];
+const FIRST_OF_FLOORS: usize = 15;
 
-// Their places there.
-const ROUGHAGE_EXCRETION: usize = 0;
+const FIRST_OF_HOUSING: usize = 19;
 
-const ROUGHAGE_FREE_FACTOR: usize = 1;
-
-const ROUGHAGE_GRAZING: usize = 2;
-
-const CATTLE_EXCRETION: usize = 3;
-
-const CATTLE_OUTDOOR: usize = 4;
-
-const PIGS_EXCRETION: usize = 5;
-
-const PIGS_HOUSING_TYPE: usize = 6;
-
-// The names of the list in the same way.
-const INPUT_NAMES: [u8; 159] =
-    *b"animalcategoryanimalsinp_n_excretiontan_fractionfree_correction_factorgrazing_daysgrazing_hoursyard_daysexercise_yardfloor_properties_exercise_yardhousing_type";
-
-const INPUT_NAME_STARTS: [usize; 12] = [0, 14, 21, 36, 48, 70, 82, 95, 104, 117, 147, 159];
-
-const ANIMALCATEGORY: usize = 0;
-
-const ANIMALS: usize = 1;
-
-const INP_N_EXCRETION: usize = 2;
-
-const TAN_FRACTION: usize = 3;
-
-const FREE_CORRECTION_FACTOR: usize = 4;
-
-const GRAZING_DAYS: usize = 5;
-
-const GRAZING_HOURS: usize = 6;
-
-const YARD_DAYS: usize = 7;
-
-const EXERCISE_YARD: usize = 8;
-
-const FLOOR_PROPERTIES_EXERCISE_YARD: usize = 9;
-
-const HOUSING_TYPE: usize = 10;
-
-// The names that a value may be, list after list, in the same way.
-const VALUE_NAMES: [u8; 513] =
-    *b"fallow_deerred_deerwapitibison_older_than_3yrbison_younger_than_3yrlama_older_than_2yrlama_younger_than_2yralpaca_older_than_2yralpaca_younger_than_2yrrabbit_doe_kitsrabbit_youngnot_availableavailable_roughage_is_not_supplied_in_the_exercise_yardavailable_roughage_is_partly_supplied_in_the_exercise_yardavailable_roughage_is_exclusively_supplied_in_the_exercise_yardsolid_floorunpaved_floorperforated_floorpaddock_or_pasture_used_as_exercise_yardSlurry_ConventionalSlurry_LabelSlurry_Label_OpenDeep_LitterOutdoor";
-
-const VALUE_NAME_STARTS: [usize; 25] = [
-    0,
-    11,
-    19,
-    25,
-    45,
-    67,
-    86,
-    107,
-    128,
-    151,
-    166,
-    178,
-    191,
-    246,
-    304,
-    367,
-    378,
-    391,
-    407,
-    447,
-    466,
-    478,
-    495,
-    506,
-    513,
-];
+const NAMES_IN_ALL: usize = 24;
 
 // 01, "Ranges", and where each list of names starts and how many it has.
 const HEAD_COUNT: Form = Form::Number(0, 10000);
@@ -136,124 +60,20 @@ const DAYS: Form = Form::Number(0, 365);
 
 const HOURS: Form = Form::Number(1, 240);
 
-const CATEGORY: Form = Form::OneOf(0, 11);
+const CATEGORY: Form = Form::OneOf(0, FIRST_OF_YARDS);
 
-const YARD: Form = Form::OneOf(11, 4);
+const YARD: Form = Form::OneOf(FIRST_OF_YARDS, FIRST_OF_FLOORS - FIRST_OF_YARDS);
 
-const FLOOR: Form = Form::OneOf(15, 4);
+const FLOOR: Form = Form::OneOf(FIRST_OF_FLOORS, FIRST_OF_HOUSING - FIRST_OF_FLOORS);
 
-const HOUSING: Form = Form::OneOf(19, 5);
+const HOUSING: Form = Form::OneOf(FIRST_OF_HOUSING, NAMES_IN_ALL - FIRST_OF_HOUSING);
 
-const INPUTS: [Input; 20] = [
-    Input {
-        module: ROUGHAGE_EXCRETION,
-        name: ANIMALCATEGORY,
-        form: CATEGORY,
-    },
-    Input {
-        module: ROUGHAGE_EXCRETION,
-        name: ANIMALS,
-        form: HEAD_COUNT,
-    },
-    Input {
-        module: ROUGHAGE_EXCRETION,
-        name: INP_N_EXCRETION,
-        form: KILOGRAMS_OR_STANDARD,
-    },
-    Input {
-        module: ROUGHAGE_EXCRETION,
-        name: TAN_FRACTION,
-        form: PERCENTAGE_OR_STANDARD,
-    },
-    Input {
-        module: ROUGHAGE_FREE_FACTOR,
-        name: FREE_CORRECTION_FACTOR,
-        form: REDUCTION,
-    },
-    Input {
-        module: ROUGHAGE_GRAZING,
-        name: GRAZING_DAYS,
-        form: DAYS,
-    },
-    Input {
-        module: ROUGHAGE_GRAZING,
-        name: GRAZING_HOURS,
-        form: HOURS,
-    },
-    Input {
-        module: CATTLE_EXCRETION,
-        name: ANIMALS,
-        form: HEAD_COUNT,
-    },
-    Input {
-        module: CATTLE_EXCRETION,
-        name: INP_N_EXCRETION,
-        form: KILOGRAMS,
-    },
-    Input {
-        module: CATTLE_EXCRETION,
-        name: TAN_FRACTION,
-        form: PERCENTAGE,
-    },
-    Input {
-        module: CATTLE_OUTDOOR,
-        name: YARD_DAYS,
-        form: DAYS,
-    },
-    Input {
-        module: CATTLE_OUTDOOR,
-        name: EXERCISE_YARD,
-        form: YARD,
-    },
-    Input {
-        module: CATTLE_OUTDOOR,
-        name: FLOOR_PROPERTIES_EXERCISE_YARD,
-        form: FLOOR,
-    },
-    Input {
-        module: CATTLE_OUTDOOR,
-        name: FREE_CORRECTION_FACTOR,
-        form: REDUCTION,
-    },
-    Input {
-        module: CATTLE_OUTDOOR,
-        name: GRAZING_DAYS,
-        form: DAYS,
-    },
-    Input {
-        module: CATTLE_OUTDOOR,
-        name: GRAZING_HOURS,
-        form: HOURS,
-    },
-    Input {
-        module: PIGS_EXCRETION,
-        name: ANIMALS,
-        form: HEAD_COUNT,
-    },
-    Input {
-        module: PIGS_EXCRETION,
-        name: INP_N_EXCRETION,
-        form: KILOGRAMS,
-    },
-    Input {
-        module: PIGS_EXCRETION,
-        name: TAN_FRACTION,
-        form: PERCENTAGE,
-    },
-    Input {
-        module: PIGS_HOUSING_TYPE,
-        name: HOUSING_TYPE,
-        form: HOUSING,
-    },
-];
-
+// The inputs stand kind after kind, those of roughage first: where the other kinds' start, and how many inputs there are.
 const FIRST_OF_CATTLE: usize = 7;
 
 const FIRST_OF_PIGS: usize = 16;
 
 const INPUTS_IN_ALL: usize = 20;
-
-const NAMES_IN_ALL: usize = 24;
 
 // Where a kind's inputs start in the list.
 pub fn first_of(kind: Kind) -> usize
@@ -294,21 +114,96 @@ pub fn kind_of(input: usize) -> Kind
 pub fn form_of(input: usize) -> Form
     ensures { λ r. ⌜ r ≡ formAt input ⌝ }
 {
-    if input < INPUTS_IN_ALL {
-        let row = INPUTS[input];
-        return row.form;
+    match input {
+        0 => CATEGORY,
+        1 => HEAD_COUNT,
+        2 => KILOGRAMS_OR_STANDARD,
+        3 => PERCENTAGE_OR_STANDARD,
+        4 => REDUCTION,
+        5 => DAYS,
+        6 => HOURS,
+        7 => HEAD_COUNT,
+        8 => KILOGRAMS,
+        9 => PERCENTAGE,
+        10 => DAYS,
+        11 => YARD,
+        12 => FLOOR,
+        13 => REDUCTION,
+        14 => DAYS,
+        15 => HOURS,
+        16 => HEAD_COUNT,
+        17 => KILOGRAMS,
+        18 => PERCENTAGE,
+        19 => HOUSING,
+        _ => Form::OneOf(0, 0),
     }
-    Form::OneOf(0, 0)
 }
 
-// Is s the text's stretch between the k-th start and the next?
-fn is_piece(text: &[u8], starts: &[usize], k: usize, s: &[u8]) -> bool
-    requires { ⌜ k + 1 < length (now starts) ⌝ }
-    ensures { λ r. ⌜ r ≡ sameBytes (now (s .entry)) (pieceAt (now (text .entry)) (now (starts .entry)) k) ⌝ }
+// Are a record's module m and input name n this path and this name?
+fn is_called(m: &[u8], n: &[u8], path: &[u8], name: &[u8]) -> bool
+    ensures { λ r. ⌜ r ≡ (sameBytes (now (n .entry)) (now (name .entry)) && sameBytes (now (m .entry)) (now (path .entry))) ⌝ }
 {
-    let from = starts[k];
-    let to = starts[k + 1];
-    base::same(s, base::part_of(text, from, to))
+    if base::same(n, name) {
+        return base::same(m, path);
+    }
+    false
+}
+
+// Has the roughage input at a place this module and this name?
+fn is_roughage_input(input: usize, path: &[u8], name: &[u8]) -> bool
+    requires { ⌜ input < firstOf Cattle ⌝ }
+    ensures { λ r. ⌜ r ≡ isRow (now (path .entry)) (now (name .entry)) (getD rows input noRow) ⌝ }
+{
+    let excretion = b"Livestock::RoughageConsuming::Excretion";
+    let housing = b"Livestock::RoughageConsuming::Housing::CFreeFactor";
+    let grazing = b"Livestock::RoughageConsuming::Grazing";
+    match input {
+        0 => is_called(path, name, excretion, b"animalcategory"),
+        1 => is_called(path, name, excretion, b"animals"),
+        2 => is_called(path, name, excretion, b"inp_n_excretion"),
+        3 => is_called(path, name, excretion, b"tan_fraction"),
+        4 => is_called(path, name, housing, b"free_correction_factor"),
+        5 => is_called(path, name, grazing, b"grazing_days"),
+        6 => is_called(path, name, grazing, b"grazing_hours"),
+        _ => false,
+    }
+}
+
+// Has the cattle input at a place this module and this name?
+fn is_cattle_input(input: usize, path: &[u8], name: &[u8]) -> bool
+    requires { ⌜ (firstOf Cattle ≤ input) × (input < firstOf Pigs) ⌝ }
+    ensures { λ r. ⌜ r ≡ isRow (now (path .entry)) (now (name .entry)) (getD rows input noRow) ⌝ }
+{
+    let excretion = b"Livestock::OtherCattle::Excretion";
+    let outdoor = b"Livestock::OtherCattle::Outdoor";
+    match input {
+        7 => is_called(path, name, excretion, b"animals"),
+        8 => is_called(path, name, excretion, b"inp_n_excretion"),
+        9 => is_called(path, name, excretion, b"tan_fraction"),
+        10 => is_called(path, name, outdoor, b"yard_days"),
+        11 => is_called(path, name, outdoor, b"exercise_yard"),
+        12 => is_called(path, name, outdoor, b"floor_properties_exercise_yard"),
+        13 => is_called(path, name, outdoor, b"free_correction_factor"),
+        14 => is_called(path, name, outdoor, b"grazing_days"),
+        15 => is_called(path, name, outdoor, b"grazing_hours"),
+        _ => false,
+    }
+}
+
+// Has the pigs' input at a place this module and this name?
+fn is_pigs_input(input: usize, path: &[u8], name: &[u8]) -> bool
+    requires { ⌜ (firstOf Pigs ≤ input) × (input < length rows) ⌝ }
+    ensures { λ r. ⌜ r ≡ isRow (now (path .entry)) (now (name .entry)) (getD rows input noRow) ⌝ }
+{
+    let excretion = b"Livestock::FatteningPigs::Excretion";
+    let housing = b"Livestock::FatteningPigs::Housing::Type";
+    match input {
+        16 => is_called(path, name, excretion, b"animals"),
+        17 => is_called(path, name, excretion, b"inp_n_excretion"),
+        18 => is_called(path, name, excretion, b"tan_fraction"),
+        19 => is_called(path, name, housing, b"housing_type"),
+        _ => false,
+    }
 }
 
 // Has the input at a place this module and this name?
@@ -316,13 +211,13 @@ fn is_input(input: usize, path: &[u8], name: &[u8]) -> bool
     requires { ⌜ input < length rows ⌝ }
     ensures { λ r. ⌜ r ≡ isRow (now (path .entry)) (now (name .entry)) (getD rows input noRow) ⌝ }
 {
-    let row = INPUTS[input];
-    let n = row.name;
-    if !is_piece(&INPUT_NAMES, &INPUT_NAME_STARTS, n, name) {
-        return false;
+    if input < FIRST_OF_CATTLE {
+        return is_roughage_input(input, path, name);
     }
-    let m = row.module;
-    is_piece(&MODULES, &MODULE_STARTS, m, path)
+    if input < FIRST_OF_PIGS {
+        return is_cattle_input(input, path, name);
+    }
+    is_pigs_input(input, path, name)
 }
 
 // Where the input of this module and name stands in the list.
@@ -339,12 +234,88 @@ pub fn find_input(path: &[u8], name: &[u8]) -> Found
     Found::Nowhere
 }
 
+// Is this the name at a place of the categories?
+fn is_category(place: usize, name: &[u8]) -> bool
+    requires { ⌜ place < length categories ⌝ }
+    ensures { λ r. ⌜ r ≡ isName (now (name .entry)) (getD valueNames place "") ⌝ }
+{
+    match place {
+        0 => base::same(name, b"fallow_deer"),
+        1 => base::same(name, b"red_deer"),
+        2 => base::same(name, b"wapiti"),
+        3 => base::same(name, b"bison_older_than_3yr"),
+        4 => base::same(name, b"bison_younger_than_3yr"),
+        5 => base::same(name, b"lama_older_than_2yr"),
+        6 => base::same(name, b"lama_younger_than_2yr"),
+        7 => base::same(name, b"alpaca_older_than_2yr"),
+        8 => base::same(name, b"alpaca_younger_than_2yr"),
+        9 => base::same(name, b"rabbit_doe_kits"),
+        10 => base::same(name, b"rabbit_young"),
+        _ => false,
+    }
+}
+
+// Is this the name at a place of the yards?
+fn is_yard(place: usize, name: &[u8]) -> bool
+    requires { ⌜ (length categories ≤ place) × (place < length (categories ++ yards)) ⌝ }
+    ensures { λ r. ⌜ r ≡ isName (now (name .entry)) (getD valueNames place "") ⌝ }
+{
+    let not_supplied = b"available_roughage_is_not_supplied_in_the_exercise_yard";
+    let partly = b"available_roughage_is_partly_supplied_in_the_exercise_yard";
+    let exclusively = b"available_roughage_is_exclusively_supplied_in_the_exercise_yard";
+    match place {
+        11 => base::same(name, b"not_available"),
+        12 => base::same(name, not_supplied),
+        13 => base::same(name, partly),
+        14 => base::same(name, exclusively),
+        _ => false,
+    }
+}
+
+// Is this the name at a place of the floors?
+fn is_floor(place: usize, name: &[u8]) -> bool
+    requires { ⌜ (length (categories ++ yards) ≤ place) × (place < length (categories ++ yards ++ floors)) ⌝ }
+    ensures { λ r. ⌜ r ≡ isName (now (name .entry)) (getD valueNames place "") ⌝ }
+{
+    match place {
+        15 => base::same(name, b"solid_floor"),
+        16 => base::same(name, b"unpaved_floor"),
+        17 => base::same(name, b"perforated_floor"),
+        18 => base::same(name, b"paddock_or_pasture_used_as_exercise_yard"),
+        _ => false,
+    }
+}
+
+// Is this the name at a place of the types of housing?
+fn is_housing_type(place: usize, name: &[u8]) -> bool
+    requires { ⌜ (length (categories ++ yards ++ floors) ≤ place) × (place < length valueNames) ⌝ }
+    ensures { λ r. ⌜ r ≡ isName (now (name .entry)) (getD valueNames place "") ⌝ }
+{
+    match place {
+        19 => base::same(name, b"Slurry_Conventional"),
+        20 => base::same(name, b"Slurry_Label"),
+        21 => base::same(name, b"Slurry_Label_Open"),
+        22 => base::same(name, b"Deep_Litter"),
+        23 => base::same(name, b"Outdoor"),
+        _ => false,
+    }
+}
+
 // Is this the name at a place of the name lists?
 fn is_name(place: usize, name: &[u8]) -> bool
     requires { ⌜ place < length valueNames ⌝ }
     ensures { λ r. ⌜ r ≡ isName (now (name .entry)) (getD valueNames place "") ⌝ }
 {
-    is_piece(&VALUE_NAMES, &VALUE_NAME_STARTS, place, name)
+    if place < FIRST_OF_YARDS {
+        return is_category(place, name);
+    }
+    if place < FIRST_OF_FLOORS {
+        return is_yard(place, name);
+    }
+    if place < FIRST_OF_HOUSING {
+        return is_floor(place, name);
+    }
+    is_housing_type(place, name)
 }
 
 // Which of a stretch of the name lists this is, counted from the stretch's start.
