@@ -1,7 +1,7 @@
 // 01's list of inputs, once as data: for each its kind of herd, its module, its name, and how its value reads. The reader, the record
 // checks and whatever writes a farm go by it. The data are matches on a place in the list and not tables, which the compiler would build
 // anew at every use. A new input is a row in form_of, a row in its kind's is_.._input and a row in specs/Inputs.antt, at the end of its
-// kind's; the places after it and the constants that count them go up by one. So does a new name that a value may be, in its list.
+// kind's; the places after it and the constants that count them go up by one. A new name that a value may be goes in likewise, by its list.
 ghost use mathlib.Core.Path.{_≡_};
 ghost use mathlib.Core.Bool.{_&&_};
 ghost use mathlib.Core.List.{_++_};
