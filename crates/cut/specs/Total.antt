@@ -1,4 +1,4 @@
--- Adding up a list: one definition for whole figures, signed ones, exact ones and sets of figures. Definitions only.
+-- Adding up a list, as 2.1 adds up the herds: one definition for whole figures, signed ones, exact ones and sets of figures.
 use mathlib.Core.List.{List, [], _∷_}
 use Prim.Native.Nat.{ℕ, _+_}
 use lib.IntN.{ℤ, pos, _+ℤ_}

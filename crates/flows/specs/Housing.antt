@@ -13,6 +13,10 @@ use Rattle.flows.specs.Part.{part}
 abbrev pub «er_housing» : ℕ
 «er_housing» = 275
 
+-- 2.86, c_free_factor_housing, in percent: 1 less the free factor
+abbrev pub «c_free_factor_housing» : ℕ → ℕ
+«c_free_factor_housing» free = percent - free
+
 pub record HousingIn (A : Arithmetic) : Type 0 where
   pub «n_into_housing» : A .Amount
   pub «tan_into_housing» : A .Amount
@@ -40,14 +44,14 @@ module _ (A : Arithmetic) where
   abbrev pub «ef_nh3_nhousing» : Roughage → Amount
   «ef_nh3_nhousing» r =
       part A (part A («c_grazing» (r .«grazing_days») (r .«grazing_hours»)) «er_housing» thousandths)
-      (percent - r .«free_correction_factor») percent
+      («c_free_factor_housing» (r .«free_correction_factor»)) percent
       atMost billionths
 
   -- 2.85, nh3_nhousing
   abbrev pub nh3InHousing : Roughage → Amount → Amount
   nh3InHousing r tan = tan ⊗ «ef_nh3_nhousing» r over billionths
 
-  -- what came in, what is emitted there, what goes out
+  -- 2.85, n_outhousing and tan_outhousing: what came in, what is emitted there, what goes out
   abbrev pub throughHousing : Amount → Amount → Amount → HousingIn A
   throughHousing n tan nh3 =
       record {

@@ -1,4 +1,5 @@
--- A part of an amount: so many shares of it, of so many that make the whole, with one cut. Every step of the model is of this form.
+-- A part of an amount: so many shares of it, of so many that make the whole, with one cut (01, Steps and cuts). The housing has two cuts that
+-- are not of this form: c_grazing cuts a sum, and nh3_nhousing has a factor that was cut itself.
 use mathlib.Core.Path.{_≡_}
 use Prim.Native.Nat.{ℕ, _*_, _≤_, _<_}
 use Rattle.cut.specs.Cut.{_cutBy_}

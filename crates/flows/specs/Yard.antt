@@ -17,6 +17,10 @@ use Rattle.flows.specs.Units.{tenths, percent, tenThousandths, year}
 use Rattle.flows.specs.Arithmetic.{Arithmetic, cutting}
 use Rattle.flows.specs.Part.{part}
 
+-- 2.33, c_free_factor_yard, in percent: 1 less the free factor
+abbrev pub «c_free_factor_yard» : ℕ → ℕ
+«c_free_factor_yard» free = percent - free
+
 -- 2.33, days_with_grazing_and_yard
 unfoldable pub «days_with_grazing_and_yard» : ℕ → ℕ → ℕ
 «days_with_grazing_and_yard» grazing yard = pick (ltb year (grazing + yard)) (grazing + yard - year) 0
@@ -31,7 +35,7 @@ abbrev pub «share_available_roughage_is_partly_supplied_in_the_exercise_yard» 
 abbrev pub «share_available_roughage_is_not_supplied_in_the_exercise_yard» : ℕ
 «share_available_roughage_is_not_supplied_in_the_exercise_yard» = 1
 
--- er_yard, 0.7, in ten-thousandths
+-- 2.34, Technical Parameters: er_yard, 0.7, in ten-thousandths
 abbrev pub «er_yard» : ℕ
 «er_yard» = 7000
 
@@ -60,10 +64,11 @@ unfoldable pub «share_excretion_with_grazing» : ℕ → ℕ → ℕ
     «share_available_roughage_is_partly_supplied_in_the_exercise_yard»
     share
 
--- the overlap and the two shares of a herd
+-- the overlap of a herd's days (2.33, days_with_grazing_and_yard)
 abbrev pub bothOf : Cattle → ℕ
 bothOf c = «days_with_grazing_and_yard» (c .«grazing_days») (c .«yard_days»)
 
+-- the yard's share of what it excretes (2.34, share_excretion), and that on days with both (share_excretion_with_grazing)
 abbrev pub shareOf : Cattle → ℕ
 shareOf c = «share_excretion» (c .«exercise_yard»)
 
@@ -77,7 +82,7 @@ yardTime c = shareOf c * (c .«yard_days» - bothOf c) + shareOnBothOf c * bothO
 -- 2.34, ef_nh3_nyard: er_yard, floor and free factor, in ten-thousandths of percent of percent
 abbrev pub «ef_nh3_nyard» : Cattle → ℕ
 «ef_nh3_nyard» c =
-    «er_yard» * «c_floor_properties_exercise_yard» (c .«floor_properties_exercise_yard») * (percent - c .«free_correction_factor»)
+    «er_yard» * «c_floor_properties_exercise_yard» (c .«floor_properties_exercise_yard») * «c_free_factor_yard» (c .«free_correction_factor»)
 
 pub record YardIn (A : Arithmetic) : Type 0 where
   pub «n_into_yard» : A .Amount
@@ -98,7 +103,7 @@ module _ (A : Arithmetic) where
   abbrev pub nh3OnYard : Cattle → Amount → Amount
   nh3OnYard c tan = part A tan («ef_nh3_nyard» c) (tenThousandths * percent * percent)
 
-  -- what came onto the yard, what is emitted there, what leaves it
+  -- 2.34, n_outyard_liquid and tan_outyard_liquid: what came onto the yard, what is emitted there, what leaves it
   abbrev pub throughYard : Amount → Amount → Amount → YardIn A
   throughYard n tan nh3 =
       record {
@@ -113,7 +118,7 @@ module _ (A : Arithmetic) where
   abbrev pub onYard : Cattle → Amount → Amount → YardIn A
   onYard c n tan = throughYard (intoYard c n) (intoYard c tan) (nh3OnYard c (intoYard c tan))
 
-  -- no yard
+  -- no yard: "Roughage has no yard" (01), and 2.1's n_into_yard has none of pigs
   abbrev pub noYard : YardIn A
   noYard = throughYard (whole 0) (whole 0) (whole 0)
 
