@@ -7,10 +7,11 @@ use Rattle.cut.specs.Cut.{_cutBy_, least}
 use Rattle.tables.specs.Growth.{kOf}
 
 pub record Arithmetic : Type 1 where
-  -- an amount, never below zero
+  -- an amount of N or TAN, or a factor
   pub Amount : Type 0
   pub whole : ℕ → Amount
   pub _⊕_ : Amount → Amount → Amount
+  -- on whole grams it stops at zero; that no figure comes to that, the balances show (`kept` and `kept-in-housing` of crate `model`)
   pub _⊖_ : Amount → Amount → Amount
   pub _⊗_ : Amount → Amount → Amount
   -- the only place where something may be cut off

@@ -74,7 +74,7 @@ module _ (A : Arithmetic) where
   abbrev pub gas : Amount → ℕ → Amount
   gas amount rate = part A amount rate tenThousandths
 
-  -- 2.35, 2.61, 2.88, n_remain_grazing and tan_remain_grazing: less all four gases, N2O from the TAN too
+  -- 2.35, 2.61, 2.88, n_remain_grazing and tan_remain_grazing: less all four gases, the N and the TAN alike
   abbrev pub afterGases : Amount → Amount → Amount → Amount → Amount → Amount → GrazingIn A
   afterGases n tan nh3 n2 no′ n2o =
       record {

@@ -32,8 +32,8 @@ module _ (A : Arithmetic) where
   infixl 6 _⊖_
   infixl 5 _over_
   infixl 4 _atMost_
-  -- 2.87, c_grazing, in billionths: below a whole year on pasture, what goes into the housing on other days, and on grazing days times k,
-  -- over all that goes in; else 1
+  -- 2.87, c_grazing, in billionths: below a whole year on pasture, the hours in the housing, those of grazing days times k, over the hours in
+  -- the housing; else 1
   abbrev pub «c_grazing» : ℕ → ℕ → Amount
   «c_grazing» days hours =
       pick (ltb (days * hours) (year * day))

@@ -1,4 +1,5 @@
--- What the formulas may count on: each input is in its range (01, "Ranges"). The record checks show it of every herd that passes them.
+-- What the formulas may count on: each input is in its range (01, "Ranges"). Of every herd that passes the record checks it is a theorem:
+-- `typed-sound` of crate `model`.
 use Prim.Native.Nat.{ℕ, _≤_}
 use Rattle.tables.specs.Standards.{_kg}
 use Rattle.flows.specs.declared.Entered.{Entered}

@@ -1,4 +1,4 @@
-// A part of an amount, with the one cut that every step of the model has.
+// A part of an amount, with one cut. Every division of the formulas is this one, but that of `c_grazing`, which cuts a sum.
 ghost use Rattle.flows.specs.Part.{Fit, PartOf};
 
 // `shares` of the `of` that make the whole.

@@ -7,7 +7,7 @@ use Rattle.model.specs.Names.{Name, «n_excretion», «tan_excretion», «n_int
 use Rattle.model.specs.TotalNames as totals
 use Rattle.model.specs.TotalNames.{TotalName}
 
--- 01, demand 3: each figure of a herd lies within so many grams of its exact value, and each total within so many for each herd
+-- docs/PROMISES.md, Demand 3: each figure of a herd lies within so many grams of its exact value, and each total within so many for each herd
 abbrev pub promised : ℕ
 promised = 10
 

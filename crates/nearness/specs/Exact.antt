@@ -1,5 +1,5 @@
--- What the exact value of a figure and of a total is (01, Steps and cuts): "the same formulas over fractions, nothing cut, the exponential as
--- its first 21 series terms". The formulas are those of crates `flows` and `model`, on the arithmetic below in place of `cutting`.
+-- What the exact value of a figure and of a total is: the formulas of crates `flows` and `model`, on the arithmetic below in place of `cutting`.
+-- Fractions are "never cut" and "exp taken as its series terms 0 to 20" (01, Steps and cuts).
 use Prim.Native.Nat.{_*_}
 use mathlib.Core.List.{List}
 use Rattle.cut.specs.Frac as F
