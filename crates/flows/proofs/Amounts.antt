@@ -1,4 +1,4 @@
--- A part of an amount, and the rest of it: what the code's one cut division needs, and that the TAN stays no more than the N.
+-- A portion of an amount, and the rest of it: what the code's cut division needs, and that the TAN stays no more than the N.
 -- Assumes nothing.
 use mathlib.Core.Path.{_≡_}
 use Prim.Native.Nat.{ℕ, _+_, _-_, _*_, _/_, _≤_, _<_}
@@ -9,7 +9,7 @@ use mir.Val.{Fits}
 use Rattle.cut.specs.Cut.{_cutBy_}
 use Rattle.cut.proofs.Products.{mul-fits}
 use Rattle.cut.proofs.Shares.{cut-mono, part-le, part-mono}
-use Rattle.flows.specs.Part.{Fit, PartOf, Modest}
+use Rattle.flows.specs.Bounds.{Fit, PortionOf, Modest}
 
 -- ---- the code's step
 
@@ -17,12 +17,12 @@ module _ (amount shares of : ℕ) (fit : Fit amount shares of) where
   pub product-fits : Fits w64 (amount * shares)
   product-fits = mul-fits 4000000000 1000000000 tt (fit .amount-most) (omega arith)
 
-  pub is-part : (r : ℕ) → r ≡ amount * shares cutBy of → PartOf amount shares of r
-  is-part r e = record { is = e; most = omega (arith, part-le amount shares of (fit .within)) }
+  pub is-portion : (r : ℕ) → r ≡ amount * shares cutBy of → PortionOf amount shares of r
+  is-portion r e = record { is = e; most = omega (arith, part-le amount shares of (fit .within)) }
 
-pub ruleset part-steps = (product-fits, is-part)
+pub ruleset portion-steps = (product-fits, is-portion)
 
--- ---- the same part of the N and of the TAN in it
+-- ---- the same portion of the N and of the TAN in it
 
 module _ (n tan shares of : ℕ) (m : Modest n tan) where
   pub modest-share : shares ≤ of → Modest (n * shares cutBy of) (tan * shares cutBy of)
@@ -32,9 +32,9 @@ module _ (n tan shares of : ℕ) (m : Modest n tan) where
         tan-most = part-mono of {x = tan} {y = n} {m = shares} {n = shares} (m .tan-most) (le-refl shares);
       }
 
-  -- of two parts that the code has made
-  pub modest-part : (a b : ℕ) → PartOf n shares of a → PartOf tan shares of b → Modest a b
-  modest-part a b p q =
+  -- of two portions that the code has made
+  pub modest-portion : (a b : ℕ) → PortionOf n shares of a → PortionOf tan shares of b → Modest a b
+  modest-portion a b p q =
       record {
         n-most = omega arith;
         tan-most = omega (arith, part-mono of {x = tan} {y = n} {m = shares} {n = shares} (m .tan-most) (le-refl shares));
@@ -42,15 +42,15 @@ module _ (n tan shares of : ℕ) (m : Modest n tan) where
 
 -- ---- the rest: a larger amount has no smaller rest
 
-part-grows : (x e shares of : ℕ) → 0 < of → shares ≤ of → (x + e) * shares / of ≤ x * shares / of + e
-part-grows x e shares of h k =
+portion-grows : (x e shares of : ℕ) → 0 < of → shares ≤ of → (x + e) * shares / of ≤ x * shares / of + e
+portion-grows x e shares of h k =
     let c : (x + e) * shares / of ≤ (x * shares + e * of) / of = cut-mono of (omega (arith, mul-le-mul-left e k)) in
     omega (arith, add-mul-div-right (x * shares) e h)
 
 rest-grows : (x y shares of : ℕ) → 0 < of → shares ≤ of → x ≤ y → x - x * shares / of ≤ y - y * shares / of
 rest-grows x y shares of h k l =
     let e : x + (y - x) ≡ y = omega arith in
-    let g : y * shares / of ≤ x * shares / of + (y - x) = rw e at (part-grows x (y - x) shares of h k) in
+    let g : y * shares / of ≤ x * shares / of + (y - x) = rw e at (portion-grows x (y - x) shares of h k) in
     omega arith
 
 pub modest-rest : (n tan shares of : ℕ) → Modest n tan → 0 < of → shares ≤ of → Modest (n - n * shares cutBy of) (tan - tan * shares cutBy of)

@@ -12,7 +12,7 @@ use Rattle.flows.specs.declared.Roughage.{Roughage}
 use Rattle.flows.specs.Units.{tenThousandths}
 use Rattle.flows.specs.Sound.{mostAnimals, mostGrams, EnteredTo, standard, number, SoundRoughage}
 use Rattle.flows.specs.Arithmetic.{cutting}
-use Rattle.flows.specs.Part.{Fit, PartOf, Modest}
+use Rattle.flows.specs.Bounds.{Fit, PortionOf, Modest}
 use Rattle.flows.specs.Excretion.{«n_excretion_animal», tanFraction, excreted, excretionOf}
 
 -- ---- what a roughage herd enters, or leaves to the standard
@@ -52,7 +52,7 @@ module _ (animals grams fraction : ℕ) (ha : animals ≤ mostAnimals) (hg : gra
   pub fraction-fit : Fit (animals * grams) fraction tenThousandths
   fraction-fit = record { amount-most = omega (arith, n-le); of-most = omega arith; above = omega arith; within = hf }
 
-  pub is-excretion : (tan : ℕ) → PartOf (animals * grams) fraction tenThousandths tan
+  pub is-excretion : (tan : ℕ) → PortionOf (animals * grams) fraction tenThousandths tan
       → record { «n_excretion» = animals * grams; «tan_excretion» = tan } ≡ excretionOf animals grams fraction
   unfolding excretionOf
   is-excretion tan p = rw (p .is) refl

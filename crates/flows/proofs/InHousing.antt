@@ -15,8 +15,9 @@ use Rattle.tables.proofs.Growth.{k-most}
 use Rattle.flows.specs.declared.Roughage.{Roughage}
 use Rattle.flows.specs.Units.{percent, thousandths, billionths, year, day}
 use Rattle.flows.specs.Arithmetic.{cutting}
-use Rattle.flows.specs.Part.{part, PartOf, Modest}
-use Rattle.flows.specs.Housing.{Factor, mostGrowth, «er_housing», «c_grazing», «ef_nh3_nhousing», nh3InHousing, throughHousing, inHousing, housingInGrams}
+use Rattle.flows.specs.Portion.{portion}
+use Rattle.flows.specs.Housing.{«er_housing», «c_grazing», «ef_nh3_nhousing», nh3InHousing, throughHousing, inHousing, housingInGrams}
+use Rattle.flows.specs.Bounds.{PortionOf, Modest, Factor, mostGrowth}
 
 -- ---- 2.87, c_grazing
 
@@ -59,9 +60,9 @@ pub ruleset growth-steps = (grown-fits, sum-fits, is-mean, is-one)
 -- ---- 2.85, ef_nh3_nhousing
 
 module _ (r : Roughage) (c rate factor : ℕ) (g : Factor mostGrowth («c_grazing» cutting (r .«grazing_days») (r .«grazing_hours»)) c)
-    (p : PartOf c «er_housing» thousandths rate) (q : PartOf rate (percent - r .«free_correction_factor») percent factor) where
+    (p : PortionOf c «er_housing» thousandths rate) (q : PortionOf rate (percent - r .«free_correction_factor») percent factor) where
   before-ceiling : factor
-      ≡ part cutting (part cutting («c_grazing» cutting (r .«grazing_days») (r .«grazing_hours»)) «er_housing» thousandths) (percent - r .«free_correction_factor») percent
+      ≡ portion cutting (portion cutting («c_grazing» cutting (r .«grazing_days») (r .«grazing_hours»)) «er_housing» thousandths) (percent - r .«free_correction_factor») percent
   before-ceiling = q .is ∙ rw (p .is, g .is) refl
 
   pub under-ceiling : factor ≤ billionths → Factor billionths («ef_nh3_nhousing» cutting r) factor
@@ -75,7 +76,7 @@ pub ruleset factor-steps = (under-ceiling, at-ceiling)
 pub factor-le : (r : Roughage) → «ef_nh3_nhousing» cutting r ≤ billionths
 factor-le r =
     least-most
-    (part cutting (part cutting («c_grazing» cutting (r .«grazing_days») (r .«grazing_hours»)) «er_housing» thousandths) (percent - r .«free_correction_factor») percent)
+    (portion cutting (portion cutting («c_grazing» cutting (r .«grazing_days») (r .«grazing_hours»)) «er_housing» thousandths) (percent - r .«free_correction_factor») percent)
     billionths
 
 -- ---- conservation: what goes into the housing is emitted there or leaves it
@@ -91,6 +92,6 @@ module _ (r : Roughage) (n tan : ℕ) where
   housing-keeps-tan = omega (arith, nh3-le)
 
   -- the code's step
-  pub is-housing : (factor nh3 : ℕ) → Factor billionths («ef_nh3_nhousing» cutting r) factor → PartOf tan factor billionths nh3
+  pub is-housing : (factor nh3 : ℕ) → Factor billionths («ef_nh3_nhousing» cutting r) factor → PortionOf tan factor billionths nh3
       → housingInGrams (throughHousing cutting n tan nh3) ≡ housingInGrams (inHousing cutting r n tan)
   is-housing factor nh3 f p = rw (p .is, f .is) refl

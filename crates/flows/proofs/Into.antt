@@ -16,33 +16,33 @@ use Rattle.flows.specs.declared.Rates.{Rates}
 use Rattle.flows.specs.Units.{tenths, year, day}
 use Rattle.flows.specs.Sound.{SoundCattle, SoundRoughage}
 use Rattle.flows.specs.Arithmetic.{cutting}
-use Rattle.flows.specs.Part.{PartOf, Modest}
 use Rattle.flows.specs.Yard.{yardTime, intoYard}
-use Rattle.flows.specs.Grazing.{cattleRates, pigRates, roughageRates, ModestRates, pastureTime, grazingTime, cattleIntoGrazing, roughageIntoGrazing, pigsIntoGrazing, onPasture, cattleGrazing, roughageGrazing, pigGrazing, grazingInGrams}
-use Rattle.flows.proofs.Amounts.{modest-share, modest-part, modest-rest}
-use Rattle.flows.proofs.Times.{pasture-time-le, times-le, grazing-time-le}
+use Rattle.flows.specs.Grazing.{cattleRates, pigRates, roughageRates, cattleGrazingTime, roughageGrazingTime, cattleIntoGrazing, roughageIntoGrazing, pigsIntoGrazing, onPasture, cattleGrazing, roughageGrazing, pigGrazing, grazingInGrams}
+use Rattle.flows.specs.Bounds.{PortionOf, Modest, ModestRates}
+use Rattle.flows.proofs.Amounts.{modest-share, modest-portion, modest-rest}
+use Rattle.flows.proofs.Times.{cattle-grazing-time-le, times-le, roughage-grazing-time-le}
 
 -- ---- cattle
 
 module _ (c : Cattle) (s : SoundCattle c) where
   pub cattle-into-le : (n : ℕ) → intoYard cutting c n + cattleIntoGrazing cutting c n ≤ n
   cattle-into-le n =
-      parts-over-le n (yardTime c) (pastureTime c) (tenths * year) (day * (tenths * year)) (omega arith) (omega arith) (omega (arith, times-le c s))
+      parts-over-le n (yardTime c) (cattleGrazingTime c) (tenths * year) (day * (tenths * year)) (omega arith) (omega arith) (omega (arith, times-le c s))
 
   pub cattle-pasture-modest : (n tan : ℕ) → Modest n tan → Modest (cattleIntoGrazing cutting c n) (cattleIntoGrazing cutting c tan)
-  cattle-pasture-modest n tan m = modest-share n tan (pastureTime c) (day * (tenths * year)) m (pasture-time-le c s)
+  cattle-pasture-modest n tan m = modest-share n tan (cattleGrazingTime c) (day * (tenths * year)) m (cattle-grazing-time-le c s)
 
 -- ---- roughage-consuming animals
 
 module _ (r : Roughage) (s : SoundRoughage r) where
   pub roughage-into-le : (n : ℕ) → roughageIntoGrazing cutting r n ≤ n
-  roughage-into-le n = part-le n (grazingTime r) (day * year) (grazing-time-le r s)
+  roughage-into-le n = part-le n (roughageGrazingTime r) (day * year) (roughage-grazing-time-le r s)
 
   pub roughage-pasture-modest : (n tan : ℕ) → Modest n tan → Modest (roughageIntoGrazing cutting r n) (roughageIntoGrazing cutting r tan)
-  roughage-pasture-modest n tan m = modest-share n tan (grazingTime r) (day * year) m (grazing-time-le r s)
+  roughage-pasture-modest n tan m = modest-share n tan (roughageGrazingTime r) (day * year) m (roughage-grazing-time-le r s)
 
   pub roughage-housing-modest : (n tan : ℕ) → Modest n tan → Modest (n - roughageIntoGrazing cutting r n) (tan - roughageIntoGrazing cutting r tan)
-  roughage-housing-modest n tan m = modest-rest n tan (grazingTime r) (day * year) m (omega arith) (grazing-time-le r s)
+  roughage-housing-modest n tan m = modest-rest n tan (roughageGrazingTime r) (day * year) m (omega arith) (roughage-grazing-time-le r s)
 
 -- ---- pigs
 
@@ -86,34 +86,34 @@ module _ (r : Rates) where
   pub modest-pigs : r ≡ pigRates → ModestRates r
   modest-pigs e = rw e pig-rates-modest
 
-pub pasture-time-within : (c : Cattle) → SoundCattle c → (time : ℕ) → time ≡ pastureTime c → time ≤ day * (tenths * year)
-pasture-time-within c s time e = omega (arith, pasture-time-le c s)
+pub cattle-grazing-time-within : (c : Cattle) → SoundCattle c → (time : ℕ) → time ≡ cattleGrazingTime c → time ≤ day * (tenths * year)
+cattle-grazing-time-within c s time e = omega (arith, cattle-grazing-time-le c s)
 
-pub grazing-time-within : (hours days : ℕ) → hours ≤ day → days ≤ year → hours * days ≤ day * year
-grazing-time-within hours days hh hd = mul-to 240 365 tt hh hd
+pub roughage-grazing-time-within : (hours days : ℕ) → hours ≤ day → days ≤ year → hours * days ≤ day * year
+roughage-grazing-time-within hours days hh hd = mul-to 240 365 tt hh hd
 
-pub modest-pigs-part : (t : HousingType) (n tan a b : ℕ) → Modest n tan → a ≡ pigsIntoGrazing cutting t n → b ≡ pigsIntoGrazing cutting t tan → Modest a b
-modest-pigs-part t n tan a b m ea eb = rw (ea, eb) (pig-pasture-modest t n tan m)
+pub modest-pigs-portion : (t : HousingType) (n tan a b : ℕ) → Modest n tan → a ≡ pigsIntoGrazing cutting t n → b ≡ pigsIntoGrazing cutting t tan → Modest a b
+modest-pigs-portion t n tan a b m ea eb = rw (ea, eb) (pig-pasture-modest t n tan m)
 
 module _ (r : Rates) (n tan nInto tanInto : ℕ) (g : Grazing) (eg : g ≡ grazingInGrams (onPasture cutting r nInto tanInto)) where
-  pub is-cattle-grazing : (c : Cattle) (time : ℕ) → r ≡ cattleRates → time ≡ pastureTime c
-      → PartOf n time (day * (tenths * year)) nInto → PartOf tan time (day * (tenths * year)) tanInto
+  pub is-cattle-grazing : (c : Cattle) (time : ℕ) → r ≡ cattleRates → time ≡ cattleGrazingTime c
+      → PortionOf n time (day * (tenths * year)) nInto → PortionOf tan time (day * (tenths * year)) tanInto
       → g ≡ grazingInGrams (cattleGrazing cutting c n tan)
   is-cattle-grazing c time er et p q = eg ∙ rw (er, p .is, q .is, et) refl
 
   pub is-roughage-grazing : (h : Roughage) → r ≡ roughageRates
-      → PartOf n (h .«grazing_hours» * h .«grazing_days») (day * year) nInto
-      → PartOf tan (h .«grazing_hours» * h .«grazing_days») (day * year) tanInto
+      → PortionOf n (h .«grazing_hours» * h .«grazing_days») (day * year) nInto
+      → PortionOf tan (h .«grazing_hours» * h .«grazing_days») (day * year) tanInto
       → g ≡ grazingInGrams (roughageGrazing cutting h n tan)
-  unfolding grazingTime
+  unfolding roughageGrazingTime
   is-roughage-grazing h er p q = eg ∙ rw (er, p .is, q .is) refl
 
   pub is-pig-grazing : (t : HousingType) → r ≡ pigRates → nInto ≡ pigsIntoGrazing cutting t n → tanInto ≡ pigsIntoGrazing cutting t tan
       → g ≡ grazingInGrams (pigGrazing cutting t n tan)
   is-pig-grazing t er p q = eg ∙ rw (er, p, q) refl
 
-pub ruleset cattle-steps = (pasture-time-within, modest-cattle, modest-part, is-cattle-grazing)
+pub ruleset cattle-steps = (cattle-grazing-time-within, modest-cattle, modest-portion, is-cattle-grazing)
 
-pub ruleset roughage-steps = (grazing-time-within, modest-roughage, modest-part, is-roughage-grazing)
+pub ruleset roughage-steps = (roughage-grazing-time-within, modest-roughage, modest-portion, is-roughage-grazing)
 
-pub ruleset pig-steps = (modest-pigs, modest-pigs-part, is-pig-grazing)
+pub ruleset pig-steps = (modest-pigs, modest-pigs-portion, is-pig-grazing)

@@ -12,8 +12,8 @@ use Rattle.flows.specs.declared.Rates.{Rates}
 use Rattle.flows.specs.declared.Gases.{Gases}
 use Rattle.flows.specs.Units.{tenThousandths}
 use Rattle.flows.specs.Arithmetic.{cutting}
-use Rattle.flows.specs.Part.{PartOf, Modest}
-use Rattle.flows.specs.Grazing.{gas, onPasture, grazingInGrams, ModestRates, Emitted}
+use Rattle.flows.specs.Grazing.{gas, onPasture, grazingInGrams}
+use Rattle.flows.specs.Bounds.{PortionOf, Modest, ModestRates, Emitted}
 
 -- ---- what is taken together is taken one by one
 
@@ -54,8 +54,8 @@ module _ (r : Rates) (n tan : ℕ) where
   -- ---- the code's steps
 
   pub emitted : (nh3 n2 nO n2o : ℕ) → ModestRates r → Modest n tan
-      → PartOf tan (r .nh3) tenThousandths nh3 → PartOf n (r .n2) tenThousandths n2
-      → PartOf n (r .no) tenThousandths nO → PartOf n (r .n2o) tenThousandths n2o
+      → PortionOf tan (r .nh3) tenThousandths nh3 → PortionOf n (r .n2) tenThousandths n2
+      → PortionOf n (r .no) tenThousandths nO → PortionOf n (r .n2o) tenThousandths n2o
       → Emitted r n tan (record { nh3 = nh3; n2 = n2; no = nO; n2o = n2o })
   emitted nh3 n2 nO n2o h m p q s t =
       record { is = cc (p .is, q .is, s .is, t .is); together = omega (arith, gases-le h m, p .is, q .is, s .is, t .is) }

@@ -8,9 +8,9 @@ use Rattle.flows.specs.declared.Cattle.{Cattle}
 use Rattle.flows.specs.Units.{tenths, percent, tenThousandths, year}
 use Rattle.flows.specs.Sound.{SoundCattle}
 use Rattle.flows.specs.Arithmetic.{cutting}
-use Rattle.flows.specs.Part.{PartOf, Modest}
+use Rattle.flows.specs.Bounds.{PortionOf, Modest}
 use Rattle.flows.specs.Yard.{yardTime, «ef_nh3_nyard», intoYard, nh3OnYard, throughYard, onYard, yardInGrams}
-use Rattle.flows.proofs.Amounts.{modest-share, modest-part}
+use Rattle.flows.proofs.Amounts.{modest-share, modest-portion}
 use Rattle.flows.proofs.Times.{yard-time-le}
 
 module _ (c : Cattle) (s : SoundCattle c) where
@@ -40,10 +40,10 @@ module _ (c : Cattle) (s : SoundCattle c) where
   pub yard-rate-within : (rate : ℕ) → rate ≡ «ef_nh3_nyard» c → rate ≤ tenThousandths * percent * percent
   yard-rate-within rate e = rw e yard-rate-le
 
-module _ (c : Cattle) (n tan time nInto tanInto rate nh3 : ℕ) (p : PartOf n time (tenths * year) nInto) (q : PartOf tan time (tenths * year) tanInto)
-    (g : PartOf tanInto rate (tenThousandths * percent * percent) nh3) where
+module _ (c : Cattle) (n tan time nInto tanInto rate nh3 : ℕ) (p : PortionOf n time (tenths * year) nInto) (q : PortionOf tan time (tenths * year) tanInto)
+    (g : PortionOf tanInto rate (tenThousandths * percent * percent) nh3) where
   pub nh3-in-n : Modest n tan → nh3 ≤ nInto
-  nh3-in-n m = omega (arith, modest-part n tan time (tenths * year) m nInto tanInto p q .tan-most)
+  nh3-in-n m = omega (arith, modest-portion n tan time (tenths * year) m nInto tanInto p q .tan-most)
 
   pub is-yard : time ≡ yardTime c → rate ≡ «ef_nh3_nyard» c
       → yardInGrams (throughYard cutting nInto tanInto nh3) ≡ yardInGrams (onYard cutting c n tan)

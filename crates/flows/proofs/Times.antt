@@ -18,7 +18,7 @@ use Rattle.flows.specs.declared.ExerciseYard.the-variants.{NotAvailable,
 use Rattle.flows.specs.Units.{year, day, tenths}
 use Rattle.flows.specs.Sound.{SoundCattle, SoundRoughage}
 use Rattle.flows.specs.Yard.{«days_with_grazing_and_yard», «share_excretion», «share_excretion_with_grazing», bothOf, shareOf, shareOnBothOf, yardTime}
-use Rattle.flows.specs.Grazing.{pastureTime, grazingTime}
+use Rattle.flows.specs.Grazing.{cattleGrazingTime, roughageGrazingTime}
 
 -- ---- days with both
 
@@ -131,8 +131,8 @@ module _ (c : Cattle) (both share : ℕ) (s : SoundCattle c) (eb : both ≡ both
     pub pasture-sum-fits : Fits w64 ((c .«grazing_days» - both) * tenths + (tenths - shared) * both)
     pasture-sum-fits = omega (arith, pasture-le)
 
-    pub pasture-time-fits : Fits w64 (c .«grazing_hours» * ((c .«grazing_days» - both) * tenths + (tenths - shared) * both))
-    pasture-time-fits = mul-fits 240 3650 tt (s .hours) pasture-le
+    pub grazing-time-fits : Fits w64 (c .«grazing_hours» * ((c .«grazing_days» - both) * tenths + (tenths - shared) * both))
+    grazing-time-fits = mul-fits 240 3650 tt (s .hours) pasture-le
 
   pub yard-only-fits : Fits w64 (share * (c .«yard_days» - both))
   yard-only-fits = omega (arith, yard-le share (le-refl share))
@@ -142,13 +142,13 @@ module _ (c : Cattle) (both share : ℕ) (s : SoundCattle c) (eb : both ≡ both
     unfolding yardTime
     is-yard-time = rw (et, es, eb) refl
 
-    pub is-pasture-time : c .«grazing_hours» * ((c .«grazing_days» - both) * tenths + (tenths - shared) * both) ≡ pastureTime c
-    unfolding pastureTime
-    is-pasture-time = rw (et, es, eb) refl
+    pub is-grazing-time : c .«grazing_hours» * ((c .«grazing_days» - both) * tenths + (tenths - shared) * both) ≡ cattleGrazingTime c
+    unfolding cattleGrazingTime
+    is-grazing-time = rw (et, es, eb) refl
 
 pub ruleset yard-steps = (shared-most, both-in-yard, yard-only-fits, yard-both-fits, yard-sum-fits, is-yard-time)
 
-pub ruleset pasture-steps = (shared-most, both-in-grazing, shared-in-day, pasture-both-fits, pasture-sum-fits, pasture-time-fits, is-pasture-time)
+pub ruleset pasture-steps = (shared-most, both-in-grazing, shared-in-day, pasture-both-fits, pasture-sum-fits, grazing-time-fits, is-grazing-time)
 
 -- ---- the times fit into the year, also together
 
@@ -157,12 +157,12 @@ module _ (c : Cattle) (s : SoundCattle c) where
   unfolding yardTime
   yard-time-le = yard-le c (bothOf c) (shareOf c) s refl refl (shareOnBothOf c) (shared-le (bothOf c) (shareOf c))
 
-  pub pasture-time-le : pastureTime c ≤ day * (tenths * year)
-  unfolding pastureTime
-  pasture-time-le = mul-to 240 3650 tt (s .hours) (pasture-le c (bothOf c) (shareOf c) s refl refl (shareOnBothOf c) (shared-le (bothOf c) (shareOf c)))
+  pub cattle-grazing-time-le : cattleGrazingTime c ≤ day * (tenths * year)
+  unfolding cattleGrazingTime
+  cattle-grazing-time-le = mul-to 240 3650 tt (s .hours) (pasture-le c (bothOf c) (shareOf c) s refl refl (shareOnBothOf c) (shared-le (bothOf c) (shareOf c)))
 
-  pub times-le : yardTime c * day + pastureTime c ≤ day * (tenths * year)
-  unfolding yardTime pastureTime
+  pub times-le : yardTime c * day + cattleGrazingTime c ≤ day * (tenths * year)
+  unfolding yardTime cattleGrazingTime
   times-le =
       omega (
         arith,
@@ -170,6 +170,6 @@ module _ (c : Cattle) (s : SoundCattle c) where
         mul-le-mul-right ((c .«grazing_days» - bothOf c) * tenths + (tenths - shareOnBothOf c) * bothOf c) (s .hours),
       )
 
-pub grazing-time-le : (r : Roughage) → SoundRoughage r → grazingTime r ≤ day * year
-unfolding grazingTime
-grazing-time-le r s = mul-to 240 365 tt (s .hours) (s .days)
+pub roughage-grazing-time-le : (r : Roughage) → SoundRoughage r → roughageGrazingTime r ≤ day * year
+unfolding roughageGrazingTime
+roughage-grazing-time-le r s = mul-to 240 365 tt (s .hours) (s .days)

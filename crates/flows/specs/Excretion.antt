@@ -6,7 +6,7 @@ use Rattle.flows.specs.declared.Entered.the-variants.{Standard, Number}
 use Rattle.flows.specs.declared.Excretion.{Excretion}
 use Rattle.flows.specs.Units.{tenThousandths}
 use Rattle.flows.specs.Arithmetic.{Arithmetic, cutting}
-use Rattle.flows.specs.Part.{part}
+use Rattle.flows.specs.Portion.{portion}
 
 -- 2.84, n_excretion_animal: the category's standard, unless a number is entered
 abbrev pub «n_excretion_animal» : ℕ → Entered → ℕ
@@ -30,7 +30,7 @@ module _ (A : Arithmetic) where
   excreted animals grams fraction =
       record {
         «n_excretion» = whole (animals * grams);
-        «tan_excretion» = part A (whole (animals * grams)) fraction tenThousandths;
+        «tan_excretion» = portion A (whole (animals * grams)) fraction tenThousandths;
       }
 
 -- on whole grams

@@ -1,16 +1,14 @@
 -- 2.35, 2.61 and 2.88: what the animals excrete on pasture, the gases from it and what remains.
-use mathlib.Core.Path.{_≡_}
-use Prim.Native.Nat.{ℕ, _+_, _-_, _*_, _≤_}
+use Prim.Native.Nat.{ℕ, _+_, _-_, _*_}
 use Rattle.flows.specs.declared.Cattle.{Cattle}
 use Rattle.flows.specs.declared.Roughage.{Roughage}
 use Rattle.flows.specs.declared.HousingType.{HousingType}
 use Rattle.flows.specs.declared.HousingType.the-variants.{SlurryConventional, SlurryLabel, SlurryLabelOpen, DeepLitter, Outdoor}
 use Rattle.flows.specs.declared.Rates.{Rates}
-use Rattle.flows.specs.declared.Gases.{Gases}
 use Rattle.flows.specs.declared.Grazing.{Grazing}
 use Rattle.flows.specs.Units.{tenths, tenThousandths, year, day}
 use Rattle.flows.specs.Arithmetic.{Arithmetic, cutting}
-use Rattle.flows.specs.Part.{part}
+use Rattle.flows.specs.Portion.{portion}
 use Rattle.flows.specs.Yard.{bothOf, shareOnBothOf}
 
 -- the emission rates of NH3, N2, NO and N2O, in ten-thousandths
@@ -30,14 +28,14 @@ abbrev pub roughageRates : Rates
 roughageRates = rates 1250 0 55 100
 
 -- 2.35, n_into_grazing: the part of the year, in tenths of an hour and tenths of a day
-unfoldable pub pastureTime : Cattle → ℕ
-pastureTime c =
+unfoldable pub cattleGrazingTime : Cattle → ℕ
+cattleGrazingTime c =
     c .«grazing_hours»
     * ((c .«grazing_days» - bothOf c) * tenths + (tenths - shareOnBothOf c) * bothOf c)
 
 -- 2.88, n_into_grazing: the part of the year, in tenths of an hour
-unfoldable pub grazingTime : Roughage → ℕ
-grazingTime r = r .«grazing_hours» * r .«grazing_days»
+unfoldable pub roughageGrazingTime : Roughage → ℕ
+roughageGrazingTime r = r .«grazing_hours» * r .«grazing_days»
 
 pub record GrazingIn (A : Arithmetic) : Type 0 where
   pub «n_into_grazing» : A .Amount
@@ -56,11 +54,11 @@ module _ (A : Arithmetic) where
   infixl 6 _less_
   -- 2.35, n_into_grazing and tan_into_grazing: one cut
   abbrev pub cattleIntoGrazing : Cattle → Amount → Amount
-  cattleIntoGrazing c amount = part A amount (pastureTime c) (day * (tenths * year))
+  cattleIntoGrazing c amount = portion A amount (cattleGrazingTime c) (day * (tenths * year))
 
   -- 2.88, n_into_grazing and tan_into_grazing: one cut
   abbrev pub roughageIntoGrazing : Roughage → Amount → Amount
-  roughageIntoGrazing r amount = part A amount (grazingTime r) (day * year)
+  roughageIntoGrazing r amount = portion A amount (roughageGrazingTime r) (day * year)
 
   -- 2.61, n_into_grazing and tan_into_grazing: outdoors all, else nothing
   abbrev pub pigsIntoGrazing : HousingType → Amount → Amount
@@ -72,7 +70,7 @@ module _ (A : Arithmetic) where
 
   -- 2.35, 2.61, 2.88, nh3_ngrazing and the others: each its rate of an amount
   abbrev pub gas : Amount → ℕ → Amount
-  gas amount rate = part A amount rate tenThousandths
+  gas amount rate = portion A amount rate tenThousandths
 
   -- 2.35, 2.61, 2.88, n_remain_grazing and tan_remain_grazing: less all four gases, the N and the TAN alike
   abbrev pub afterGases : Amount → Amount → Amount → Amount → Amount → Amount → GrazingIn A
@@ -116,15 +114,3 @@ grazingInGrams g =
       «n_remain_grazing» = g .«n_remain_grazing»;
       «tan_remain_grazing» = g .«tan_remain_grazing»;
     }
-
--- the gases of a pasture
-abbrev pub gasesOf : Rates → ℕ → ℕ → Gases
-gasesOf r n tan = record { nh3 = gas cutting tan (r .nh3); n2 = gas cutting n (r .n2); no = gas cutting n (r .no); n2o = gas cutting n (r .n2o) }
-
--- no more leaves a pasture than comes onto it
-pub record ModestRates (r : Rates) : Type 0 where
-  pub together : r .nh3 + r .n2 + r .no + r .n2o ≤ tenThousandths
-
-pub record Emitted (r : Rates) (n tan : ℕ) (g : Gases) : Type 0 where
-  pub is : g ≡ gasesOf r n tan
-  pub together : g .nh3 + g .n2 + g .no + g .n2o ≤ n

@@ -1,13 +1,12 @@
 -- The flow through the housing door, and 2.85 to 2.87: the housing of other roughage-consuming animals and its ammonia.
-use mathlib.Core.Path.{_≡_}
-use Prim.Native.Nat.{ℕ, _-_, _*_, _≤_}
+use Prim.Native.Nat.{ℕ, _-_, _*_}
 use lib.Dec.{ltb}
 use Rattle.base.specs.Pick.{pick}
 use Rattle.flows.specs.declared.Roughage.{Roughage}
 use Rattle.flows.specs.declared.Housing.{Housing}
 use Rattle.flows.specs.Units.{percent, thousandths, billionths, year, day}
 use Rattle.flows.specs.Arithmetic.{Arithmetic, cutting}
-use Rattle.flows.specs.Part.{part}
+use Rattle.flows.specs.Portion.{portion}
 
 -- 2.85, er_housing, 0.275, in thousandths
 abbrev pub «er_housing» : ℕ
@@ -43,7 +42,7 @@ module _ (A : Arithmetic) where
   -- 2.85, ef_nh3_nhousing, in billionths: er_housing, then the free factor, then the ceiling of 1
   abbrev pub «ef_nh3_nhousing» : Roughage → Amount
   «ef_nh3_nhousing» r =
-      part A (part A («c_grazing» (r .«grazing_days») (r .«grazing_hours»)) «er_housing» thousandths)
+      portion A (portion A («c_grazing» (r .«grazing_days») (r .«grazing_hours»)) «er_housing» thousandths)
       («c_free_factor_housing» (r .«free_correction_factor»)) percent
       atMost billionths
 
@@ -87,12 +86,3 @@ housingInGrams h =
       «n_outhousing» = h .«n_outhousing»;
       «tan_outhousing» = h .«tan_outhousing»;
     }
-
--- a factor as the code hands it on: what it is, and that it is at most m
-pub record Factor (m : ℕ) (is-it r : ℕ) : Type 0 where
-  pub is : r ≡ is-it
-  pub most : r ≤ m
-
--- k at 24 hours, in billionths: c is never above it
-abbrev pub mostGrowth : ℕ
-mostGrowth = 2630568546

@@ -15,7 +15,7 @@ use Rattle.flows.specs.declared.Cattle.{Cattle}
 use Rattle.flows.specs.declared.Yard.{Yard}
 use Rattle.flows.specs.Units.{tenths, percent, tenThousandths, year}
 use Rattle.flows.specs.Arithmetic.{Arithmetic, cutting}
-use Rattle.flows.specs.Part.{part}
+use Rattle.flows.specs.Portion.{portion}
 
 -- 2.33, c_free_factor_yard, in percent: 1 less the free factor
 abbrev pub «c_free_factor_yard» : ℕ → ℕ
@@ -97,11 +97,11 @@ module _ (A : Arithmetic) where
   infixl 6 _⊖_
   -- 2.34, n_into_yard and tan_into_yard: one cut
   abbrev pub intoYard : Cattle → Amount → Amount
-  intoYard c amount = part A amount (yardTime c) (tenths * year)
+  intoYard c amount = portion A amount (yardTime c) (tenths * year)
 
   -- 2.34, nh3_nyard: one cut
   abbrev pub nh3OnYard : Cattle → Amount → Amount
-  nh3OnYard c tan = part A tan («ef_nh3_nyard» c) (tenThousandths * percent * percent)
+  nh3OnYard c tan = portion A tan («ef_nh3_nyard» c) (tenThousandths * percent * percent)
 
   -- 2.34, n_outyard_liquid and tan_outyard_liquid: what came onto the yard, what is emitted there, what leaves it
   abbrev pub throughYard : Amount → Amount → Amount → YardIn A

@@ -1,7 +1,7 @@
 // 2.22, 2.50 and 2.84: what the animals of a herd excrete in a year.
 use crate::Entered;
 use crate::Excretion;
-use crate::parts;
+use crate::portions;
 ghost use mathlib.Core.Path.{_≡_};
 ghost use Prim.Native.Nat.{_≤_};
 ghost use Rattle.flows.specs.Units.{tenThousandths};
@@ -35,7 +35,7 @@ pub fn excretion(animals: u64, grams: u64, fraction: u64) -> Excretion
     ensures { λ r. ⌜ r ≡ excretionOf animals grams fraction ⌝ }
 {
     let n = animals * grams;
-    let tan = parts::part(n, fraction, TEN_THOUSANDTHS);
+    let tan = portions::portion(n, fraction, TEN_THOUSANDTHS);
     Excretion {
         n_excretion: n,
         tan_excretion: tan,

@@ -2,14 +2,14 @@
 // billionths. The coefficient 0.9989 that 2.87 prints stands in no formula there, and none here.
 use crate::Housing;
 use crate::Roughage;
-use crate::parts;
+use crate::portions;
 ghost use mathlib.Core.Path.{_≡_};
 ghost use Prim.Native.Nat.{_≤_};
 ghost use Rattle.flows.specs.Units.{billionths, year, day};
 ghost use Rattle.flows.specs.Sound.{SoundRoughage};
-ghost use Rattle.flows.specs.Part.{Modest};
 ghost use Rattle.flows.specs.Arithmetic.{cutting};
-ghost use Rattle.flows.specs.Housing.{Factor, mostGrowth, «c_grazing», «ef_nh3_nhousing», inHousing, throughDoor, housingInGrams};
+ghost use Rattle.flows.specs.Housing.{«c_grazing», «ef_nh3_nhousing», inHousing, throughDoor, housingInGrams};
+ghost use Rattle.flows.specs.Bounds.{Modest, Factor, mostGrowth};
 
 const YEAR: u64 = 365;
 
@@ -45,8 +45,8 @@ fn ef_nh3_nhousing(r: Roughage) -> u64
     ensures { λ f. ⌜ Factor billionths («ef_nh3_nhousing» cutting r) f ⌝ }
 {
     let c = c_grazing(r.grazing_days, r.grazing_hours);
-    let rate = parts::part(c, ER_HOUSING, THOUSANDTHS);
-    let factor = parts::part(rate, PERCENT - r.free_correction_factor, PERCENT);
+    let rate = portions::portion(c, ER_HOUSING, THOUSANDTHS);
+    let factor = portions::portion(rate, PERCENT - r.free_correction_factor, PERCENT);
     if BILLIONTHS < factor {
         return BILLIONTHS;
     }
@@ -59,7 +59,7 @@ pub fn in_housing(r: Roughage, n: u64, tan: u64) -> Housing
     ensures { λ h. ⌜ h ≡ housingInGrams (inHousing cutting r n tan) ⌝ }
 {
     let factor = ef_nh3_nhousing(r);
-    let nh3 = parts::part(tan, factor, BILLIONTHS);
+    let nh3 = portions::portion(tan, factor, BILLIONTHS);
     Housing {
         n_into_housing: n,
         tan_into_housing: tan,

@@ -1,6 +1,6 @@
 // The sections of 001 that a herd's nitrogen flows through, on typed and complete inputs: what is excreted, the yard, the pasture, the
 // housing. A figure has the name that 001 gives it. Amounts are whole grams of nitrogen a year.
-pub mod parts; // a part of an amount, with one cut
+pub mod portions; // a portion of an amount, with one cut
 pub mod animals; // 2.22, 2.50, 2.84
 pub mod yards; // 2.33, 2.34
 pub mod pasture; // 2.35, 2.61, 2.88

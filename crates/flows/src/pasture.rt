@@ -6,13 +6,13 @@ use crate::Grazing;
 use crate::HousingType;
 use crate::Rates;
 use crate::Roughage;
-use crate::parts;
+use crate::portions;
 use crate::yards;
 ghost use mathlib.Core.Path.{_≡_};
 ghost use Rattle.flows.specs.Sound.{SoundCattle, SoundRoughage};
-ghost use Rattle.flows.specs.Part.{Modest};
 ghost use Rattle.flows.specs.Arithmetic.{cutting};
-ghost use Rattle.flows.specs.Grazing.{ModestRates, Emitted, rates, cattleRates, pigRates, roughageRates, pastureTime, onPasture, pigsIntoGrazing, cattleGrazing, roughageGrazing, pigGrazing, grazingInGrams};
+ghost use Rattle.flows.specs.Grazing.{rates, cattleRates, pigRates, roughageRates, cattleGrazingTime, onPasture, pigsIntoGrazing, cattleGrazing, roughageGrazing, pigGrazing, grazingInGrams};
+ghost use Rattle.flows.specs.Bounds.{Modest, ModestRates, Emitted};
 
 const TENTHS: u64 = 10;
 
@@ -52,9 +52,9 @@ pub fn roughage_rates() -> Rates
 }
 
 // The part of the year that cattle are on pasture.
-pub fn pasture_time(c: Cattle) -> u64
+pub fn cattle_grazing_time(c: Cattle) -> u64
     requires { ⌜ SoundCattle c ⌝ }
-    ensures { λ r. ⌜ r ≡ pastureTime c ⌝ }
+    ensures { λ r. ⌜ r ≡ cattleGrazingTime c ⌝ }
 {
     let kind = c.exercise_yard;
     let both = yards::days_with_grazing_and_yard(c.grazing_days, c.yard_days);
@@ -67,10 +67,10 @@ fn gases(r: Rates, n: u64, tan: u64) -> Gases
     requires { ⌜ ModestRates r × Modest n tan ⌝ }
     ensures { λ g. ⌜ Emitted r n tan g ⌝ }
 {
-    let nh3 = parts::part(tan, r.nh3, TEN_THOUSANDTHS);
-    let n2 = parts::part(n, r.n2, TEN_THOUSANDTHS);
-    let no = parts::part(n, r.no, TEN_THOUSANDTHS);
-    let n2o = parts::part(n, r.n2o, TEN_THOUSANDTHS);
+    let nh3 = portions::portion(tan, r.nh3, TEN_THOUSANDTHS);
+    let n2 = portions::portion(n, r.n2, TEN_THOUSANDTHS);
+    let no = portions::portion(n, r.no, TEN_THOUSANDTHS);
+    let n2o = portions::portion(n, r.n2o, TEN_THOUSANDTHS);
     Gases { nh3, n2, no, n2o }
 }
 
@@ -98,9 +98,9 @@ pub fn cattle_grazing(c: Cattle, n: u64, tan: u64) -> Grazing
     requires { ⌜ SoundCattle c × Modest n tan ⌝ }
     ensures { λ r. ⌜ r ≡ grazingInGrams (cattleGrazing cutting c n tan) ⌝ }
 {
-    let time = pasture_time(c);
-    let n_into = parts::part(n, time, YEAR_OF_SHARED_HOURS);
-    let tan_into = parts::part(tan, time, YEAR_OF_SHARED_HOURS);
+    let time = cattle_grazing_time(c);
+    let n_into = portions::portion(n, time, YEAR_OF_SHARED_HOURS);
+    let tan_into = portions::portion(tan, time, YEAR_OF_SHARED_HOURS);
     on_pasture(cattle_rates(), n_into, tan_into)
 }
 
@@ -110,8 +110,8 @@ pub fn roughage_grazing(h: Roughage, n: u64, tan: u64) -> Grazing
     ensures { λ r. ⌜ r ≡ grazingInGrams (roughageGrazing cutting h n tan) ⌝ }
 {
     let time = h.grazing_hours * h.grazing_days;
-    let n_into = parts::part(n, time, YEAR_OF_HOURS);
-    let tan_into = parts::part(tan, time, YEAR_OF_HOURS);
+    let n_into = portions::portion(n, time, YEAR_OF_HOURS);
+    let tan_into = portions::portion(tan, time, YEAR_OF_HOURS);
     on_pasture(roughage_rates(), n_into, tan_into)
 }
 

@@ -7,12 +7,12 @@ use crate::Cattle;
 use crate::ExerciseYard;
 use crate::Floor;
 use crate::Yard;
-use crate::parts;
+use crate::portions;
 ghost use mathlib.Core.Path.{_≡_};
 ghost use Prim.Native.Nat.{_≤_};
 ghost use Rattle.flows.specs.Units.{year};
 ghost use Rattle.flows.specs.Sound.{SoundCattle};
-ghost use Rattle.flows.specs.Part.{Modest};
+ghost use Rattle.flows.specs.Bounds.{Modest};
 ghost use Rattle.flows.specs.Arithmetic.{cutting};
 ghost use Rattle.flows.specs.Yard.{noYard, «days_with_grazing_and_yard», «share_excretion», «share_excretion_with_grazing», «c_floor_properties_exercise_yard», «ef_nh3_nyard», yardTime, onYard, yardInGrams};
 
@@ -107,10 +107,10 @@ pub fn on_yard(c: Cattle, n: u64, tan: u64) -> Yard
     ensures { λ r. ⌜ r ≡ yardInGrams (onYard cutting c n tan) ⌝ }
 {
     let time = yard_time(c);
-    let n_into = parts::part(n, time, YEAR_IN_TENTHS);
-    let tan_into = parts::part(tan, time, YEAR_IN_TENTHS);
+    let n_into = portions::portion(n, time, YEAR_IN_TENTHS);
+    let tan_into = portions::portion(tan, time, YEAR_IN_TENTHS);
     let rate = ef_nh3_nyard(c);
-    let nh3 = parts::part(tan_into, rate, RATE_FLOOR_FREE);
+    let nh3 = portions::portion(tan_into, rate, RATE_FLOOR_FREE);
     Yard {
         n_into_yard: n_into,
         tan_into_yard: tan_into,

@@ -13,11 +13,11 @@ use Rattle.cut.proofs.Totals.{addUp-part}
 use Rattle.flows.specs.declared.Rates.{Rates}
 use Rattle.flows.specs.declared.Inputs.{Inputs}
 use Rattle.flows.specs.Arithmetic.{cutting}
-use Rattle.flows.specs.Part.{Modest}
 use Rattle.flows.specs.Sound.{Sound}
 use Rattle.flows.specs.Yard.{intoYard, nh3OnYard, throughYard, yardInGrams}
-use Rattle.flows.specs.Grazing.{cattleRates, roughageRates, pigRates, cattleIntoGrazing, roughageIntoGrazing, pigsIntoGrazing, gas, onPasture, afterGases, grazingInGrams, ModestRates}
+use Rattle.flows.specs.Grazing.{cattleRates, roughageRates, pigRates, cattleIntoGrazing, roughageIntoGrazing, pigsIntoGrazing, gas, onPasture, afterGases, grazingInGrams}
 use Rattle.flows.specs.Housing.{nh3InHousing, throughHousing, throughDoor, housingInGrams}
+use Rattle.flows.specs.Bounds.{Modest, ModestRates}
 use Rattle.flows.proofs.OnYard.{yard-modest, yard-keeps-tan}
 use Rattle.flows.proofs.OnPasture.{gases-le}
 use Rattle.flows.proofs.InHousing.{housing-keeps-tan}

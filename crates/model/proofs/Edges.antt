@@ -17,7 +17,7 @@ use Rattle.flows.specs.declared.HousingType.the-variants.{Outdoor}
 use Rattle.flows.specs.declared.Inputs.{Inputs}
 use Rattle.flows.specs.declared.Inputs.the-variants.{Roughage, Cattle, Pigs}
 use Rattle.flows.specs.Yard.{«days_with_grazing_and_yard», «share_excretion_with_grazing», yardTime}
-use Rattle.flows.specs.Grazing.{pastureTime, grazingTime}
+use Rattle.flows.specs.Grazing.{cattleGrazingTime, roughageGrazingTime}
 use Rattle.model.specs.Herd.{figuresOf}
 use Rattle.model.specs.Notes.{notesOf}
 use Rattle.model.specs.Names.{Name, figure, «n_excretion», «tan_excretion», «n_into_yard», «tan_into_yard», «nh3_nyard», «n_outyard_liquid», «tan_outyard_liquid», «n_into_grazing», «tan_into_grazing», «nh3_ngrazing», «n2_ngrazing», «no_ngrazing», «n2o_ngrazing», «n_remain_grazing», «tan_remain_grazing», «n_into_housing», «tan_into_housing», «nh3_nhousing», «n_outhousing», «tan_outhousing»}
@@ -140,5 +140,5 @@ table =
     ∷ []
 
 pub edges : Each Holds table
-unfolding figuresOf notesOf yardTime pastureTime grazingTime «days_with_grazing_and_yard» «share_excretion_with_grazing» standardOf kOf withinDay kAt nearest growthNum growthDen expNum expDen
+unfolding figuresOf notesOf yardTime cattleGrazingTime roughageGrazingTime «days_with_grazing_and_yard» «share_excretion_with_grazing» standardOf kOf withinDay kAt nearest growthNum growthDen expNum expDen
 edges = more (figure-is refl) (more (figure-is refl) (more (figure-is refl) (more (figure-is refl) (more (figure-is refl) (more (figure-is refl) (more (figure-is refl) (more (figure-is refl) (more (figure-is refl) (more (figure-is refl) (more (figure-is refl) (more (figure-is refl) (more (figure-is refl) (more (figure-is refl) (more (figure-is refl) (more (figure-is refl) (more (figure-is refl) (more (lowered-is refl) (more (figure-is refl) (more (lowered-is refl) (more (figure-is refl) (more (figure-is refl) (more (figure-is refl) (more (figure-is refl) (more (figure-is refl) (more (figure-is refl) (more (figure-is refl) (more (figure-is refl) (more (figure-is refl) (more (figure-is refl) (more (figure-is refl) (more (figure-is refl) (more (figure-is refl) (more (figure-is refl) (more (figure-is refl) (more (figure-is refl) (more (figure-is refl) (more (figure-is refl) (more (figure-is refl) (more (figure-is refl) (more (figure-is refl) (more (figure-is refl) (more (figure-is refl) (more (k-is refl) (more (note-is refl) (more (note-is refl) (more (note-is refl) (more (note-is refl) none)))))))))))))))))))))))))))))))))))))))))))))))

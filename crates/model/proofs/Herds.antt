@@ -15,11 +15,11 @@ use Rattle.flows.specs.declared.Inputs.the-variants as kinds
 use Rattle.flows.specs.Arithmetic.{cutting}
 use Rattle.flows.specs.Units.{tenThousandths}
 use Rattle.flows.specs.Sound.{SoundRoughage, SoundCattle, SoundPigs, Sound, roughage, cattle, pigs, mostAnimals, mostGrams}
-use Rattle.flows.specs.Part.{Modest}
 use Rattle.flows.specs.Excretion.{excretionOf, «n_excretion_animal», tanFraction}
 use Rattle.flows.specs.Yard.{onYard, noYard, yardInGrams}
 use Rattle.flows.specs.Grazing.{cattleGrazing, roughageGrazing, pigGrazing, grazingInGrams}
 use Rattle.flows.specs.Housing.{inHousing, throughDoor, housingInGrams}
+use Rattle.flows.specs.Bounds.{Modest}
 use Rattle.flows.proofs.Excreted.{excretion-modest, roughage-grams-le, roughage-fraction-le}
 use Rattle.flows.proofs.Into.{cattle-into-le, roughage-into-le, roughage-housing-modest, pig-into-le}
 use Rattle.model.specs.declared.Figures.{Figures}

@@ -17,10 +17,10 @@ use Rattle.flows.specs.declared.Roughage.{Roughage}
 use Rattle.flows.specs.declared.Inputs.{Inputs}
 use Rattle.flows.specs.declared.Inputs.the-variants as kinds
 use Rattle.flows.specs.Arithmetic.{cutting}
-use Rattle.flows.specs.Part.{Modest}
 use Rattle.flows.specs.Sound.{SoundRoughage, Sound}
 use Rattle.flows.specs.Excretion.{ExcretionIn}
 use Rattle.flows.specs.Grazing.{cattleRates, roughageRates, pigRates, cattleIntoGrazing, roughageIntoGrazing, pigsIntoGrazing}
+use Rattle.flows.specs.Bounds.{Modest}
 use Rattle.flows.proofs.OnYard.{yard-keeps-n, yard-keeps-tan}
 use Rattle.flows.proofs.OnPasture.{pasture-keeps-n, pasture-keeps-tan}
 use Rattle.flows.proofs.InHousing.{housing-keeps-n, housing-keeps-tan}

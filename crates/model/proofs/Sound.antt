@@ -27,7 +27,7 @@ use Rattle.flows.specs.declared.Cattle.{Cattle}
 use Rattle.flows.specs.declared.HousingType.{HousingType}
 use Rattle.flows.specs.declared.Inputs.{Inputs}
 use Rattle.flows.specs.Arithmetic.{cutting}
-use Rattle.flows.specs.Part.{Modest}
+use Rattle.flows.specs.Bounds.{Modest}
 use Rattle.flows.specs.Excretion.{ExcretionIn, «n_excretion_animal», tanFraction}
 use Rattle.flows.specs.Sound.{EnteredTo, standard, number, SoundRoughage, SoundCattle, Sound, roughage, cattle, pigs}
 use Rattle.flows.proofs.Excreted.{excreted-modest, roughage-grams-le, roughage-fraction-le}

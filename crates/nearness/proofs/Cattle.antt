@@ -10,12 +10,12 @@ use Rattle.cut.proofs.Shares.{part-le}
 use Rattle.flows.specs.declared.Cattle.{Cattle}
 use Rattle.flows.specs.Units.{tenths, percent, tenThousandths, year, day}
 use Rattle.flows.specs.Arithmetic.{cutting}
-use Rattle.flows.specs.Part.{Modest}
 use Rattle.flows.specs.Excretion.{ExcretionIn}
 use Rattle.flows.specs.Yard.{yardTime, «ef_nh3_nyard», intoYard, nh3OnYard}
-use Rattle.flows.specs.Grazing.{cattleRates, pastureTime, cattleIntoGrazing}
+use Rattle.flows.specs.Grazing.{cattleRates, cattleGrazingTime, cattleIntoGrazing}
+use Rattle.flows.specs.Bounds.{Modest}
 use Rattle.flows.specs.Sound.{SoundCattle}
-use Rattle.flows.proofs.Times.{yard-time-le, pasture-time-le}
+use Rattle.flows.proofs.Times.{yard-time-le, cattle-grazing-time-le}
 use Rattle.flows.proofs.OnYard.{yard-rate-le, yard-modest}
 use Rattle.flows.proofs.Into.{cattle-into-le, cattle-pasture-modest, cattle-rates-modest}
 use Rattle.model.specs.Herd.{cattleOn, figuresInGrams}
@@ -33,7 +33,7 @@ module _ (c : Cattle) (s : SoundCattle c) {lo hi x : ℕ} {q : Frac} (near : Nea
   onto-yard = near-share (yardTime c) (tenths * year) (lit< tt) (yard-time-le c s) near
 
   onto-pasture : Near (lo + 1000000) hi (pos (cattleIntoGrazing cutting c x)) (cattleIntoGrazing exact c q)
-  onto-pasture = near-share (pastureTime c) (day * (tenths * year)) (lit< tt) (pasture-time-le c s) near
+  onto-pasture = near-share (cattleGrazingTime c) (day * (tenths * year)) (lit< tt) (cattle-grazing-time-le c s) near
 
   through-door : Near (lo + hi + hi) (hi + (lo + 1000000) + (lo + 1000000))
       (pos (x - intoYard cutting c x - cattleIntoGrazing cutting c x)) (q ⊖ intoYard exact c q ⊖ cattleIntoGrazing exact c q)

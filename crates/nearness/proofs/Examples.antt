@@ -22,9 +22,9 @@ use Rattle.flows.specs.declared.Inputs.{Inputs}
 use Rattle.flows.specs.declared.Inputs.the-variants.{Roughage, Cattle, Pigs}
 use Rattle.flows.specs.Units.{billionths}
 use Rattle.flows.specs.Arithmetic.{Arithmetic}
-use Rattle.flows.specs.Part.{part}
+use Rattle.flows.specs.Portion.{portion}
 use Rattle.flows.specs.Yard.{«days_with_grazing_and_yard», «share_excretion_with_grazing», yardTime}
-use Rattle.flows.specs.Grazing.{pastureTime, grazingTime, gas}
+use Rattle.flows.specs.Grazing.{cattleGrazingTime, roughageGrazingTime, gas}
 use Rattle.flows.specs.Sound.{Sound, roughage, cattle, pigs, number}
 use Rattle.model.specs.Herd.{figuresIn, figuresOf}
 use Rattle.model.specs.Names.{Name, figure, «tan_into_grazing», «nh3_ngrazing», «tan_remain_grazing», «nh3_nhousing», «n_outhousing»}
@@ -48,16 +48,16 @@ eleven-grams = off promised (pos 0) (whole 11)
 -- ---- below zero: 01's row 4, whose TAN remaining is -5226 grams, and exactly -5226.8
 
 pub row4-figure : figure «tan_remain_grazing» (figuresOf row4) ≡ negsuc 5225
-unfolding figuresOf yardTime pastureTime «days_with_grazing_and_yard» «share_excretion_with_grazing»
+unfolding figuresOf yardTime cattleGrazingTime «days_with_grazing_and_yard» «share_excretion_with_grazing»
 row4-figure = refl
 
 pub row4-below-zero : 0 < dn (exactFigure «tan_remain_grazing» (exactOf row4) .num)
-unfolding exactOf yardTime pastureTime «days_with_grazing_and_yard» «share_excretion_with_grazing»
+unfolding exactOf yardTime cattleGrazingTime «days_with_grazing_and_yard» «share_excretion_with_grazing»
 row4-below-zero = lit< tt
 
 pub row4-exact : exactFigure «tan_remain_grazing» (exactOf row4) .num *ℤ pos 10
     ≡ negsuc 52267 *ℤ pos (exactFigure «tan_remain_grazing» (exactOf row4) .den)
-unfolding exactOf yardTime pastureTime «days_with_grazing_and_yard» «share_excretion_with_grazing»
+unfolding exactOf yardTime cattleGrazingTime «days_with_grazing_and_yard» «share_excretion_with_grazing»
 row4-exact = refl
 
 pub row4-within : Within promised (figure «tan_remain_grazing» (figuresOf row4)) (exactFigure «tan_remain_grazing» (exactOf row4))
@@ -131,11 +131,11 @@ far-off-sound =
     roughage (record { animals = lit≤ tt; grams = number (lit≤ tt); fraction = number (lit≤ tt); free = lit≤ tt; days = lit≤ tt; hours = lit≤ tt })
 
 pub four-grams-broken : Within 4 (figure «nh3_nhousing» (figuresOf farOff)) (exactFigure «nh3_nhousing» (exactOf farOff)) → ⊥
-unfolding figuresOf exactOf grazingTime kOf withinDay kAt nearest growthNum growthDen expNum expDen
+unfolding figuresOf exactOf roughageGrazingTime kOf withinDay kAt nearest growthNum growthDen expNum expDen
 four-grams-broken = off 4 (figure «nh3_nhousing» (figuresOf farOff)) (exactFigure «nh3_nhousing» (exactOf farOff))
 
 pub five-grams-broken : Within 5 (figure «n_outhousing» (figuresOf farOff)) (exactFigure «n_outhousing» (exactOf farOff)) → ⊥
-unfolding figuresOf exactOf grazingTime kOf withinDay kAt nearest growthNum growthDen expNum expDen
+unfolding figuresOf exactOf roughageGrazingTime kOf withinDay kAt nearest growthNum growthDen expNum expDen
 five-grams-broken = off 5 (figure «n_outhousing» (figuresOf farOff)) (exactFigure «n_outhousing» (exactOf farOff))
 
 -- ---- wrong formulas, which our figures are not near
@@ -172,7 +172,7 @@ abbrev withCoefficient : ℕ → Frac
 withCoefficient t = per 9989 10000 ⊗ exact .k t
 
 pub with-coefficient : Within promised ours (nh3With withCoefficient) → ⊥
-unfolding figuresOf grazingTime kOf withinDay kAt nearest growthNum growthDen expNum expDen
+unfolding figuresOf roughageGrazingTime kOf withinDay kAt nearest growthNum growthDen expNum expDen
 with-coefficient = off promised ours (nh3With withCoefficient)
 
 -- the series only up to term 5
@@ -180,7 +180,7 @@ abbrev toTerm5 : ℕ → Frac
 toTerm5 t = per (billionths * expNum (403 * t) 100000 5) (expDen 100000 5)
 
 pub with-fewer-terms : Within promised ours (nh3With toTerm5) → ⊥
-unfolding figuresOf grazingTime kOf withinDay kAt nearest growthNum growthDen expNum expDen
+unfolding figuresOf roughageGrazingTime kOf withinDay kAt nearest growthNum growthDen expNum expDen
 with-fewer-terms = off promised ours (nh3With toTerm5)
 
 -- NH3 of row 1's pasture at 0.084 instead of 0.083
@@ -191,9 +191,9 @@ abbrev atOtherRate : Frac
 atOtherRate = gas exact (exactFigure «tan_into_grazing» (exactOf row1)) 840
 
 pub with-other-rate : Within promised (figure «nh3_ngrazing» (figuresOf row1)) atOtherRate → ⊥
-unfolding figuresOf exactOf yardTime pastureTime «days_with_grazing_and_yard» «share_excretion_with_grazing»
+unfolding figuresOf exactOf yardTime cattleGrazingTime «days_with_grazing_and_yard» «share_excretion_with_grazing»
 with-other-rate = off promised (figure «nh3_ngrazing» (figuresOf row1)) atOtherRate
 
 -- a cut before the multiplication: 400 of 3650 parts of a ton
-pub cut-first : Within promised (pos ((1000000 cutBy 3650) * 400)) (part exact (whole 1000000) 400 3650) → ⊥
-cut-first = off promised (pos ((1000000 cutBy 3650) * 400)) (part exact (whole 1000000) 400 3650)
+pub cut-first : Within promised (pos ((1000000 cutBy 3650) * 400)) (portion exact (whole 1000000) 400 3650) → ⊥
+cut-first = off promised (pos ((1000000 cutBy 3650) * 400)) (portion exact (whole 1000000) 400 3650)

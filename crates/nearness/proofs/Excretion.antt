@@ -5,7 +5,7 @@ use lib.IntN.{pos}
 use Rattle.cut.proofs.Near.{Near, near-whole}
 use Rattle.flows.specs.Units.{tenThousandths}
 use Rattle.flows.specs.Arithmetic.{cutting}
-use Rattle.flows.specs.Part.{Modest}
+use Rattle.flows.specs.Bounds.{Modest}
 use Rattle.flows.specs.Excretion.{ExcretionIn, excreted}
 use Rattle.flows.specs.Sound.{mostAnimals, mostGrams}
 use Rattle.flows.proofs.Excreted.{excreted-modest}

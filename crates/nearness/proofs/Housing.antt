@@ -16,8 +16,9 @@ use Rattle.tables.proofs.Growth.{k-most}
 use Rattle.flows.specs.declared.Roughage.{Roughage}
 use Rattle.flows.specs.Units.{percent, thousandths, billionths, year, day}
 use Rattle.flows.specs.Arithmetic.{Arithmetic, cutting}
-use Rattle.flows.specs.Part.{part}
-use Rattle.flows.specs.Housing.{«er_housing», «c_grazing», «ef_nh3_nhousing», nh3InHousing, mostGrowth}
+use Rattle.flows.specs.Portion.{portion}
+use Rattle.flows.specs.Housing.{«er_housing», «c_grazing», «ef_nh3_nhousing», nh3InHousing}
+use Rattle.flows.specs.Bounds.{mostGrowth}
 use Rattle.flows.specs.Sound.{SoundRoughage, mostAnimals, mostGrams}
 use Rattle.flows.proofs.InHousing.{factor-le}
 use Rattle.nearness.proofs.Laws.{near-share, near-rate, near-k}
@@ -67,7 +68,7 @@ module _ (days hours : ℕ) (hd : days ≤ year) (hh : hours ≤ day) where
 
 -- ef_nh3_nhousing before its ceiling, from c_grazing
 abbrev uncapped : (A : Arithmetic) → Roughage → A .Amount → A .Amount
-uncapped A r c = part A (part A c «er_housing» thousandths) (percent - r .«free_correction_factor») percent
+uncapped A r c = portion A (portion A c «er_housing» thousandths) (percent - r .«free_correction_factor») percent
 
 -- the exact factor is not below zero
 not-below-by : (r : Roughage) (b : Bool) (n d : ℕ) → dn ((uncapped exact r (pick b (per n d) (whole billionths)) atMost billionths) .num) ≡ 0

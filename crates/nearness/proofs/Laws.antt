@@ -11,7 +11,7 @@ use Rattle.tables.specs.Growth.{kOf, growthNum, growthDen}
 use Rattle.tables.proofs.Growth.{k-nearest, growthDen-above}
 use Rattle.flows.specs.Units.{day, billionths}
 use Rattle.flows.specs.Arithmetic.{cutting}
-use Rattle.flows.specs.Part.{part}
+use Rattle.flows.specs.Portion.{portion}
 use Rattle.nearness.specs.Errors.{Errors}
 use Rattle.nearness.specs.Exact.{exact}
 
@@ -22,12 +22,12 @@ NearBy e x q = Near (e .below) (e .above) x q
 -- ---- a part of an amount
 
 -- the share n / d of q, as a part
-apart : (q : Frac) (n d : ℕ) {lo hi : ℕ} {x : ℤ} → Near lo hi x (q ⊗ per n d) → Near lo hi x (part exact q n d)
+apart : (q : Frac) (n d : ℕ) {lo hi : ℕ} {x : ℤ} → Near lo hi x (q ⊗ per n d) → Near lo hi x (portion exact q n d)
 apart q n d {lo} {hi} {x} h = near-shares2 q n 1 1 d (rw (mul-one, one-mul) h)
 
 -- at most the whole amount: one more gram may be missing
 pub near-share : (n d : ℕ) {lo hi x : ℕ} {q : Frac} → 0 < d → n ≤ d
-    → Near lo hi (pos x) q → Near (lo + 1000000) hi (pos (part cutting x n d)) (part exact q n d)
+    → Near lo hi (pos x) q → Near (lo + 1000000) hi (pos (portion cutting x n d)) (portion exact q n d)
 near-share n d {q} hd h near = apart q n d (near-part n d hd h near)
 
 -- by a rate in numerals the errors shrink, and compute
@@ -51,13 +51,13 @@ none-of : (z : ℤ) → z *ℤ pos 0 ≡ pos 0
 none-of (pos n) = rw mul-zero
 none-of (negsuc n) = rw mul-zero
 
-near-none : (d : ℕ) {lo hi : ℕ} {x : ℕ} {q : Frac} → 0 < d → Near lo hi (pos x) q → Near 0 0 (pos (part cutting x 0 d)) (part exact q 0 d)
+near-none : (d : ℕ) {lo hi : ℕ} {x : ℕ} {q : Frac} → 0 < d → Near lo hi (pos x) q → Near 0 0 (pos (portion cutting x 0 d)) (portion exact q 0 d)
 near-none d {x} {q} hd near =
     rw (mul-zero x, zero-div d)
     (near-same {q = whole 0} (mul-pos (mul-pos (near .above) (omega arith)) hd) (rw (none-of (q .num), zero-mul)) (near-whole 0))
 
 pub near-rate : (n d : ℕ) {lo hi x : ℕ} {q : Frac} → 0 < d
-    → Near lo hi (pos x) q → Near (rateBelow lo n d) (rateAbove hi n d) (pos (part cutting x n d)) (part exact q n d)
+    → Near lo hi (pos x) q → Near (rateBelow lo n d) (rateAbove hi n d) (pos (portion cutting x n d)) (portion exact q n d)
 near-rate zero d hd near = near-weaken zero-le zero-le (near-none d hd near)
 near-rate (suc n) d {lo} {hi} {q} hd near =
     apart q (suc n) d

@@ -8,8 +8,8 @@ use Rattle.cut.proofs.Near.{Near, near-sub, near-rest}
 use Rattle.flows.specs.declared.Rates.{Rates}
 use Rattle.flows.specs.Units.{tenThousandths}
 use Rattle.flows.specs.Arithmetic.{cutting}
-use Rattle.flows.specs.Part.{Modest}
-use Rattle.flows.specs.Grazing.{ModestRates, gas, onPasture}
+use Rattle.flows.specs.Grazing.{gas, onPasture}
+use Rattle.flows.specs.Bounds.{Modest, ModestRates}
 use Rattle.flows.proofs.OnPasture.{gases-le}
 use Rattle.nearness.proofs.Laws.{rateBelow, rateAbove, near-rate}
 use Rattle.nearness.specs.Exact.{exact}

@@ -9,12 +9,12 @@ use Rattle.cut.proofs.Shares.{part-le}
 use Rattle.flows.specs.declared.Roughage.{Roughage}
 use Rattle.flows.specs.Units.{billionths, year, day}
 use Rattle.flows.specs.Arithmetic.{cutting}
-use Rattle.flows.specs.Part.{Modest}
 use Rattle.flows.specs.Excretion.{ExcretionIn}
-use Rattle.flows.specs.Grazing.{roughageRates, grazingTime, roughageIntoGrazing}
+use Rattle.flows.specs.Grazing.{roughageRates, roughageGrazingTime, roughageIntoGrazing}
 use Rattle.flows.specs.Housing.{«ef_nh3_nhousing», nh3InHousing}
+use Rattle.flows.specs.Bounds.{Modest}
 use Rattle.flows.specs.Sound.{SoundRoughage}
-use Rattle.flows.proofs.Times.{grazing-time-le}
+use Rattle.flows.proofs.Times.{roughage-grazing-time-le}
 use Rattle.flows.proofs.InHousing.{factor-le}
 use Rattle.flows.proofs.Into.{roughage-into-le, roughage-pasture-modest, roughage-housing-modest, roughage-rates-modest}
 use Rattle.model.specs.Herd.{roughageOn, figuresInGrams}
@@ -37,7 +37,7 @@ exactInside r q = q ⊖ roughageIntoGrazing exact r q
 
 module _ (r : Roughage) (s : SoundRoughage r) {lo hi x : ℕ} {q : Frac} (near : Near lo hi (pos x) q) where
   onto-pasture : Near (lo + 1000000) hi (pos (roughageIntoGrazing cutting r x)) (roughageIntoGrazing exact r q)
-  onto-pasture = near-share (grazingTime r) (day * year) (lit< tt) (grazing-time-le r s) near
+  onto-pasture = near-share (roughageGrazingTime r) (day * year) (lit< tt) (roughage-grazing-time-le r s) near
 
   through-door : Near (lo + hi) (hi + (lo + 1000000)) (pos (inside r x)) (exactInside r q)
   through-door = near-rest (roughage-into-le r s x) near onto-pasture

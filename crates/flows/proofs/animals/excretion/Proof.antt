@@ -7,11 +7,11 @@ use Rattle.flows.proofs.animals.excretion.Tie as tie
 mul-n : tie.Need-mul-n
 mul-n c = search (needs, excretion-steps)
 
-part-requires : tie.Need-part-requires
-part-requires c κs = search (needs, excretion-steps)
+portion-requires : tie.Need-portion-requires
+portion-requires c κs = search (needs, excretion-steps)
 
 returns : tie.Need-returns
 returns c = search (needs, excretion-steps)
 
 pub excretion-spec : {M : Type 1} → statement M
-excretion-spec = tie.close (tie.spec mul-n part-requires returns)
+excretion-spec = tie.close (tie.spec mul-n portion-requires returns)

@@ -7,14 +7,14 @@ use Rattle.flows.proofs.house.ef_nh3_nhousing.Tie as tie
 c-grazing-requires : tie.Need-c-grazing-requires
 c-grazing-requires c κs = search needs
 
-part-requires : tie.Need-part-requires
-part-requires c κs = search needs
+portion-requires : tie.Need-portion-requires
+portion-requires c κs = search needs
 
-sub-part : tie.Need-sub-part
-sub-part c = search needs
+sub-portion : tie.Need-sub-portion
+sub-portion c = search needs
 
-part-requires-2 : tie.Need-part-requires-2
-part-requires-2 c κs = search needs
+portion-requires-2 : tie.Need-portion-requires-2
+portion-requires-2 c κs = search needs
 
 returns : tie.Need-returns
 returns c = search (needs, factor-steps)
@@ -25,4 +25,4 @@ returns-2 c = search (needs, factor-steps)
 pub ef-nh3-nhousing-spec : {M : Type 1} → statement M
 ef-nh3-nhousing-spec =
     tie.close
-    (tie.spec c-grazing-requires part-requires sub-part part-requires-2 returns returns-2)
+    (tie.spec c-grazing-requires portion-requires sub-portion portion-requires-2 returns returns-2)

@@ -7,8 +7,8 @@ use Rattle.flows.proofs.house.in_housing.Tie as tie
 ef-nh3-nhousing-requires : tie.Need-ef-nh3-nhousing-requires
 ef-nh3-nhousing-requires c κs = search needs
 
-part-requires : tie.Need-part-requires
-part-requires c κs = search needs
+portion-requires : tie.Need-portion-requires
+portion-requires c κs = search needs
 
 sub-t6 : tie.Need-sub-t6
 sub-t6 c = search needs
@@ -20,4 +20,4 @@ returns : tie.Need-returns
 returns c = search (needs, is-housing)
 
 pub in-housing-spec : {M : Type 1} → statement M
-in-housing-spec = tie.close (tie.spec ef-nh3-nhousing-requires part-requires sub-t6 sub-t7 returns)
+in-housing-spec = tie.close (tie.spec ef-nh3-nhousing-requires portion-requires sub-t6 sub-t7 returns)

@@ -4,14 +4,14 @@ use Rattle.flows.proofs.Into.{cattle-steps}
 use Rattle.flows.proofs.pasture.cattle_grazing.Statement.{statement}
 use Rattle.flows.proofs.pasture.cattle_grazing.Tie as tie
 
-pasture-time-requires : tie.Need-pasture-time-requires
-pasture-time-requires c κs = search needs
+cattle-grazing-time-requires : tie.Need-cattle-grazing-time-requires
+cattle-grazing-time-requires c κs = search needs
 
-part-requires : tie.Need-part-requires
-part-requires c κs = search (needs, cattle-steps)
+portion-requires : tie.Need-portion-requires
+portion-requires c κs = search (needs, cattle-steps)
 
-part-requires-2 : tie.Need-part-requires-2
-part-requires-2 c κs = search (needs, cattle-steps)
+portion-requires-2 : tie.Need-portion-requires-2
+portion-requires-2 c κs = search (needs, cattle-steps)
 
 cattle-rates-requires : tie.Need-cattle-rates-requires
 cattle-rates-requires c κs = search needs
@@ -26,9 +26,9 @@ pub cattle-grazing-spec : {M : Type 1} → statement M
 cattle-grazing-spec =
     tie.close
     (tie.spec
-    pasture-time-requires
-    part-requires
-    part-requires-2
+    cattle-grazing-time-requires
+    portion-requires
+    portion-requires-2
     cattle-rates-requires
     on-pasture-requires
     returns)

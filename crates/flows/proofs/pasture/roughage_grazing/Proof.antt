@@ -9,11 +9,11 @@ use Rattle.flows.proofs.pasture.roughage_grazing.Tie as tie
 mul-time : tie.Need-mul-time
 mul-time c = mul-fits 240 365 tt (omega arith) (omega arith)
 
-part-requires : tie.Need-part-requires
-part-requires c κs = search (needs, roughage-steps)
+portion-requires : tie.Need-portion-requires
+portion-requires c κs = search (needs, roughage-steps)
 
-part-requires-2 : tie.Need-part-requires-2
-part-requires-2 c κs = search (needs, roughage-steps)
+portion-requires-2 : tie.Need-portion-requires-2
+portion-requires-2 c κs = search (needs, roughage-steps)
 
 roughage-rates-requires : tie.Need-roughage-rates-requires
 roughage-rates-requires c κs = search needs
@@ -29,8 +29,8 @@ roughage-grazing-spec =
     tie.close
     (tie.spec
     mul-time
-    part-requires
-    part-requires-2
+    portion-requires
+    portion-requires-2
     roughage-rates-requires
     on-pasture-requires
     returns)

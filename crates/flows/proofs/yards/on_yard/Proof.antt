@@ -7,17 +7,17 @@ use Rattle.flows.proofs.yards.on_yard.Tie as tie
 yard-time-requires : tie.Need-yard-time-requires
 yard-time-requires c κs = search needs
 
-part-requires : tie.Need-part-requires
-part-requires c κs = search (needs, yard-parts)
+portion-requires : tie.Need-portion-requires
+portion-requires c κs = search (needs, yard-parts)
 
-part-requires-2 : tie.Need-part-requires-2
-part-requires-2 c κs = search (needs, yard-parts)
+portion-requires-2 : tie.Need-portion-requires-2
+portion-requires-2 c κs = search (needs, yard-parts)
 
 ef-nh3-nyard-requires : tie.Need-ef-nh3-nyard-requires
 ef-nh3-nyard-requires c κs = search needs
 
-part-requires-3 : tie.Need-part-requires-3
-part-requires-3 c κs = search (needs, yard-parts)
+portion-requires-3 : tie.Need-portion-requires-3
+portion-requires-3 c κs = search (needs, yard-parts)
 
 sub-t9 : tie.Need-sub-t9
 sub-t9 c = search (needs, yard-parts)
@@ -33,10 +33,10 @@ on-yard-spec =
     tie.close
     (tie.spec
     yard-time-requires
-    part-requires
-    part-requires-2
+    portion-requires
+    portion-requires-2
     ef-nh3-nyard-requires
-    part-requires-3
+    portion-requires-3
     sub-t9
     sub-t10
     returns)

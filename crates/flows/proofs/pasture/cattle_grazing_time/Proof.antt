@@ -1,8 +1,8 @@
--- `flows::pasture::pasture_time` meets its contract: the days with both are grazing days, and their share is below 1. Assumes nothing.
+-- `flows::pasture::cattle_grazing_time` meets its contract: the days with both are grazing days, and their share is below 1. Assumes nothing.
 use borrow.Author.Needs.{needs}
 use Rattle.flows.proofs.Times.{pasture-steps}
-use Rattle.flows.proofs.pasture.pasture_time.Statement.{statement}
-use Rattle.flows.proofs.pasture.pasture_time.Tie as tie
+use Rattle.flows.proofs.pasture.cattle_grazing_time.Statement.{statement}
+use Rattle.flows.proofs.pasture.cattle_grazing_time.Tie as tie
 
 days-with-grazing-and-yard-requires : tie.Need-days-with-grazing-and-yard-requires
 days-with-grazing-and-yard-requires c κs = search needs
@@ -34,8 +34,8 @@ mul-result-3 c = search pasture-steps
 returns : tie.Need-returns
 returns c = search (needs, pasture-steps)
 
-pub pasture-time-spec : {M : Type 1} → statement M
-pasture-time-spec =
+pub cattle-grazing-time-spec : {M : Type 1} → statement M
+cattle-grazing-time-spec =
     tie.close
     (tie.spec
     days-with-grazing-and-yard-requires
