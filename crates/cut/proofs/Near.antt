@@ -10,7 +10,7 @@ use lib.Dec.{ltb}
 use lib.IntN.{ℤ, pos, negsuc, negℤ, _+ℤ_, _-ℤ_, _*ℤ_}
 use Rattle.cut.specs.Cut.{least}
 use Rattle.cut.specs.Frac.{Frac, per, whole, _⊕_, _⊖_, _⊗_, leastNum, _atMost_, Within}
-use Rattle.cut.proofs.Signed.{up, dn, Diff, add-diff, minus-diff, scale-diff, size-of, of-size, pos-sub}
+use Rattle.cut.proofs.Signed.{up, dn, Diff, add-diff, minus-diff, scale-diff, size-of, pos-sub}
 use Rattle.cut.proofs.Shares.{least-le}
 
 -- (p - m) / d is at most a - b and e millionths
@@ -52,13 +52,6 @@ near-within e {x} {q} kl kh h =
           (omega (arith, mul-le-mul-right (q .den) kl, h .low));
     }
 
--- and back
-pub within-near : {e : ℕ} {x : ℤ} {q : Frac} → Within e x q → Near (e * 1000000) (e * 1000000) x q
-within-near {e} {x} {q} h =
-    let S = scale-diff x (q .den) in
-    let k = of-size _ (e * q .den) (minus-diff (x *ℤ pos (q .den)) (q .num)) (h .near) in
-    record { above = h .above; low = omega arith; high = omega arith }
-
 -- ---- a cut share: x * n / d, with the remainder gone
 
 cut-low : (x n d p m p' m' D lo lo' : ℕ) → 0 < d → p' + m * n ≡ p * n + m' → lo * n + 1000000 * d ≤ lo' * d
@@ -99,24 +92,7 @@ pub near-part : (n d : ℕ) {lo hi x : ℕ} {q : Frac} → 0 < d → n ≤ d
     → Near lo hi (pos x) q → Near (lo + 1000000) hi (pos (x * n / d)) (q ⊗ per n d)
 near-part n d {lo} {hi} hd h = near-cut-to (lo + 1000000) hi n d hd (omega (arith, mul-le-mul-left lo h)) (mul-le-mul-left hi h)
 
--- by a rate n / d in numerals: the errors compute
-pub near-cut : (n d : ℕ) {lo hi x : ℕ} {q : Frac} → 0 < d
-    → Near lo hi (pos x) q → Near (lo * n / d + 1000001) (hi * n / d + 1) (pos (x * n / d)) (q ⊗ per n d)
-near-cut n d {lo} {hi} hd =
-    near-cut-to (lo * n / d + 1000001) (hi * n / d + 1) n d hd
-    (omega (arith, lt-div-mul-add {a = lo * n} hd))
-    (omega (arith, lt-div-mul-add {a = hi * n} hd))
-
--- ---- a whole multiple, and a cut quotient, apart
-
-pub near-times : (n : ℕ) {lo hi x : ℕ} {q : Frac} → Near lo hi (pos x) q → Near (lo * n) (hi * n) (pos (x * n)) (q ⊗ whole n)
-near-times n {q} h =
-    let s = scale-diff (q .num) n in
-    record {
-      above = mul-pos (h .above) (omega arith);
-      low = omega (arith, mul-le-mul-right n (h .low));
-      high = omega (arith, mul-le-mul-right n (h .high));
-    }
+-- ---- a cut quotient
 
 pub near-div-to : (lo' hi' d : ℕ) {lo hi x : ℕ} {q : Frac} → 0 < d → lo + 1000000 * d ≤ lo' * d → hi ≤ hi' * d
     → Near lo hi (pos x) q → Near lo' hi' (pos (x / d)) (q ⊗ per 1 d)
@@ -292,8 +268,3 @@ share-of-share q m c n d = rw (scale-scale, mul-assoc)
 
 pub near-shares2 : (q : Frac) (m c n d : ℕ) {lo hi : ℕ} {x : ℤ} → Near lo hi x (q ⊗ per (m * n) (c * d)) → Near lo hi x (q ⊗ per m c ⊗ per n d)
 near-shares2 q m c n d {lo} {hi} {x} h = subst (λ (r : Frac). Near lo hi x r) (sym (share-of-share q m c n d)) h
-
-pub near-shares3 : (q : Frac) (m c n d o e : ℕ) {lo hi : ℕ} {x : ℤ}
-    → Near lo hi x (q ⊗ per (m * n * o) (c * d * e)) → Near lo hi x (q ⊗ per m c ⊗ per n d ⊗ per o e)
-near-shares3 q m c n d o e {lo} {hi} {x} h =
-    subst (λ (r : Frac). Near lo hi x (r ⊗ per o e)) (sym (share-of-share q m c n d)) (near-shares2 q (m * n) (c * d) o e h)

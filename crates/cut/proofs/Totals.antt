@@ -1,14 +1,13 @@
 -- Totals: how near a sum over a list is to the exact one, and sums of sets of figures part by part. Assumes nothing.
-use mathlib.Core.Path.{_≡_, refl, sym, ap, subst, _∙_}
+use mathlib.Core.Path.{_≡_, refl, ap, subst, _∙_}
 use mathlib.Core.List.{List, [], _∷_}
 use Prim.Native.Nat.{ℕ, zero, suc, _+_, _*_, _≤_, _<_}
 use native.Mathlib.Omega.{arith}
 use lib.ListN.{length, getD}
-use lib.IntN.{ℤ, pos, natAbs, _+ℤ_}
+use lib.IntN.{ℤ, pos, _+ℤ_}
 use Rattle.cut.specs.Frac.{Frac, _⊕_, Within}
 use Rattle.cut.specs.Total.{addUp, total, signedTotal, exactTotal, Each, none, more}
-use Rattle.cut.proofs.Signed.{abs-add}
-use Rattle.cut.proofs.Near.{Near, near-whole, near-add, near-within, within-near}
+use Rattle.cut.proofs.Near.{Near, near-whole, near-add, near-within}
 
 -- ---- each of a list
 
@@ -25,11 +24,6 @@ pub each-getD : {A : Type 0} {P : A → Type 0} (l : List A) (i : ℕ) (other : 
 each-getD [] i other e h = absurd (omega arith)
 each-getD (a ∷ l) zero other (more p ps) h = p
 each-getD (a ∷ l) (suc i) other (more p ps) h = each-getD l i other ps (omega arith)
-
--- what holds at each place
-pub each-at : {A : Type 0} {P : A → Type 0} (other : A) (l : List A) → ((i : ℕ) → i < length l → P (getD l i other)) → Each P l
-each-at other [] h = none
-each-at other (a ∷ l) h = more (h 0 (omega arith)) (each-at other l (λ i k. h (suc i) (omega arith)))
 
 -- ---- a part of a sum of sets of figures is the sum of the parts
 
@@ -58,15 +52,6 @@ module _ {A : Type 0} (f : A → ℕ) (k : ℕ) where
 pub total-most : {A : Type 0} (f : A → ℕ) (k : ℕ) {l : List A} → Each (λ a. f a ≤ k) l → total f l ≤ k * length l
 total-most f k h = let r = sum-most f k 0 h in omega arith
 
-module _ {A : Type 0} (x : A → ℤ) (k : ℕ) where
-  signed-sum-most : (t : ℤ) {l : List A} → Each (λ a. natAbs (x a) ≤ k) l → natAbs (addUp _+ℤ_ x t l) ≤ natAbs t + k * length l
-  signed-sum-most t none = omega arith
-  signed-sum-most t (more {a} h hs) = let r = signed-sum-most (t +ℤ x a) hs in let s = abs-add t (x a) in omega arith
-
-  -- the same of the sizes of figures that may be below zero
-  pub signed-total-most : {l : List A} → Each (λ a. natAbs (x a) ≤ k) l → natAbs (signedTotal x l) ≤ k * length l
-  signed-total-most h = let r = signed-sum-most (pos 0) h in omega arith
-
 -- ---- nearness of a total: the errors add up, each element's own
 
 -- x is at most the total of lo below q, and at most the total of hi above it
@@ -83,12 +68,6 @@ module _ {A : Type 0} (lo hi : A → ℕ) (x : A → ℤ) (q : A → Frac) where
   pub near-signed-total : {l : List A} → Each (λ a. Near (lo a) (hi a) (x a) (q a)) l → TotalNear lo hi l (signedTotal x l) (exactTotal q l)
   near-signed-total h = record { near = near-from (near-whole 0) h }
 
--- of whole figures
-pub near-total : {A : Type 0} (lo hi x : A → ℕ) (q : A → Frac) {l : List A} → Each (λ a. Near (lo a) (hi a) (pos (x a)) (q a)) l
-    → TotalNear lo hi l (pos (total x l)) (exactTotal q l)
-near-total lo hi x q {l} h =
-    subst (λ (z : ℤ). TotalNear lo hi l z (exactTotal q l)) (sym (pos-total x l)) (near-signed-total lo hi (λ a. pos (x a)) q h)
-
 -- two totals of one list, added: the errors add up element by element
 pub near-total-add : {A : Type 0} {lo₁ hi₁ lo₂ hi₂ : A → ℕ} {l : List A} {x y : ℤ} {q r : Frac} → TotalNear lo₁ hi₁ l x q → TotalNear lo₂ hi₂ l y r
     → TotalNear (λ a. lo₁ a + lo₂ a) (λ a. hi₁ a + hi₂ a) l (x +ℤ y) (q ⊕ r)
@@ -104,16 +83,3 @@ pub total-within : (e : ℕ) {A : Type 0} {lo hi : A → ℕ} {l : List A} {x : 
     → TotalNear lo hi l x q → Within (e * length l) x q
 total-within e {lo} {hi} kl kh h =
     near-within _ (omega (arith, total-most lo (e * 1000000) kl)) (omega (arith, total-most hi (e * 1000000) kh)) (h .near)
-
--- ---- n figures, each within e: the total is within e * n
-
-pub within-signed-total : (e : ℕ) {A : Type 0} (x : A → ℤ) (q : A → Frac) {l : List A} → Each (λ a. Within e (x a) (q a)) l
-    → Within (e * length l) (signedTotal x l) (exactTotal q l)
-within-signed-total e x q {l} h =
-    total-within e (each-of (λ a. omega arith) l) (each-of (λ a. omega arith) l)
-    (near-signed-total (λ a. e * 1000000) (λ a. e * 1000000) x q (each-map (λ a. within-near) h))
-
-pub within-total : (e : ℕ) {A : Type 0} (x : A → ℕ) (q : A → Frac) {l : List A} → Each (λ a. Within e (pos (x a)) (q a)) l
-    → Within (e * length l) (pos (total x l)) (exactTotal q l)
-within-total e x q {l} h =
-    subst (λ (z : ℤ). Within (e * length l) z (exactTotal q l)) (sym (pos-total x l)) (within-signed-total e (λ a. pos (x a)) q h)

@@ -23,7 +23,7 @@ pub record ExcretionIn (A : Arithmetic) : Type 0 where
   pub «tan_excretion» : A .Amount
 
 module _ (A : Arithmetic) where
-  open Arithmetic A using (Amount, whole)
+  open Arithmetic A using (whole)
 
   -- 2.22, 2.50, 2.84, n_excretion and tan_excretion: head by grams a head, and the fraction of it
   abbrev pub excreted : ℕ → ℕ → ℕ → ExcretionIn A

@@ -31,28 +31,28 @@ fn rates_of(nh3: u64, n2: u64, no: u64, n2o: u64) -> Rates
 }
 
 // 2.35, Technical Parameters.
-pub fn cattle_rates() -> Rates
+fn cattle_rates() -> Rates
     ensures { λ r. ⌜ r ≡ cattleRates ⌝ }
 {
     rates_of(830, 0, 55, 200)
 }
 
 // 2.61, Technical Parameters.
-pub fn pig_rates() -> Rates
+fn pig_rates() -> Rates
     ensures { λ r. ⌜ r ≡ pigRates ⌝ }
 {
     rates_of(2000, 0, 55, 200)
 }
 
 // 2.88, Technical Parameters.
-pub fn roughage_rates() -> Rates
+fn roughage_rates() -> Rates
     ensures { λ r. ⌜ r ≡ roughageRates ⌝ }
 {
     rates_of(1250, 0, 55, 100)
 }
 
 // The part of the year that cattle are on pasture.
-pub fn cattle_grazing_time(c: Cattle) -> u64
+fn cattle_grazing_time(c: Cattle) -> u64
     requires { ⌜ SoundCattle c ⌝ }
     ensures { λ r. ⌜ r ≡ cattleGrazingTime c ⌝ }
 {
@@ -75,7 +75,7 @@ fn gases(r: Rates, n: u64, tan: u64) -> Gases
 }
 
 // The pasture onto which so much N and TAN comes.
-pub fn on_pasture(r: Rates, n: u64, tan: u64) -> Grazing
+fn on_pasture(r: Rates, n: u64, tan: u64) -> Grazing
     requires { ⌜ ModestRates r × Modest n tan ⌝ }
     ensures { λ g. ⌜ g ≡ grazingInGrams (onPasture cutting r n tan) ⌝ }
 {
@@ -116,7 +116,7 @@ pub fn roughage_grazing(h: Roughage, n: u64, tan: u64) -> Grazing
 }
 
 // What pigs put on pasture of an amount: outdoors all, else nothing.
-pub fn pigs_into_grazing(housing: HousingType, amount: u64) -> u64
+fn pigs_into_grazing(housing: HousingType, amount: u64) -> u64
     ensures { λ r. ⌜ r ≡ pigsIntoGrazing cutting housing amount ⌝ }
 {
     match housing {

@@ -69,7 +69,7 @@ pub fn share_excretion_with_grazing(both: u64, share: u64) -> u64
     share
 }
 
-pub fn c_floor_properties_exercise_yard(floor: Floor) -> u64
+fn c_floor_properties_exercise_yard(floor: Floor) -> u64
     ensures { λ r. ⌜ r ≡ «c_floor_properties_exercise_yard» floor ⌝ }
 {
     match floor {
