@@ -1,4 +1,4 @@
--- How near `cutting` is to `exact` in the steps that every formula is made of: a part of an amount, and k. (The others, a difference, a
+-- How near `cutting` is to `exact` in the steps that every formula is made of: a portion of an amount, and k. (The others, a difference, a
 -- ceiling and a product, have their laws in crate `cut`.) Assumes nothing.
 use mathlib.Core.Path.{_≡_, refl}
 use Prim.Native.Nat.{ℕ, zero, suc, _+_, _-_, _*_, _/_, _≤_, _<_, zero-le}
@@ -19,9 +19,9 @@ use Rattle.nearness.specs.Exact.{exact}
 abbrev pub NearBy : Errors → ℤ → Frac → Type 0
 NearBy e x q = Near (e .below) (e .above) x q
 
--- ---- a part of an amount
+-- ---- a portion of an amount
 
--- the share n / d of q, as a part
+-- the share n / d of q, as a portion
 apart : (q : Frac) (n d : ℕ) {lo hi : ℕ} {x : ℤ} → Near lo hi x (q ⊗ per n d) → Near lo hi x (portion exact q n d)
 apart q n d {lo} {hi} {x} h = near-shares2 q n 1 1 d (rw (mul-one, one-mul) h)
 
