@@ -1,9 +1,14 @@
--- A herd's record as the complete inputs of its kind: which slot is which input, by the places of 01's list (crate `inputs`, rowsOf).
-use Prim.Native.Nat.{ℕ}
+-- A herd's record as the complete inputs of its kind: each input is found in the slot that has its name's place in 01's list (crate
+-- `inputs`, rowsOf), and each choice by its name's place among the names of 2.34 or 2.62 (proofs/Named.antt: they are those of the list).
+use Prim.Native.Nat.{ℕ, _+_}
+use Prim.Native.String.{String}
+use mathlib.Core.List.{List, [], _∷_, map}
 use lib.ListN.{getD}
-use Rattle.base.specs.Pick.{if_is_then_else_}
+use lib.Text.{eqt}
+use Rattle.base.specs.Pick.{pick}
 use Rattle.inputs.specs.declared.Kind.{Kind}
 use Rattle.inputs.specs.declared.Kind.the-variants as kinds
+use Rattle.inputs.specs.Inputs.{Row, rowsOf}
 use Rattle.farm.specs.declared.Given.{Given}
 use Rattle.farm.specs.declared.Given.the-variants.{Missing, Standard, Value}
 use Rattle.farm.specs.declared.Slot.{Slot}
@@ -46,54 +51,105 @@ numberAt h place = numberIn (givenAt h place)
 abbrev pub enteredAt : Herd → ℕ → Entered
 enteredAt h place = enteredIn (givenAt h place)
 
--- the names of 2.34 and 2.62, by their places in the name lists
+-- ---- the inputs by name
+
+-- the place of the row with a name; past the last where none has it
+abbrev pub placeNamed : String → List Row → ℕ
+placeNamed name [] = 0
+placeNamed name (row ∷ rows) = pick (eqt name (row .name)) 0 (1 + placeNamed name rows)
+
+abbrev pub numberNamed : Kind → String → Herd → ℕ
+numberNamed kind name h = numberAt h (placeNamed name (rowsOf kind))
+
+abbrev pub enteredNamed : Kind → String → Herd → Entered
+enteredNamed kind name h = enteredAt h (placeNamed name (rowsOf kind))
+
+-- ---- the choices by name
+
+pub record Choice (A : Type 0) : Type 0 where
+  pub name : String
+  pub variant : A
+
+infix 68 _names_
+abbrev pub _names_ : {A : Type 0} → String → A → Choice A
+n names v = record { name = n; variant = v }
+
+abbrev pub variantsOf : {A : Type 0} → List (Choice A) → List A
+variantsOf choices = map (λ c. c .variant) choices
+
+-- 2.34, share_excretion
+abbrev pub yardChoices : List (Choice ExerciseYard)
+yardChoices =
+    "not_available" names NotAvailable
+    ∷ "available_roughage_is_not_supplied_in_the_exercise_yard" names NotSupplied
+    ∷ "available_roughage_is_partly_supplied_in_the_exercise_yard" names Partly
+    ∷ "available_roughage_is_exclusively_supplied_in_the_exercise_yard" names Exclusively
+    ∷ []
+
+-- 2.34, c_floor_properties_exercise_yard
+abbrev pub floorChoices : List (Choice Floor)
+floorChoices =
+    "solid_floor" names Solid
+    ∷ "unpaved_floor" names Unpaved
+    ∷ "perforated_floor" names Perforated
+    ∷ "paddock_or_pasture_used_as_exercise_yard" names Paddock
+    ∷ []
+
+-- 2.62
+abbrev pub housingChoices : List (Choice HousingType)
+housingChoices =
+    "Slurry_Conventional" names SlurryConventional
+    ∷ "Slurry_Label" names SlurryLabel
+    ∷ "Slurry_Label_Open" names SlurryLabelOpen
+    ∷ "Deep_Litter" names DeepLitter
+    ∷ "Outdoor" names Outdoor
+    ∷ []
+
+-- the choice at a place; past the last the last
 unfoldable pub yardAt : ℕ → ExerciseYard
-yardAt place = if place is 0 then NotAvailable else if place is 1 then NotSupplied else if place is 2 then Partly else Exclusively
+yardAt place = getD (variantsOf yardChoices) place Exclusively
 
 unfoldable pub floorAt : ℕ → Floor
-floorAt place = if place is 0 then Solid else if place is 1 then Unpaved else if place is 2 then Perforated else Paddock
+floorAt place = getD (variantsOf floorChoices) place Paddock
 
 unfoldable pub housingAt : ℕ → HousingType
-housingAt place =
-    if place is 0 then SlurryConventional else
-    if place is 1 then SlurryLabel else
-    if place is 2 then SlurryLabelOpen else
-    if place is 3 then DeepLitter else
-    Outdoor
+housingAt place = getD (variantsOf housingChoices) place Outdoor
+
+-- ---- the kinds
 
 unfoldable pub roughageOf : Herd → Roughage
 roughageOf h =
     record {
-      animalcategory = numberAt h 0;
-      animals = numberAt h 1;
-      «inp_n_excretion» = enteredAt h 2;
-      «tan_fraction» = enteredAt h 3;
-      «free_correction_factor» = numberAt h 4;
-      «grazing_days» = numberAt h 5;
-      «grazing_hours» = numberAt h 6;
+      animalcategory = numberNamed kinds.Roughage "animalcategory" h;
+      animals = numberNamed kinds.Roughage "animals" h;
+      «inp_n_excretion» = enteredNamed kinds.Roughage "inp_n_excretion" h;
+      «tan_fraction» = enteredNamed kinds.Roughage "tan_fraction" h;
+      «free_correction_factor» = numberNamed kinds.Roughage "free_correction_factor" h;
+      «grazing_days» = numberNamed kinds.Roughage "grazing_days" h;
+      «grazing_hours» = numberNamed kinds.Roughage "grazing_hours" h;
     }
 
 unfoldable pub cattleOf : Herd → Cattle
 cattleOf h =
     record {
-      animals = numberAt h 0;
-      «inp_n_excretion» = numberAt h 1;
-      «tan_fraction» = numberAt h 2;
-      «yard_days» = numberAt h 3;
-      «exercise_yard» = yardAt (numberAt h 4);
-      «floor_properties_exercise_yard» = floorAt (numberAt h 5);
-      «free_correction_factor» = numberAt h 6;
-      «grazing_days» = numberAt h 7;
-      «grazing_hours» = numberAt h 8;
+      animals = numberNamed kinds.Cattle "animals" h;
+      «inp_n_excretion» = numberNamed kinds.Cattle "inp_n_excretion" h;
+      «tan_fraction» = numberNamed kinds.Cattle "tan_fraction" h;
+      «yard_days» = numberNamed kinds.Cattle "yard_days" h;
+      «exercise_yard» = yardAt (numberNamed kinds.Cattle "exercise_yard" h);
+      «floor_properties_exercise_yard» = floorAt (numberNamed kinds.Cattle "floor_properties_exercise_yard" h);
+      «free_correction_factor» = numberNamed kinds.Cattle "free_correction_factor" h;
+      «grazing_days» = numberNamed kinds.Cattle "grazing_days" h;
+      «grazing_hours» = numberNamed kinds.Cattle "grazing_hours" h;
     }
 
 unfoldable pub pigsOf : Herd → Pigs
 pigsOf h =
     record {
-      animals = numberAt h 0;
-      «inp_n_excretion» = numberAt h 1;
-      «tan_fraction» = numberAt h 2;
-      «housing_type» = housingAt (numberAt h 3);
+      animals = numberNamed kinds.Pigs "animals" h;
+      «inp_n_excretion» = numberNamed kinds.Pigs "inp_n_excretion" h;
+      «tan_fraction» = numberNamed kinds.Pigs "tan_fraction" h;
+      «housing_type» = housingAt (numberNamed kinds.Pigs "housing_type" h);
     }
 
 abbrev pub typedAs : Kind → Herd → Inputs

@@ -1,5 +1,5 @@
-// A herd's record as the complete inputs of its kind. What is missing reads as 0, and a place past a list's end as its last name; no
-// record that passes the checks has either.
+// A herd's record as the complete inputs of its kind. The slots, and the names of the choices, are told by their places in 01's lists. What
+// is missing reads as 0, and a place past a list's end as its last name; no record that passes the checks has either.
 use farm::Given;
 use farm::Herd;
 use flows::Cattle;

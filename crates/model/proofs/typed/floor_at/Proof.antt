@@ -1,26 +1,29 @@
 -- `model::typed::floor_at` meets its contract, by its tests.
 -- Assumes nothing.
-use Rattle.base.proofs.Picks.{picks}
+use mathlib.Core.List.{[], _∷_}
+use native.Mathlib.Omega.{arith}
+use Rattle.flows.specs.declared.Floor.the-variants.{Solid, Unpaved, Perforated, Paddock}
 use Rattle.model.specs.Typed.{floorAt}
+use Rattle.model.proofs.Choices.{is-last}
 use borrow.Author.Needs.{needs}
 use Rattle.model.proofs.typed.floor_at.Statement.{statement}
 use Rattle.model.proofs.typed.floor_at.Tie as tie
 
 returns : tie.Need-returns
 unfolding floorAt
-returns c = search (needs, picks)
+returns c = search needs
 
 returns-2 : tie.Need-returns-2
 unfolding floorAt
-returns-2 c = search (needs, picks)
+returns-2 c = search needs
 
 returns-3 : tie.Need-returns-3
 unfolding floorAt
-returns-3 c = search (needs, picks)
+returns-3 c = search needs
 
 returns-4 : tie.Need-returns-4
 unfolding floorAt
-returns-4 c = search (needs, picks)
+returns-4 c = is-last (Solid ∷ Unpaved ∷ Perforated ∷ []) Paddock (c .before .before .before .args .place) (omega arith)
 
 pub floor-at-spec : {M : Type 1} → statement M
 floor-at-spec = tie.close (tie.spec returns returns-2 returns-3 returns-4)
