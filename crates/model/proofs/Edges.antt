@@ -1,9 +1,10 @@
--- 01, Herds on both sides of an edge: the rows marked (P), computed from the definitions, as one table under one statement.
+-- 01, Herds on both sides of an edge: the rows marked (P), computed from the definitions, as one table under one statement. With them the c
+-- of row 9, which a program runs: no figure shows it, since nothing goes into the housing there.
 -- Assumes nothing.
 use mathlib.Core.Path.{_≡_, refl}
 use mathlib.Core.Bool.{Bool, true, false}
 use mathlib.Core.List.{List, [], _∷_}
-use Prim.Native.Nat.{ℕ, _*_}
+use Prim.Native.Nat.{ℕ}
 use lib.IntN.{ℤ, pos, negsuc}
 use Rattle.cut.specs.Total.{Each, none, more}
 use Rattle.tables.specs.Standards.{standardOf, _kg}
@@ -16,24 +17,30 @@ use Rattle.flows.specs.declared.Floor.the-variants.{Solid}
 use Rattle.flows.specs.declared.HousingType.the-variants.{Outdoor}
 use Rattle.flows.specs.declared.Inputs.{Inputs}
 use Rattle.flows.specs.declared.Inputs.the-variants.{Roughage, Cattle, Pigs}
+use Rattle.flows.specs.Arithmetic.{cutting}
+use Rattle.flows.specs.Units.{billionths}
 use Rattle.flows.specs.Yard.{«days_with_grazing_and_yard», «share_excretion_with_grazing», yardTime}
 use Rattle.flows.specs.Grazing.{cattleGrazingTime, roughageGrazingTime}
+use Rattle.flows.specs.Housing.{«c_grazing»}
 use Rattle.model.specs.Herd.{figuresOf}
 use Rattle.model.specs.Notes.{notesOf}
 use Rattle.model.specs.Names.{Name, figure, «n_excretion», «tan_excretion», «n_into_yard», «tan_into_yard», «nh3_nyard», «n_outyard_liquid», «tan_outyard_liquid», «n_into_grazing», «tan_into_grazing», «nh3_ngrazing», «n2_ngrazing», «no_ngrazing», «n2o_ngrazing», «n_remain_grazing», «tan_remain_grazing», «n_into_housing», «tan_into_housing», «nh3_nhousing», «n_outhousing», «tan_outhousing»}
 
--- one line of the table: a herd's figure under a name, a herd's note on its share or on its N, or k at so many tenths of an hour
+-- one line of the table: a herd's figure under a name, a herd's note on its share or on its N, k at so many tenths of an hour, or c at so
+-- many days and tenths of an hour
 pub data Edge : Type 0 where
   gives : Inputs → Name → ℤ → Edge
   lowers : Inputs → Bool → Edge
   notes-n : Inputs → Bool → Edge
   k-at : ℕ → ℕ → Edge
+  c-at : ℕ → ℕ → ℕ → Edge
 
 pub data Holds : Edge → Type 0 where
   figure-is : {i : Inputs} {n : Name} {z : ℤ} → figure n (figuresOf i) ≡ z → Holds (gives i n z)
   lowered-is : {i : Inputs} {b : Bool} → notesOf i .«share_lowered» ≡ b → Holds (lowers i b)
   note-is : {i : Inputs} {b : Bool} → notesOf i .«n_off_standard» ≡ b → Holds (notes-n i b)
   k-is : {t k : ℕ} → kOf t ≡ k → Holds (k-at t k)
+  c-is : {d t c : ℕ} → «c_grazing» cutting d t ≡ c → Holds (c-at d t c)
 
 -- 10 cattle, 73 kg, solid floor, free factor 0: the TAN percentage in ten-thousandths, yard days, the yard, grazing days, hours in tenths
 abbrev pub cattle : ℕ → ℕ → ExerciseYard → ℕ → ℕ → Inputs
@@ -137,8 +144,10 @@ table =
     ∷ notes-n (redDeer (52 kg)) false
     ∷ notes-n (redDeer 27999) true
     ∷ notes-n (redDeer 52001) true
+    -- 9
+    ∷ c-at 365 240 billionths
     ∷ []
 
 pub edges : Each Holds table
 unfolding figuresOf notesOf yardTime cattleGrazingTime roughageGrazingTime «days_with_grazing_and_yard» «share_excretion_with_grazing» standardOf kOf withinDay kAt nearest growthNum growthDen expNum expDen
-edges = more (figure-is refl) (more (figure-is refl) (more (figure-is refl) (more (figure-is refl) (more (figure-is refl) (more (figure-is refl) (more (figure-is refl) (more (figure-is refl) (more (figure-is refl) (more (figure-is refl) (more (figure-is refl) (more (figure-is refl) (more (figure-is refl) (more (figure-is refl) (more (figure-is refl) (more (figure-is refl) (more (figure-is refl) (more (lowered-is refl) (more (figure-is refl) (more (lowered-is refl) (more (figure-is refl) (more (figure-is refl) (more (figure-is refl) (more (figure-is refl) (more (figure-is refl) (more (figure-is refl) (more (figure-is refl) (more (figure-is refl) (more (figure-is refl) (more (figure-is refl) (more (figure-is refl) (more (figure-is refl) (more (figure-is refl) (more (figure-is refl) (more (figure-is refl) (more (figure-is refl) (more (figure-is refl) (more (figure-is refl) (more (figure-is refl) (more (figure-is refl) (more (figure-is refl) (more (figure-is refl) (more (figure-is refl) (more (k-is refl) (more (note-is refl) (more (note-is refl) (more (note-is refl) (more (note-is refl) none)))))))))))))))))))))))))))))))))))))))))))))))
+edges = more (figure-is refl) (more (figure-is refl) (more (figure-is refl) (more (figure-is refl) (more (figure-is refl) (more (figure-is refl) (more (figure-is refl) (more (figure-is refl) (more (figure-is refl) (more (figure-is refl) (more (figure-is refl) (more (figure-is refl) (more (figure-is refl) (more (figure-is refl) (more (figure-is refl) (more (figure-is refl) (more (figure-is refl) (more (lowered-is refl) (more (figure-is refl) (more (lowered-is refl) (more (figure-is refl) (more (figure-is refl) (more (figure-is refl) (more (figure-is refl) (more (figure-is refl) (more (figure-is refl) (more (figure-is refl) (more (figure-is refl) (more (figure-is refl) (more (figure-is refl) (more (figure-is refl) (more (figure-is refl) (more (figure-is refl) (more (figure-is refl) (more (figure-is refl) (more (figure-is refl) (more (figure-is refl) (more (figure-is refl) (more (figure-is refl) (more (figure-is refl) (more (figure-is refl) (more (figure-is refl) (more (figure-is refl) (more (k-is refl) (more (note-is refl) (more (note-is refl) (more (note-is refl) (more (note-is refl) (more (c-is refl) none))))))))))))))))))))))))))))))))))))))))))))))))
