@@ -30,7 +30,7 @@ use Rattle.model.specs.Typed.{typedOf}
 use Rattle.model.specs.Herd.{FiguresIn, roughageOn, figuresInGrams, figuresOf}
 use Rattle.model.specs.Sums.{plusFigures, noFigures, totalsFrom}
 use Rattle.model.specs.Answers.{herdFigures, farmAnswer}
-use Rattle.model.specs.Kept.{gasesOf, Keeps, KeepsHousing, KeepsTotals}
+use Rattle.model.specs.Kept.{herdGases, Keeps, KeepsHousing, KeepsTotals}
 use Rattle.model.proofs.Sound.{typed-sound, Made, of-roughage, of-cattle, of-pigs, made, roughage-starts}
 use Rattle.model.proofs.Adding.{totals-of-sum}
 
@@ -116,7 +116,7 @@ plus-keeps f g p q =
       yard-tan = omega arith;
       pasture-n = omega arith;
       pasture-tan =
-          signed-keeps (f .grazing .«tan_into_grazing») (g .grazing .«tan_into_grazing») (gasesOf f) (gasesOf g) (gasesOf (plusFigures f g))
+          signed-keeps (f .grazing .«tan_into_grazing») (g .grazing .«tan_into_grazing») (herdGases f) (herdGases g) (herdGases (plusFigures f g))
           (f .grazing .«tan_remain_grazing») (g .grazing .«tan_remain_grazing») (p .pasture-tan) (q .pasture-tan) (omega arith);
     }
 

@@ -4,7 +4,7 @@ use Prim.Native.Nat.{ℕ, _+_, _*_, _≤_, _<_}
 use mathlib.Core.Path.{_≡_, _∙_}
 use mathlib.Core.Bool.{true, false}
 use native.Mathlib.Omega.{arith}
-use lib.Dec.{T, ltb}
+use lib.Dec.{ltb}
 use mir.Syntax.{w64}
 use mir.Val.{Fits}
 use borrow.Author.Tests.{lt-ltb, le-ltb}
@@ -22,7 +22,7 @@ use Rattle.flows.specs.Units.{tenThousandths}
 use Rattle.flows.specs.Sound.{EnteredTo, standard, number, mostGrams}
 use Rattle.flows.specs.Yard.{bothOf, shareOf}
 use Rattle.model.specs.declared.Remarks.{Remarks}
-use Rattle.model.specs.Notes.{offStandard, offShare, lowered, roughageNotes, cattleNotes, noNotes, notesOf}
+use Rattle.model.specs.Notes.{offStandard, offShare, shareLowered, roughageNotes, cattleNotes, noNotes, notesOf}
 
 -- a number that was entered is in range
 pub entered-most : (m : ℕ) (e : Entered) (n : ℕ) → EnteredTo m e → e ≡ Number n → n ≤ m
@@ -60,10 +60,10 @@ module _ (e : Entered) (fraction : ℕ) (q : e ≡ Number fraction) where
   tan-other h = rw (q, le-ltb (fraction + 2000) 4000 h)
 
 module _ (c : Cattle) (both share : ℕ) (qb : both ≡ bothOf c) where
-  pub no-both : both ≡ 0 → false ≡ lowered c
+  pub no-both : both ≡ 0 → false ≡ shareLowered c
   no-both z = rw (← qb, z)
 
-  pub some-both : (both ≡ 0 → ⊥) → share ≡ shareOf c → ltb 2 share ≡ lowered c
+  pub some-both : (both ≡ 0 → ⊥) → share ≡ shareOf c → ltb 2 share ≡ shareLowered c
   some-both n qs = rw (← qb, ← qs, lt-ltb 0 both (omega arith))
 
 module _ (n : Remarks) (i : Inputs) where

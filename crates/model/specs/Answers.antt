@@ -1,6 +1,7 @@
--- What a record that is handed in gives: the figures, or 01's refusal and zeros beside it.
+-- What a record that is handed in gives: the figures, or a refusal and zeros beside it. (01, Refusal numbers: "A public call handed a record
+-- in place of a file checks it too".)
 use mathlib.Core.Path.{_≡_}
-use mathlib.Core.List.{List, [], map}
+use mathlib.Core.List.{[], map}
 use Rattle.cut.specs.Total.{addUp}
 use Rattle.farm.specs.declared.Herd.{Herd}
 use Rattle.farm.specs.declared.Farm.{Farm}

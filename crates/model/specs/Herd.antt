@@ -1,5 +1,5 @@
--- A herd's figures, kind by kind: excretion, yard, pasture, and what remains for the housing. Once over any arithmetic, and then on
--- whole grams, in the structs of the code.
+-- A herd's figures, kind by kind: excretion, yard, pasture and housing. Once over any arithmetic, and then on whole grams, in the structs of
+-- the code. What goes into the housing is found here, from the other parts: "Into housing is what remains." (01, Steps and cuts.)
 use Rattle.flows.specs.declared.Roughage.{Roughage}
 use Rattle.flows.specs.declared.Cattle.{Cattle}
 use Rattle.flows.specs.declared.Pigs.{Pigs}
@@ -24,7 +24,7 @@ module _ (A : Arithmetic) where
   open Arithmetic A using (_⊖_)
 
   infixl 6 _⊖_
-  -- 2.84 to 2.88
+  -- 2.84 to 2.88; into the housing (2.85) goes what the pasture leaves
   abbrev pub roughageFrom : Roughage → ExcretionIn A → GrazingIn A → FiguresIn A
   roughageFrom r e g =
       record {
@@ -43,7 +43,7 @@ module _ (A : Arithmetic) where
       roughageOn r
       (excreted A (r .animals) («n_excretion_animal» (r .animalcategory) (r .«inp_n_excretion»)) (tanFraction (r .«tan_fraction»)))
 
-  -- 2.22, 2.33 to 2.35
+  -- 2.22, 2.33 to 2.35; into the housing (2.23) goes what yard and pasture leave
   abbrev pub cattleFrom : ExcretionIn A → YardIn A → GrazingIn A → FiguresIn A
   cattleFrom e y g =
       record {
@@ -65,7 +65,7 @@ module _ (A : Arithmetic) where
   abbrev pub ofCattle : Cattle → FiguresIn A
   ofCattle c = cattleOn c (excreted A (c .animals) (c .«inp_n_excretion») (c .«tan_fraction»))
 
-  -- 2.50, 2.61
+  -- 2.50, 2.61; into the housing (2.51) goes what the pasture leaves
   abbrev pub pigsFrom : ExcretionIn A → GrazingIn A → FiguresIn A
   pigsFrom e g =
       record {

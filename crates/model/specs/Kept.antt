@@ -2,13 +2,13 @@
 -- all cuts. proofs/Kept.antt shows them of every record that is accepted.
 use Prim.Native.Nat.{ℕ, _+_}
 use mathlib.Core.Path.{_≡_}
-use lib.IntN.{ℤ, pos, _+ℤ_}
+use lib.IntN.{pos, _+ℤ_}
 use Rattle.model.specs.declared.Figures.{Figures}
 use Rattle.model.specs.declared.Totals.{Totals}
 
 -- what leaves the pasture as gas
-abbrev pub gasesOf : Figures → ℕ
-gasesOf f = f .grazing .«nh3_ngrazing» + f .grazing .«n2_ngrazing» + f .grazing .«no_ngrazing» + f .grazing .«n2o_ngrazing»
+abbrev pub herdGases : Figures → ℕ
+herdGases f = f .grazing .«nh3_ngrazing» + f .grazing .«n2_ngrazing» + f .grazing .«no_ngrazing» + f .grazing .«n2o_ngrazing»
 
 pub record Keeps (f : Figures) : Type 0 where
   -- what is excreted goes onto the yard, onto pasture and into the housing
@@ -17,9 +17,9 @@ pub record Keeps (f : Figures) : Type 0 where
   -- what comes onto the yard is emitted there or leaves it
   pub yard-n : f .yard .«n_into_yard» ≡ f .yard .«nh3_nyard» + f .yard .«n_outyard_liquid»
   pub yard-tan : f .yard .«tan_into_yard» ≡ f .yard .«nh3_nyard» + f .yard .«tan_outyard_liquid»
-  -- what comes onto pasture remains there or is emitted; of the TAN also where what remains is below zero
-  pub pasture-n : f .grazing .«n_into_grazing» ≡ f .grazing .«n_remain_grazing» + gasesOf f
-  pub pasture-tan : pos (f .grazing .«tan_into_grazing») ≡ f .grazing .«tan_remain_grazing» +ℤ pos (gasesOf f)
+  -- what comes onto pasture is emitted there or remains; of the TAN less than nothing may remain, and the balance holds then too
+  pub pasture-n : f .grazing .«n_into_grazing» ≡ f .grazing .«n_remain_grazing» + herdGases f
+  pub pasture-tan : pos (f .grazing .«tan_into_grazing») ≡ f .grazing .«tan_remain_grazing» +ℤ pos (herdGases f)
 
 -- what goes into the housing is emitted there or leaves it: 01 follows it so far for roughage-consuming animals alone
 pub record KeepsHousing (f : Figures) : Type 0 where

@@ -1,13 +1,12 @@
 -- 01, "Notes": each a yes or no beside a herd's figures. `standard` gives none, and a kind that lacks the input gives none.
 use Prim.Native.Nat.{ℕ, _+_, _*_}
-use mathlib.Core.Bool.{Bool, true, false, not, _&&_, _||_}
+use mathlib.Core.Bool.{Bool, false, not, _&&_, _||_}
 use lib.Dec.{ltb, eqb}
 use Rattle.tables.specs.Standards.{standardOf, «share_Nsol»}
 use Rattle.flows.specs.declared.Entered.{Entered}
 use Rattle.flows.specs.declared.Entered.the-variants.{Standard, Number}
 use Rattle.flows.specs.declared.Roughage.{Roughage}
 use Rattle.flows.specs.declared.Cattle.{Cattle}
-use Rattle.flows.specs.declared.Pigs.{Pigs}
 use Rattle.flows.specs.declared.Inputs.{Inputs}
 use Rattle.flows.specs.declared.Inputs.the-variants as kinds
 use Rattle.model.specs.declared.Remarks.{Remarks}
@@ -28,8 +27,8 @@ abbrev pub freeEntered : ℕ → Bool
 freeEntered free = not (eqb free 0)
 
 -- 2.34, share_excretion_with_grazing: days with both, and a share above 0.2
-abbrev pub lowered : Cattle → Bool
-lowered c = ltb 0 (bothOf c) && ltb «share_available_roughage_is_partly_supplied_in_the_exercise_yard» (shareOf c)
+abbrev pub shareLowered : Cattle → Bool
+shareLowered c = ltb 0 (bothOf c) && ltb «share_available_roughage_is_partly_supplied_in_the_exercise_yard» (shareOf c)
 
 abbrev pub noted : Bool → Bool → Bool → Bool → Remarks
 noted n tan free share = record { «n_off_standard» = n; «tan_off_standard» = tan; «free_factor» = free; «share_lowered» = share }
@@ -39,7 +38,7 @@ roughageNotes r =
     noted (offStandard (r .animalcategory) (r .«inp_n_excretion»)) (offShare (r .«tan_fraction»)) (freeEntered (r .«free_correction_factor»)) false
 
 abbrev pub cattleNotes : Cattle → Remarks
-cattleNotes c = noted false false (freeEntered (c .«free_correction_factor»)) (lowered c)
+cattleNotes c = noted false false (freeEntered (c .«free_correction_factor»)) (shareLowered c)
 
 abbrev pub noNotes : Remarks
 noNotes = noted false false false false

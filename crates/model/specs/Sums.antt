@@ -1,6 +1,7 @@
--- Figures added up name by name, each bounded, so that no sum of a farm's herds passes what 64 bits hold.
-use Prim.Native.Nat.{ℕ, _+_, _*_, _^_, _≤_}
-use lib.IntN.{ℤ, pos, natAbs, _+ℤ_}
+-- Figures added up name by name, as the code does it, and bounds that keep every sum within 64 bits. What a farm's totals are stands in
+-- specs/Totals.antt; that these sums give them is `totals-of-sum` (proofs/Adding.antt).
+use Prim.Native.Nat.{ℕ, _+_, _^_, _≤_}
+use lib.IntN.{pos, natAbs, _+ℤ_}
 use Rattle.flows.specs.declared.Excretion.{Excretion}
 use Rattle.flows.specs.declared.Yard.{Yard}
 use Rattle.flows.specs.declared.Grazing.{Grazing}
@@ -92,7 +93,8 @@ totalsFrom f =
 
 -- ---- bounds
 
--- sums of two such figures fit
+-- what a figure is at most, of a herd or summed over herds, so that up to three of them add up to less than 2 ^ 63 (nh3_nlivestock is the sum
+-- of three); the herds of a farm together stay far below
 abbrev pub half : ℕ
 half = 2 ^ 61
 

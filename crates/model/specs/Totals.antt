@@ -1,6 +1,6 @@
 -- 2.1: the farm's totals. Each is the sum of its figure over the farm's herds; nh3_nhousing_and_yard and nh3_nlivestock are built from
 -- the sums, as the page builds them.
-use Prim.Native.Nat.{ℕ, _+_}
+use Prim.Native.Nat.{_+_}
 use mathlib.Core.List.{List}
 use Rattle.cut.specs.Total.{total, signedTotal}
 use Rattle.model.specs.declared.Figures.{Figures}

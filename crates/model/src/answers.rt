@@ -36,7 +36,7 @@ pub fn herd_answer(h: Herd) -> HerdAnswer
 }
 
 // The figures of all herds of an accepted farm, added up.
-pub fn sum_of(farm: Farm) -> Figures
+fn sum_of(farm: Farm) -> Figures
     requires { ⌜ checkFarm farm ≡ Accepted ⌝ }
     ensures { λ r. ⌜ Added farm r ⌝ }
 {

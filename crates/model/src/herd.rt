@@ -13,7 +13,7 @@ ghost use Rattle.flows.specs.Arithmetic.{cutting};
 ghost use Rattle.flows.specs.Sound.{SoundRoughage, SoundCattle, SoundPigs, Sound};
 ghost use Rattle.model.specs.Herd.{figuresInGrams, ofRoughage, ofCattle, ofPigs, figuresOf};
 
-pub fn roughage_figures(r: Roughage) -> Figures
+fn roughage_figures(r: Roughage) -> Figures
     requires { ⌜ SoundRoughage r ⌝ }
     ensures { λ f. ⌜ f ≡ figuresInGrams (ofRoughage cutting r) ⌝ }
 {
@@ -33,7 +33,7 @@ pub fn roughage_figures(r: Roughage) -> Figures
     }
 }
 
-pub fn cattle_figures(c: Cattle) -> Figures
+fn cattle_figures(c: Cattle) -> Figures
     requires { ⌜ SoundCattle c ⌝ }
     ensures { λ f. ⌜ f ≡ figuresInGrams (ofCattle cutting c) ⌝ }
 {
@@ -50,7 +50,7 @@ pub fn cattle_figures(c: Cattle) -> Figures
     }
 }
 
-pub fn pigs_figures(p: Pigs) -> Figures
+fn pigs_figures(p: Pigs) -> Figures
     requires { ⌜ SoundPigs p ⌝ }
     ensures { λ f. ⌜ f ≡ figuresInGrams (ofPigs cutting p) ⌝ }
 {

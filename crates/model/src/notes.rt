@@ -8,7 +8,7 @@ use flows::yards;
 ghost use mathlib.Core.Path.{_≡_};
 ghost use Rattle.flows.specs.Sound.{EnteredTo, SoundRoughage, SoundCattle, Sound, mostGrams};
 ghost use Rattle.flows.specs.Units.{tenThousandths};
-ghost use Rattle.model.specs.Notes.{offStandard, offShare, lowered, roughageNotes, cattleNotes, noNotes, notesOf};
+ghost use Rattle.model.specs.Notes.{offStandard, offShare, shareLowered, roughageNotes, cattleNotes, noNotes, notesOf};
 
 // Below 0.7 or above 1.3 of the standard, in tenths; off the share by more than 0.2, in ten-thousandths.
 const TENTHS: u64 = 10;
@@ -48,7 +48,7 @@ fn tan_off_standard(entered: Entered) -> bool
 
 fn share_lowered(c: Cattle) -> bool
     requires { ⌜ SoundCattle c ⌝ }
-    ensures { λ r. ⌜ r ≡ lowered c ⌝ }
+    ensures { λ r. ⌜ r ≡ shareLowered c ⌝ }
 {
     let yard = c.exercise_yard;
     if yards::days_with_grazing_and_yard(c.grazing_days, c.yard_days) == 0 {

@@ -1,12 +1,12 @@
--- What the crates above need of k: it is nearest to the exact growth, and lies between k at 0 and at 24 hours.
+-- What the crates above need of k: it is nearest to the exact growth, and at most k at 24 hours.
 -- Assumes nothing.
-use Prim.Native.Nat.{ℕ, zero, suc, _+_, _*_, _%_, _^_, _≤_, _<_, zero-le}
+use Prim.Native.Nat.{ℕ, zero, suc, _+_, _*_, _%_, _^_, _≤_, _<_}
 use mathlib.Core.Path.{_≡_, refl}
 use native.Mathlib.Nat.{mul-le-mul-left, mul-le-mul-right, pow-le-pow-left, add-le-add, div-add-mod', mod-lt, le-refl, le-trans, le-div-iff-mul-le, div-mul-le-self}
 use native.Mathlib.Omega.{arith}
 use lib.Dec.{lit<}
 use borrow.Author.Tests.{le-leb}
-use Rattle.tables.specs.Growth.{expNum, expDen, lastTerm, growthNum, growthDen, nearest, kAt, withinDay, kOf, NearestK}
+use Rattle.tables.specs.Growth.{expNum, expDen, lastTerm, «k_grazing_b», growthNum, growthDen, nearest, kAt, withinDay, kOf, NearestK}
 use Rattle.tables.proofs.Entries.{withinDay-le}
 
 pub growthDen-above : 0 < growthDen
@@ -38,20 +38,12 @@ exp-rises b (suc n) h = add-le-add (mul-le-mul-right (b * suc n) (exp-rises b n 
 
 kAt-rises : {t u : ℕ} → t ≤ u → kAt t ≤ kAt u
 unfolding kAt growthNum
-kAt-rises h = rises _ growthDen growthDen-above (mul-le-mul-left _ (exp-rises 100000 lastTerm (mul-le-mul-left 403 h)))
+kAt-rises h = rises _ growthDen growthDen-above (mul-le-mul-left _ (exp-rises 100000 lastTerm (mul-le-mul-left «k_grazing_b» h)))
 
--- k at 0 and at 24 hours
-pub k-none : kAt 0 ≡ 1000000000
-unfolding kAt nearest growthNum growthDen expNum expDen
-k-none = refl
-
-pub k-all-day : kAt 240 ≡ 2630568546
+-- k at 24 hours
+k-all-day : kAt 240 ≡ 2630568546
 unfolding kAt nearest growthNum growthDen expNum expDen
 k-all-day = refl
-
-pub k-least : (t : ℕ) → 1000000000 ≤ kOf t
-unfolding kOf
-k-least t = omega (arith, k-none, kAt-rises {t = 0} {u = withinDay t} zero-le)
 
 pub k-most : (t : ℕ) → kOf t ≤ 2630568546
 unfolding kOf

@@ -19,9 +19,13 @@ expDen b (suc n) = expDen b n * (b * suc n)
 abbrev pub lastTerm : ℕ
 lastTerm = 20
 
--- exp(0.0403 * hours) as a fraction; t tenths of an hour make 403 * t hundred-thousandths
+-- k_grazing_b, 0.0403, in ten-thousandths
+abbrev pub «k_grazing_b» : ℕ
+«k_grazing_b» = 403
+
+-- exp(k_grazing_b * hours) as a fraction; t tenths of an hour make k_grazing_b * t hundred-thousandths
 unfoldable pub growthNum : ℕ → ℕ
-growthNum t = expNum (403 * t) 100000 lastTerm
+growthNum t = expNum («k_grazing_b» * t) 100000 lastTerm
 
 unfoldable pub growthDen : ℕ
 growthDen = expDen 100000 lastTerm
