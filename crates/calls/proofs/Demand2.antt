@@ -34,7 +34,7 @@ demand-2-file = accepts-exactly
 
 pub record ByTheFormulas (h : Herd) (a : HerdAnswer) : Type 0 where
   pub figures : a .figures ≡ figuresOf (typedOf h)
-  pub notes : a .remarks ≡ notesOf (typedOf h)
+  pub notes : a .notes ≡ notesOf (typedOf h)
 
 pub demand-2-herd : (h : Herd) → checkHerd h ≡ Accepted → ByTheFormulas h (herdAnswer h)
 unfolding herdAnswer

@@ -19,7 +19,7 @@ use Rattle.farm.proofs.Left.{taken-at, taken-end}
 use Rattle.flows.specs.declared.Inputs.{Inputs}
 use Rattle.flows.specs.Sound.{Sound}
 use Rattle.model.specs.declared.Figures.{Figures}
-use Rattle.model.specs.declared.Remarks.{Remarks}
+use Rattle.model.specs.declared.HerdNotes.{HerdNotes}
 use Rattle.model.specs.declared.Totals.{Totals}
 use Rattle.model.specs.Typed.{typedOf}
 use Rattle.model.specs.Herd.{figuresOf}
@@ -36,13 +36,13 @@ module _ (h : Herd) (k : Checked) (q : k ≡ checkHerd h) where
   pub accepted-sound : (i : Inputs) → k ≡ Accepted → i ≡ typedOf h → Sound i
   accepted-sound i t e = rw e (typed-sound h (sym q ∙ t))
 
-  pub is-herd-answer : (i : Inputs) (f : Figures) (n : Remarks) → k ≡ Accepted → i ≡ typedOf h → f ≡ figuresOf i → n ≡ notesOf i
-      → record { checked = Accepted; figures = f; remarks = n } ≡ herdAnswer h
+  pub is-herd-answer : (i : Inputs) (f : Figures) (n : HerdNotes) → k ≡ Accepted → i ≡ typedOf h → f ≡ figuresOf i → n ≡ notesOf i
+      → record { checked = Accepted; figures = f; notes = n } ≡ herdAnswer h
   unfolding herdAnswer
   is-herd-answer i f n t e ef en = rw (← q, t, ef, en, e)
 
-  pub is-herd-refusal : (fault : Fault) (at-record : ℕ) (f : Figures) (n : Remarks) → k ≡ Refused fault at-record → f ≡ noFigures → n ≡ noNotes
-      → record { checked = Refused fault at-record; figures = f; remarks = n } ≡ herdAnswer h
+  pub is-herd-refusal : (fault : Fault) (at-record : ℕ) (f : Figures) (n : HerdNotes) → k ≡ Refused fault at-record → f ≡ noFigures → n ≡ noNotes
+      → record { checked = Refused fault at-record; figures = f; notes = n } ≡ herdAnswer h
   unfolding herdAnswer
   is-herd-refusal fault at-record f n t ef en = rw (← q, t, ef, en)
 

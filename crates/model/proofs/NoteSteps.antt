@@ -21,7 +21,7 @@ use Rattle.flows.specs.declared.Inputs.the-variants as kinds
 use Rattle.flows.specs.Units.{tenThousandths}
 use Rattle.flows.specs.Sound.{EnteredTo, standard, number, mostGrams}
 use Rattle.flows.specs.Yard.{bothOf, shareOf}
-use Rattle.model.specs.declared.Remarks.{Remarks}
+use Rattle.model.specs.declared.HerdNotes.{HerdNotes}
 use Rattle.model.specs.Notes.{offStandard, offShare, shareLowered, roughageNotes, cattleNotes, noNotes, notesOf}
 
 -- a number that was entered is in range
@@ -66,7 +66,7 @@ module _ (c : Cattle) (both share : ℕ) (qb : both ≡ bothOf c) where
   pub some-both : (both ≡ 0 → ⊥) → share ≡ shareOf c → ltb 2 share ≡ shareLowered c
   some-both n qs = rw (← qb, ← qs, lt-ltb 0 both (omega arith))
 
-module _ (n : Remarks) (i : Inputs) where
+module _ (n : HerdNotes) (i : Inputs) where
   pub notes-of-roughage : (r : Roughage) → n ≡ roughageNotes r → i ≡ kinds.Roughage r → n ≡ notesOf i
   unfolding notesOf
   notes-of-roughage r q e = q ∙ rw e
@@ -79,7 +79,7 @@ module _ (n : Remarks) (i : Inputs) where
   unfolding notesOf
   notes-of-pigs p q e = q ∙ rw e
 
-pub ruleset remark-steps = (notes-of-roughage, notes-of-cattle, notes-of-pigs)
+pub ruleset kind-notes = (notes-of-roughage, notes-of-cattle, notes-of-pigs)
 
 pub ruleset note-steps =
     (entered-fits, standard-fits, fraction-fits, n-standard, tan-standard, n-below, n-other, tan-below, tan-other, no-both, some-both)

@@ -22,8 +22,8 @@ abbrev pub herdFigures : Herd → Figures
 herdFigures h = figuresOf (typedOf h)
 
 abbrev pub answerHerd : Checked → Herd → HerdAnswer
-answerHerd Accepted h = record { checked = Accepted; figures = herdFigures h; remarks = notesOf (typedOf h) }
-answerHerd (Refused fault at) h = record { checked = Refused fault at; figures = noFigures; remarks = noNotes }
+answerHerd Accepted h = record { checked = Accepted; figures = herdFigures h; notes = notesOf (typedOf h) }
+answerHerd (Refused fault at) h = record { checked = Refused fault at; figures = noFigures; notes = noNotes }
 
 unfoldable pub herdAnswer : Herd → HerdAnswer
 herdAnswer h = answerHerd (checkHerd h) h

@@ -9,7 +9,7 @@ use Rattle.flows.specs.declared.Roughage.{Roughage}
 use Rattle.flows.specs.declared.Cattle.{Cattle}
 use Rattle.flows.specs.declared.Inputs.{Inputs}
 use Rattle.flows.specs.declared.Inputs.the-variants as kinds
-use Rattle.model.specs.declared.Remarks.{Remarks}
+use Rattle.model.specs.declared.HerdNotes.{HerdNotes}
 use Rattle.flows.specs.Yard.{bothOf, shareOf, «share_available_roughage_is_partly_supplied_in_the_exercise_yard»}
 
 -- 2.84, n_excretion_animal: below 0.7 or above 1.3 of the standard, in tenths
@@ -30,20 +30,20 @@ freeEntered free = not (eqb free 0)
 abbrev pub shareLowered : Cattle → Bool
 shareLowered c = ltb 0 (bothOf c) && ltb «share_available_roughage_is_partly_supplied_in_the_exercise_yard» (shareOf c)
 
-abbrev pub noted : Bool → Bool → Bool → Bool → Remarks
+abbrev pub noted : Bool → Bool → Bool → Bool → HerdNotes
 noted n tan free share = record { «n_off_standard» = n; «tan_off_standard» = tan; «free_factor» = free; «share_lowered» = share }
 
-abbrev pub roughageNotes : Roughage → Remarks
+abbrev pub roughageNotes : Roughage → HerdNotes
 roughageNotes r =
     noted (offStandard (r .animalcategory) (r .«inp_n_excretion»)) (offShare (r .«tan_fraction»)) (freeEntered (r .«free_correction_factor»)) false
 
-abbrev pub cattleNotes : Cattle → Remarks
+abbrev pub cattleNotes : Cattle → HerdNotes
 cattleNotes c = noted false false (freeEntered (c .«free_correction_factor»)) (shareLowered c)
 
-abbrev pub noNotes : Remarks
+abbrev pub noNotes : HerdNotes
 noNotes = noted false false false false
 
-unfoldable pub notesOf : Inputs → Remarks
+unfoldable pub notesOf : Inputs → HerdNotes
 notesOf (kinds.Roughage r) = roughageNotes r
 notesOf (kinds.Cattle c) = cattleNotes c
 notesOf (kinds.Pigs p) = noNotes

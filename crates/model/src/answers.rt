@@ -24,13 +24,13 @@ pub fn herd_answer(h: Herd) -> HerdAnswer
             HerdAnswer {
                 checked: Checked::Accepted,
                 figures: herd::figures(inputs),
-                remarks: notes::remarks_on(inputs),
+                notes: notes::notes_on(inputs),
             }
         }
         Checked::Refused(fault, record) => HerdAnswer {
             checked: Checked::Refused(fault, record),
             figures: sums::no_figures(),
-            remarks: notes::no_remarks(),
+            notes: notes::no_notes(),
         },
     }
 }

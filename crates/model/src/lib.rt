@@ -20,7 +20,7 @@ pub struct Figures {
 }
 
 // 01, Notes.
-pub struct Remarks {
+pub struct HerdNotes {
     pub n_off_standard: bool,
     pub tan_off_standard: bool,
     pub free_factor: bool,
@@ -53,7 +53,7 @@ pub struct Totals {
 pub struct HerdAnswer {
     pub checked: Checked,
     pub figures: Figures,
-    pub remarks: Remarks,
+    pub notes: HerdNotes,
 }
 
 // What a farm's record gives: its totals, or the refusal and zeros.

@@ -1,5 +1,5 @@
 // What an adviser is told beside the figures.
-use crate::Remarks;
+use crate::HerdNotes;
 use flows::Cattle;
 use flows::Entered;
 use flows::Inputs;
@@ -57,13 +57,13 @@ fn share_lowered(c: Cattle) -> bool
     yards::SHARE_PARTLY < yards::share_excretion(yard)
 }
 
-fn roughage_remarks(r: Roughage) -> Remarks
+fn roughage_notes(r: Roughage) -> HerdNotes
     requires { ⌜ SoundRoughage r ⌝ }
     ensures { λ n. ⌜ n ≡ roughageNotes r ⌝ }
 {
     let entered_n = r.inp_n_excretion;
     let entered_tan = r.tan_fraction;
-    Remarks {
+    HerdNotes {
         n_off_standard: n_off_standard(r.animalcategory, entered_n),
         tan_off_standard: tan_off_standard(entered_tan),
         free_factor: r.free_correction_factor != 0,
@@ -71,11 +71,11 @@ fn roughage_remarks(r: Roughage) -> Remarks
     }
 }
 
-fn cattle_remarks(c: Cattle) -> Remarks
+fn cattle_notes(c: Cattle) -> HerdNotes
     requires { ⌜ SoundCattle c ⌝ }
     ensures { λ n. ⌜ n ≡ cattleNotes c ⌝ }
 {
-    Remarks {
+    HerdNotes {
         n_off_standard: false,
         tan_off_standard: false,
         free_factor: c.free_correction_factor != 0,
@@ -83,10 +83,10 @@ fn cattle_remarks(c: Cattle) -> Remarks
     }
 }
 
-pub fn no_remarks() -> Remarks
+pub fn no_notes() -> HerdNotes
     ensures { λ n. ⌜ n ≡ noNotes ⌝ }
 {
-    Remarks {
+    HerdNotes {
         n_off_standard: false,
         tan_off_standard: false,
         free_factor: false,
@@ -94,13 +94,13 @@ pub fn no_remarks() -> Remarks
     }
 }
 
-pub fn remarks_on(inputs: Inputs) -> Remarks
+pub fn notes_on(inputs: Inputs) -> HerdNotes
     requires { ⌜ Sound inputs ⌝ }
     ensures { λ n. ⌜ n ≡ notesOf inputs ⌝ }
 {
     match inputs {
-        Inputs::Roughage(r) => roughage_remarks(r),
-        Inputs::Cattle(c) => cattle_remarks(c),
-        Inputs::Pigs(_) => no_remarks(),
+        Inputs::Roughage(r) => roughage_notes(r),
+        Inputs::Cattle(c) => cattle_notes(c),
+        Inputs::Pigs(_) => no_notes(),
     }
 }

@@ -17,8 +17,8 @@ typed-of-requires c κs = search needs
 figures-requires : tie.Need-figures-requires
 figures-requires c κs = search (needs, herd-answers)
 
-remarks-on-requires : tie.Need-remarks-on-requires
-remarks-on-requires c κs = search (needs, herd-answers)
+notes-on-requires : tie.Need-notes-on-requires
+notes-on-requires c κs = search (needs, herd-answers)
 
 enum-known-fault : tie.Need-enum-known-fault
 enum-known-fault c = search needs
@@ -26,8 +26,8 @@ enum-known-fault c = search needs
 no-figures-requires : tie.Need-no-figures-requires
 no-figures-requires c κs = search needs
 
-no-remarks-requires : tie.Need-no-remarks-requires
-no-remarks-requires c κs = search needs
+no-notes-requires : tie.Need-no-notes-requires
+no-notes-requires c κs = search needs
 
 returns : tie.Need-returns
 returns c = search (needs, herd-answers)
@@ -43,9 +43,9 @@ herd-answer-spec =
     enum-told
     typed-of-requires
     figures-requires
-    remarks-on-requires
+    notes-on-requires
     enum-known-fault
     no-figures-requires
-    no-remarks-requires
+    no-notes-requires
     returns
     returns-2)

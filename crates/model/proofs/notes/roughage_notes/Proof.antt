@@ -1,8 +1,8 @@
--- `model::notes::roughage_remarks` meets its contract, note by note.
+-- `model::notes::roughage_notes` meets its contract, note by note.
 -- Assumes nothing.
 use borrow.Author.Needs.{needs}
-use Rattle.model.proofs.notes.roughage_remarks.Statement.{statement}
-use Rattle.model.proofs.notes.roughage_remarks.Tie as tie
+use Rattle.model.proofs.notes.roughage_notes.Statement.{statement}
+use Rattle.model.proofs.notes.roughage_notes.Tie as tie
 
 n-off-standard-requires : tie.Need-n-off-standard-requires
 n-off-standard-requires c κs = search needs
@@ -13,6 +13,6 @@ tan-off-standard-requires c κs = search needs
 returns : tie.Need-returns
 returns c = rw (c .before .before .n-off-standard .ensures, c .before .tan-off-standard .ensures)
 
-pub roughage-remarks-spec : {M : Type 1} → statement M
-roughage-remarks-spec =
+pub roughage-notes-spec : {M : Type 1} → statement M
+roughage-notes-spec =
     tie.close (tie.spec n-off-standard-requires tan-off-standard-requires returns)
