@@ -17,7 +17,7 @@ use Rattle.model.specs.declared.Figures.{Figures}
 use Rattle.model.specs.declared.HerdAnswer.{HerdAnswer}
 use Rattle.model.specs.declared.FarmAnswer.{FarmAnswer}
 use Rattle.model.specs.Typed.{typedOf}
-use Rattle.model.specs.Sums.{FiguresTo, half, plusFigures, noFigures, totalsFrom}
+use Rattle.model.specs.Sums.{FiguresTo, figureMost, plusFigures, noFigures, totalsFrom}
 use Rattle.model.specs.Totals.{totalsOf}
 use Rattle.model.specs.Answers.{herdFigures, answerHerd, herdAnswer, answerFarm, farmAnswer}
 use Rattle.model.proofs.Sound.{typed-sound}
@@ -58,8 +58,8 @@ module _ (h : Herd) (a : HerdAnswer) (q : a ≡ herdAnswer h) where
   passed : (k : Checked) → a .checked ≡ k → checkHerd h ≡ k
   passed k e = sym (herd-checked h) ∙ (rw q at e)
 
-  pub herd-fits : a .checked ≡ checks.Accepted → FiguresTo half (a .figures)
-  herd-fits e = rw (q, herd-figured h (passed checks.Accepted e)) (widen most half _ (figures-to (typedOf h) (typed-sound h (passed checks.Accepted e))) (omega arith))
+  pub herd-fits : a .checked ≡ checks.Accepted → FiguresTo figureMost (a .figures)
+  herd-fits e = rw (q, herd-figured h (passed checks.Accepted e)) (widen most figureMost _ (figures-to (typedOf h) (typed-sound h (passed checks.Accepted e))) (omega arith))
 
   pub is-herd-listing : (old new : List ℕ) (r : Written) → a .checked ≡ checks.Accepted
       → Answered (herdListing (h .label) (h .kind) (a .figures)) old new r → Called (herdCall h) old new r
@@ -91,7 +91,7 @@ farm-totals-fit : (f : Farm) → checkFarm f ≡ checks.Accepted → TotalsFit (
 farm-totals-fit f e =
     rw (totalled f e)
     (totals-fit _
-    (widen _ half _
+    (widen _ figureMost _
     (sum-to (herdsOf f) noFigures 0 (farm-each f e) (none-to 0))
     (omega (arith, farm-count f e, length-take (f .count) (f .herds)))))
 

@@ -2,10 +2,10 @@
 -- Assumes nothing.
 use native.Mathlib.Omega.{arith}
 use Rattle.model.specs.declared.Figures.{Figures}
-use Rattle.model.specs.Sums.{totalsFrom, FiguresTo, half}
+use Rattle.model.specs.Sums.{totalsFrom, FiguresTo, figureMost}
 use Rattle.listing.specs.Bounds.{TotalsFit}
 
-pub totals-fit : (f : Figures) → FiguresTo half f → TotalsFit (totalsFrom f)
+pub totals-fit : (f : Figures) → FiguresTo figureMost f → TotalsFit (totalsFrom f)
 totals-fit f b =
     let e = b .of-excretion in
     let y = b .of-yard in

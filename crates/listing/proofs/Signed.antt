@@ -8,7 +8,7 @@ use lib.IntN.{ℤ, pos, negsuc, natAbs}
 use mir.Syntax.{w64}
 use mir.Val.{SFits, toZ, ofZ}
 use mir.Facts.{toZ-ofZ}
-use Rattle.model.specs.Sums.{half}
+use Rattle.model.specs.Sums.{figureMost}
 
 infixr 5 _and_
 pub _and_ : {x y : ℤ} {xs ys : List ℤ} → x ≡ y → xs ≡ ys → x ∷ xs ≡ y ∷ ys
@@ -17,7 +17,7 @@ e and d = cc
 pub fits : {x : ℕ} → x < 2 ^ 63 → toZ w64 x ≡ pos x
 fits {x} h = toZ-ofZ {w = w64} {z = pos x} (record { sfits = h })
 
-pub low : {x : ℕ} → x ≤ half → toZ w64 x ≡ pos x
+pub low : {x : ℕ} → x ≤ figureMost → toZ w64 x ≡ pos x
 low h = fits (omega arith)
 
 abs-fits : (z : ℤ) → natAbs z < 2 ^ 63 → SFits w64 z
@@ -27,5 +27,5 @@ abs-fits (negsuc n) h = record { sfits = omega arith }
 pub back′ : (z : ℤ) → natAbs z < 2 ^ 63 → toZ w64 (ofZ w64 z) ≡ z
 back′ z h = toZ-ofZ (abs-fits z h)
 
-pub back : (z : ℤ) → natAbs z ≤ half → toZ w64 (ofZ w64 z) ≡ z
+pub back : (z : ℤ) → natAbs z ≤ figureMost → toZ w64 (ofZ w64 z) ≡ z
 back z h = back′ z (omega arith)

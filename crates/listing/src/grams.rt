@@ -3,12 +3,12 @@ use crate::texts::NAMES_IN_ALL;
 use model::Figures;
 use model::Totals;
 ghost use mathlib.Core.Path.{_≡_};
-ghost use Rattle.model.specs.Sums.{FiguresTo, half};
+ghost use Rattle.model.specs.Sums.{FiguresTo, figureMost};
 ghost use Rattle.listing.specs.Bounds.{TotalsFit};
 ghost use Rattle.listing.specs.Numbered.{gramsOf, totalGramsOf};
 
 pub fn of_figures(f: Figures) -> [i64; NAMES_IN_ALL]
-    requires { ⌜ FiguresTo half f ⌝ }
+    requires { ⌜ FiguresTo figureMost f ⌝ }
     ensures { λ r. ⌜ r ≡ gramsOf f ⌝ }
 {
     let e = f.excretion;

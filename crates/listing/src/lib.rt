@@ -13,7 +13,7 @@ ghost use mathlib.Core.Path.{_≡_};
 ghost use Prim.Native.Nat.{_≤_};
 ghost use lib.ListN.{length};
 ghost use Rattle.base.specs.Wrote.{Wrote};
-ghost use Rattle.model.specs.Sums.{FiguresTo, half};
+ghost use Rattle.model.specs.Sums.{FiguresTo, figureMost};
 ghost use Rattle.listing.specs.Bounds.{TotalsFit};
 ghost use Rattle.listing.specs.Listing.{herdLines, herdListing, totalsListing};
 ghost use Rattle.listing.specs.Answer.{Answered};
@@ -25,7 +25,7 @@ pub enum Written {
 }
 
 fn put_herd_lines(out: &mut [u8], label: &[u8], kind: Kind, f: Figures) -> usize
-    requires { ⌜ FiguresTo half f × (length (herdLines (now label) kind f) ≤ length (now out)) ⌝ }
+    requires { ⌜ FiguresTo figureMost f × (length (herdLines (now label) kind f) ≤ length (now out)) ⌝ }
     ensures { λ r. ⌜ Wrote (now (out .entry)) 0 (herdLines (now (label .entry)) kind f) (now (out .exit)) r ⌝ }
 {
     let by_name = grams::of_figures(f);
@@ -58,7 +58,7 @@ fn put_herd_lines(out: &mut [u8], label: &[u8], kind: Kind, f: Figures) -> usize
 }
 
 fn herd_lines_len(label: &[u8], kind: Kind, f: Figures) -> usize
-    requires { ⌜ FiguresTo half f × (length (now label) ≤ 16) ⌝ }
+    requires { ⌜ FiguresTo figureMost f × (length (now label) ≤ 16) ⌝ }
     ensures { λ r. ⌜ r ≡ length (herdLines (now (label .entry)) kind f) ⌝ }
 {
     let by_name = grams::of_figures(f);
@@ -104,7 +104,7 @@ fn put_total_lines(out: &mut [u8], t: Totals) -> usize
 
 // How long a herd's listing is.
 pub fn herd_len(label: Label, kind: Kind, f: Figures) -> usize
-    requires { ⌜ FiguresTo half f ⌝ }
+    requires { ⌜ FiguresTo figureMost f ⌝ }
     ensures { λ r. ⌜ r ≡ length (herdListing label kind f) ⌝ }
 {
     let bytes = label.bytes;
@@ -128,7 +128,7 @@ pub fn totals_len(t: Totals) -> usize
 
 // A herd's listing.
 pub fn write_herd(out: &mut [u8], label: Label, kind: Kind, f: Figures) -> Written
-    requires { ⌜ FiguresTo half f ⌝ }
+    requires { ⌜ FiguresTo figureMost f ⌝ }
     ensures { λ r. ⌜ Answered (herdListing label kind f) (now (out .entry)) (now (out .exit)) r ⌝ }
 {
     if out.len() < herd_len(label, kind, f) {

@@ -24,7 +24,7 @@ use Rattle.model.specs.declared.Totals.{Totals}
 use Rattle.model.specs.Typed.{typedOf}
 use Rattle.model.specs.Herd.{figuresOf}
 use Rattle.model.specs.Notes.{notesOf, noNotes}
-use Rattle.model.specs.Sums.{FiguresTo, half, plusFigures, noFigures, totalsFrom}
+use Rattle.model.specs.Sums.{FiguresTo, figureMost, plusFigures, noFigures, totalsFrom}
 use Rattle.model.specs.Totals.{totalsOf}
 use Rattle.model.specs.Answers.{Added, herdFigures, herdAnswer, farmAnswer}
 use Rattle.model.proofs.Sound.{typed-sound}
@@ -58,7 +58,7 @@ pub record Adding (f : Farm) (i : ℕ) (sum : Figures) : Type 0 where
 
 -- the figures g of the next herd may be added, and then those of i + 1 herds were
 pub record Turned (f : Farm) (i : ℕ) (sum g : Figures) : Type 0 where
-  pub asks : FiguresTo half sum × FiguresTo half g
+  pub asks : FiguresTo figureMost sum × FiguresTo figureMost g
   pub next : (r : Figures) → r ≡ plusFigures sum g → Adding f (i + 1) r
 
 module _ (f : Farm) (accepted : checkFarm f ≡ Accepted) where
@@ -70,7 +70,7 @@ module _ (f : Farm) (accepted : checkFarm f ≡ Accepted) where
     adding-ends b =
         record {
           is = rw (taken-end (f .count) (f .herds) i b) at (inv .left);
-          small = widen (i * most) half sum (inv .small) (omega arith);
+          small = widen (i * most) figureMost sum (inv .small) (omega arith);
         }
 
     module _ (long : length (f .herds) ≡ 64) (b : i < f .count) (d : Herd) (t : Inputs) (et : t ≡ typedOf (getD (f .herds) i d)) where
@@ -84,7 +84,7 @@ module _ (f : Farm) (accepted : checkFarm f ≡ Accepted) where
           let j : i < length (f .herds) = omega arith in
           let s : FiguresTo most g = rw eg (figures-to t next-sound) in
           record {
-            asks = (widen (i * most) half sum (inv .small) (omega arith), widen most half g s (omega arith));
+            asks = (widen (i * most) figureMost sum (inv .small) (omega arith), widen most figureMost g s (omega arith));
             next = λ r er. record {
               room = inv .room;
               within = omega arith;
@@ -111,10 +111,10 @@ module _ (f : Farm) (k : Checked) (q : k ≡ checkFarm f) where
   unfolding farmAnswer totalsOf
   is-farm-refusal fault at-record sum t e es et = rw (← q, e, et, es)
 
-pub added-small : (f : Farm) (sum : Figures) → Added f sum → FiguresTo half sum
+pub added-small : (f : Farm) (sum : Figures) → Added f sum → FiguresTo figureMost sum
 added-small f sum a = a .small
 
-pub none-small : (sum : Figures) → sum ≡ noFigures → FiguresTo half sum
-none-small sum e = rw e (none-to half)
+pub none-small : (sum : Figures) → sum ≡ noFigures → FiguresTo figureMost sum
+none-small sum e = rw e (none-to figureMost)
 
 pub ruleset farm-answers = (accepted-farm, is-farm-answer, is-farm-refusal, added-small, none-small)

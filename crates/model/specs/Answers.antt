@@ -14,7 +14,7 @@ use Rattle.model.specs.declared.FarmAnswer.{FarmAnswer}
 use Rattle.model.specs.Typed.{typedOf}
 use Rattle.model.specs.Herd.{figuresOf}
 use Rattle.model.specs.Notes.{notesOf, noNotes}
-use Rattle.model.specs.Sums.{plusFigures, noFigures, FiguresTo, half}
+use Rattle.model.specs.Sums.{plusFigures, noFigures, FiguresTo, figureMost}
 use Rattle.model.specs.Totals.{totalsOf}
 
 -- the figures of a herd's record
@@ -38,4 +38,4 @@ farmAnswer f = answerFarm (checkFarm f) f
 -- the sum of all herds' figures, and that it stays small
 pub record Added (f : Farm) (r : Figures) : Type 0 where
   pub is : r ≡ addUp plusFigures herdFigures noFigures (herdsOf f)
-  pub small : FiguresTo half r
+  pub small : FiguresTo figureMost r

@@ -95,8 +95,8 @@ totalsFrom f =
 
 -- what a figure is at most, of a herd or summed over herds, so that up to three of them add up to less than 2 ^ 63 (nh3_nlivestock is the sum
 -- of three); the herds of a farm together stay far below
-abbrev pub half : ℕ
-half = 2 ^ 61
+abbrev pub figureMost : ℕ
+figureMost = 2 ^ 61
 
 pub record ExcretionTo (k : ℕ) (a : Excretion) : Type 0 where
   pub n-excretion : a .«n_excretion» ≤ k

@@ -6,10 +6,10 @@ use flows::Grazing;
 use flows::Housing;
 use flows::Yard;
 ghost use mathlib.Core.Path.{_≡_};
-ghost use Rattle.model.specs.Sums.{ExcretionTo, YardTo, GrazingTo, HousingTo, FiguresTo, half, plusExcretion, plusYard, plusGrazing, plusHousing, plusFigures, noFigures, totalsFrom};
+ghost use Rattle.model.specs.Sums.{ExcretionTo, YardTo, GrazingTo, HousingTo, FiguresTo, figureMost, plusExcretion, plusYard, plusGrazing, plusHousing, plusFigures, noFigures, totalsFrom};
 
 fn plus_excretion(a: Excretion, b: Excretion) -> Excretion
-    requires { ⌜ ExcretionTo half a × ExcretionTo half b ⌝ }
+    requires { ⌜ ExcretionTo figureMost a × ExcretionTo figureMost b ⌝ }
     ensures { λ r. ⌜ r ≡ plusExcretion a b ⌝ }
 {
     Excretion {
@@ -19,7 +19,7 @@ fn plus_excretion(a: Excretion, b: Excretion) -> Excretion
 }
 
 fn plus_yard(a: Yard, b: Yard) -> Yard
-    requires { ⌜ YardTo half a × YardTo half b ⌝ }
+    requires { ⌜ YardTo figureMost a × YardTo figureMost b ⌝ }
     ensures { λ r. ⌜ r ≡ plusYard a b ⌝ }
 {
     Yard {
@@ -32,7 +32,7 @@ fn plus_yard(a: Yard, b: Yard) -> Yard
 }
 
 fn plus_grazing(a: Grazing, b: Grazing) -> Grazing
-    requires { ⌜ GrazingTo half a × GrazingTo half b ⌝ }
+    requires { ⌜ GrazingTo figureMost a × GrazingTo figureMost b ⌝ }
     ensures { λ r. ⌜ r ≡ plusGrazing a b ⌝ }
 {
     Grazing {
@@ -48,7 +48,7 @@ fn plus_grazing(a: Grazing, b: Grazing) -> Grazing
 }
 
 fn plus_housing(a: Housing, b: Housing) -> Housing
-    requires { ⌜ HousingTo half a × HousingTo half b ⌝ }
+    requires { ⌜ HousingTo figureMost a × HousingTo figureMost b ⌝ }
     ensures { λ r. ⌜ r ≡ plusHousing a b ⌝ }
 {
     Housing {
@@ -61,7 +61,7 @@ fn plus_housing(a: Housing, b: Housing) -> Housing
 }
 
 pub fn plus_figures(a: Figures, b: Figures) -> Figures
-    requires { ⌜ FiguresTo half a × FiguresTo half b ⌝ }
+    requires { ⌜ FiguresTo figureMost a × FiguresTo figureMost b ⌝ }
     ensures { λ r. ⌜ r ≡ plusFigures a b ⌝ }
 {
     Figures {
@@ -110,7 +110,7 @@ pub fn no_figures() -> Figures
 
 // 2.1, from the sums of all herds' figures.
 pub fn totals_from(sum: Figures) -> Totals
-    requires { ⌜ FiguresTo half sum ⌝ }
+    requires { ⌜ FiguresTo figureMost sum ⌝ }
     ensures { λ r. ⌜ r ≡ totalsFrom sum ⌝ }
 {
     let e = sum.excretion;

@@ -5,12 +5,12 @@ use native.Mathlib.Omega.{arith}
 use lib.IntN.{natAbs}
 use Rattle.cut.proofs.Signed.{plus-asks, plus-gave}
 use Rattle.flows.specs.declared.Grazing.{Grazing}
-use Rattle.model.specs.Sums.{GrazingTo, half}
+use Rattle.model.specs.Sums.{GrazingTo, figureMost}
 use borrow.Author.Needs.{needs}
 use Rattle.model.proofs.sums.plus_grazing.Statement.{statement}
 use Rattle.model.proofs.sums.plus_grazing.Tie as tie
 
-small : (a b : Grazing) → GrazingTo half a → GrazingTo half b → natAbs (a .«tan_remain_grazing») + natAbs (b .«tan_remain_grazing») < 2 ^ 63
+small : (a b : Grazing) → GrazingTo figureMost a → GrazingTo figureMost b → natAbs (a .«tan_remain_grazing») + natAbs (b .«tan_remain_grazing») < 2 ^ 63
 small a b p q = omega (arith, p .tan-remain-grazing, q .tan-remain-grazing)
 
 add-t3 : tie.Need-add-t3
