@@ -2,11 +2,12 @@
 -- 10 grams for each herd; below zero too. And so for every herd and the totals of a file that is read.
 -- Assumes nothing.
 use Prim.Native.Nat.{ℕ, _*_}
-use mathlib.Core.Path.{_≡_, refl, sym, ap, _∙_, subst}
+use mathlib.Core.Path.{_≡_, refl, sym, ap, _∙_}
 use mathlib.Core.List.{List, [], _∷_, map}
 use lib.ListN.{length, length-map}
 use Rattle.cut.specs.Frac.{Within}
 use Rattle.cut.specs.Total.{Each, none, more}
+use Rattle.cut.proofs.Totals.{each-map}
 use Rattle.farm.specs.declared.Herd.{Herd}
 use Rattle.farm.specs.declared.Farm.{Farm}
 use Rattle.farm.specs.declared.Checked.the-variants.{Accepted}
@@ -63,5 +64,10 @@ demand-3-farm f e t =
 
 -- ---- a file: the farm that is read passes the record checks, so both hold of it
 
-pub demand-3-file : (s : List ℕ) (f : Farm) → readOf s ≡ accepted f → farmAnswer f .checked ≡ Accepted
-demand-3-file s f e = farm-checked f ∙ accepted-passes s f e
+pub demand-3-file-herds : (s : List ℕ) (f : Farm) → readOf s ≡ accepted f
+    → Each (λ h. (n : Name) → Within promised (figure n (herdAnswer h .figures)) (exactFigure n (exactOf (typedOf h)))) (herdsOf f)
+demand-3-file-herds s f e = each-map (λ h p. demand-3-herd h (herd-checked h ∙ p)) (farm-each f (accepted-passes s f e))
+
+pub demand-3-file-totals : (s : List ℕ) (f : Farm) → readOf s ≡ accepted f → (t : TotalName)
+    → Within (promised * length (herdsOf f)) (totalFigure t (farmAnswer f .totals)) (exactOfTotal t (map exactOf (typedHerds f)))
+demand-3-file-totals s f e = demand-3-farm f (farm-checked f ∙ accepted-passes s f e)
