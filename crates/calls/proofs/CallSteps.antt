@@ -1,8 +1,8 @@
 -- The steps of the writing calls, each in the form that a place of the code wants.
 -- Assumes nothing.
-use Prim.Native.Nat.{ℕ, _+_, _*_, _<_, _≤_}
-use mathlib.Core.Path.{_≡_, refl, sym, ap, subst, _∙_}
-use mathlib.Core.List.{List, [], _∷_, map}
+use Prim.Native.Nat.{ℕ, _+_, _*_}
+use mathlib.Core.Path.{_≡_, refl, sym, _∙_}
+use mathlib.Core.List.{List, [], _∷_}
 use native.Mathlib.Omega.{arith}
 use lib.ListN.{length, length-take}
 use Rattle.cut.specs.Total.{addUp, Each, none, more}
@@ -18,17 +18,16 @@ use Rattle.model.specs.declared.HerdAnswer.{HerdAnswer}
 use Rattle.model.specs.declared.FarmAnswer.{FarmAnswer}
 use Rattle.model.specs.Typed.{typedOf}
 use Rattle.model.specs.Sums.{FiguresTo, figureMost, plusFigures, noFigures, totalsFrom}
-use Rattle.model.specs.Totals.{totalsOf}
 use Rattle.model.specs.Answers.{herdFigures, answerHerd, herdAnswer, answerFarm, farmAnswer}
 use Rattle.model.proofs.Sound.{typed-sound}
 use Rattle.model.proofs.Adding.{most, plus-to, widen, none-to, figures-to, totals-of-sum}
 use Rattle.listing.specs.declared.Written.{Written}
-use Rattle.listing.specs.declared.Written.the-variants.{Length, Refused}
+use Rattle.listing.specs.declared.Written.the-variants.{Refused}
 use Rattle.listing.specs.Bounds.{TotalsFit}
 use Rattle.listing.proofs.Fits.{totals-fit}
 use Rattle.listing.specs.Listing.{herdListing, totalsListing}
 use Rattle.listing.specs.Answer.{Answered}
-use Rattle.calls.specs.Listings.{Called, left, said, listingOf, herdCall, totalsCall}
+use Rattle.calls.specs.Listings.{Called, listingOf, herdCall, totalsCall}
 
 -- ---- what an answer is made of
 

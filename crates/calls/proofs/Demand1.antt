@@ -1,8 +1,8 @@
 -- Demand 1: a file of any bytes gets either the farm's figures or exactly one numbered refusal with its record number, always the first that
 -- applies in the written order; a refusal leaves the lent buffer untouched. And any two results that a call's contract allows are equal.
 -- Assumes nothing.
-use Prim.Native.Nat.{ℕ, _≤_, _<_}
-use mathlib.Core.Path.{_≡_, refl, sym, ap, _∙_}
+use Prim.Native.Nat.{ℕ}
+use mathlib.Core.Path.{_≡_, refl, sym, _∙_}
 use mathlib.Core.Bool.{Bool, true, false}
 use mathlib.Core.List.{List, _++_}
 use native.Mathlib.Omega.{arith}

@@ -2,7 +2,7 @@
 -- it keeps the file rules; the listing's bytes are fixed. The rows of 01 that are proved stand as one table in crate `model`, proofs/Edges.
 -- Assumes nothing.
 use Prim.Native.Nat.{ℕ, _≤_}
-use mathlib.Core.Path.{_≡_, refl, sym, ap, _∙_}
+use mathlib.Core.Path.{_≡_}
 use mathlib.Core.Logic.{_↔_}
 use mathlib.Core.List.{List, _++_, map}
 use lib.ListN.{length, drop}

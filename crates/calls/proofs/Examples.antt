@@ -11,8 +11,8 @@ use Rattle.farm.specs.declared.Given.the-variants.{Value}
 use Rattle.farm.specs.declared.Slot.{Slot}
 use Rattle.farm.specs.declared.Herd.{Herd}
 use Rattle.farm.specs.declared.Checked.the-variants.{Accepted}
-use Rattle.reader.specs.Entries.{labelOf}
-use Rattle.reader.specs.Herds.{noSlot}
+use Rattle.farm.specs.Labels.{labelOf}
+use Rattle.farm.specs.Herds.{noSlot}
 use Rattle.reader.specs.Files.{readOf, accepted}
 use Rattle.rules.specs.Rules.{farmOf}
 use Rattle.rules.proofs.Accepts.{accepts-exactly}

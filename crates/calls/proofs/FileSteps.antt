@@ -1,12 +1,11 @@
 -- The steps of the writing calls on a file: a farm that is read passes the record checks, so what the calls on its records give is what the
 -- calls on the file give.
 -- Assumes nothing.
-use Prim.Native.Nat.{ℕ, zero, suc, _+_, _-_, _*_, _<_, _≤_}
-use mathlib.Core.Path.{_≡_, refl, sym, ap, subst, _∙_}
-use mathlib.Core.Bool.{true, false}
-use mathlib.Core.List.{List, [], _∷_, _++_}
+use Prim.Native.Nat.{ℕ, zero, suc, _*_, _<_, _≤_}
+use mathlib.Core.Path.{_≡_, refl, sym, ap, _∙_}
+use mathlib.Core.List.{List, [], _∷_}
 use native.Mathlib.Omega.{arith}
-use lib.ListN.{length, getD, take, length-append, length-replicate, length-take}
+use lib.ListN.{length, getD, length-append, length-replicate, length-take}
 use lib.Seq.{getD-take}
 use borrow.Author.Tests.{lt-ltb, le-ltb, le-leb}
 use mir.Syntax.{w64}
@@ -22,13 +21,12 @@ use Rattle.farm.proofs.Accepts.{farm-count, farm-each}
 use Rattle.reader.specs.declared.FileAnswer.{FileAnswer}
 use Rattle.farm.specs.Herds.{noHerd}
 use Rattle.reader.specs.Files.{readOf, accepted}
-use Rattle.rules.specs.Rules.{farmOf}
 use Rattle.rules.proofs.Accepts.{accepts-exactly}
 use Rattle.rules.proofs.Passing.{accepted-passes}
 use Rattle.listing.specs.declared.Written.{Written}
 use Rattle.listing.specs.declared.Written.the-variants.{Length, Refused}
 use Rattle.listing.specs.Answer.{leaves, answers}
-use Rattle.calls.specs.Listings.{Called, listingOf, herdCall, totalsCall, fileHerdCall, fileTotalsCall}
+use Rattle.calls.specs.Listings.{Called, herdCall, totalsCall, fileHerdCall, fileTotalsCall}
 
 -- what stands past the end does not matter inside a list
 inside : {A : Type 0} (l : List A) (i : ℕ) (d e : A) → i < length l → getD l i d ≡ getD l i e

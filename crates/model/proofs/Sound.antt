@@ -32,7 +32,8 @@ use Rattle.flows.specs.Excretion.{ExcretionIn, «n_excretion_animal», tanFract
 use Rattle.flows.specs.Sound.{EnteredTo, standard, number, SoundRoughage, SoundCattle, Sound, roughage, cattle, pigs}
 use Rattle.flows.proofs.Excreted.{excreted-modest, roughage-grams-le, roughage-fraction-le}
 use Rattle.model.specs.Herd.{FiguresIn, roughageOn, ofRoughage, cattleOn, pigsOn, figuresIn}
-use Rattle.model.specs.Typed.{numberIn, enteredIn, noSlot, givenAt, numberAt, enteredAt, roughageOf, cattleOf, pigsOf, typedAs, typedOf}
+use Rattle.farm.specs.Herds.{noSlot}
+use Rattle.model.specs.Typed.{numberIn, enteredIn, givenAt, numberAt, enteredAt, roughageOf, cattleOf, pigsOf, typedAs, typedOf}
 
 -- ---- a slot
 

@@ -38,10 +38,6 @@ enteredIn Missing = entered.Number 0
 enteredIn Standard = entered.Standard
 enteredIn (Value v) = entered.Number v
 
--- stands for a slot that is not there
-abbrev pub noSlot : Slot
-noSlot = record { given = Missing }
-
 abbrev pub givenAt : Herd → ℕ → Given
 givenAt h place = getD (h .slots) place noSlot .given
 
