@@ -1,11 +1,14 @@
 -- Demand 1: a file of any bytes gets either the farm's figures or exactly one numbered refusal with its record number, always the first that
 -- applies in the written order; a refusal leaves the lent buffer untouched. And any two results that a call's contract allows are equal.
+-- What a call says is told in 01's numbers, by the definitions `says` of crates `farm` and `listing`; what the checks of a record say, by
+-- `herd-says` and `farm-says` of crate `farm`.
 -- Assumes nothing.
-use Prim.Native.Nat.{ℕ}
-use mathlib.Core.Path.{_≡_, refl, sym, _∙_}
+use Prim.Native.Nat.{ℕ, _≤_, _<_}
+use mathlib.Core.Path.{_≡_, refl, sym, ap, _∙_}
 use mathlib.Core.Bool.{Bool, true, false}
 use mathlib.Core.List.{List, _++_}
 use native.Mathlib.Omega.{arith}
+use borrow.Author.Tests.{leb-true, leb-false}
 use lib.Dec.{leb}
 use lib.ListN.{length, drop}
 use Rattle.base.specs.Pick.{pick}
@@ -14,17 +17,21 @@ use Rattle.farm.specs.declared.Fault.{Fault}
 use Rattle.farm.specs.declared.Fault.the-variants.{BufferTooShort}
 use Rattle.farm.specs.declared.Checked.{Checked}
 use Rattle.farm.specs.declared.Checked.the-variants as checks
+use Rattle.farm.specs.Refusals.{number}
+use Rattle.farm.specs.Refusals as found
 use Rattle.reader.specs.declared.FileAnswer.{FileAnswer}
 use Rattle.reader.specs.Files.{readOf, accepted, refused}
-use Rattle.rules.specs.Rules.{KeepsRules}
-use Rattle.rules.specs.Refusals.{First}
+use Rattle.rules.specs.Rules.{KeepsRules, Record}
+use Rattle.rules.specs.Refusals.{First, AppliesAt, too-long, broken, wrong, missing, Applies, not-four-fields, bad-label, not-in-the-list, standard-forbidden, bad-value, earlier-label, no-room-for-herd, other-kind, given-already}
 use Rattle.rules.proofs.Accepts.{accepts-exactly}
-use Rattle.rules.proofs.Refuses.{Outcome, takes, gives, outcome}
+use Rattle.rules.proofs.Refuses.{Outcome, takes, gives as gives-first, outcome}
 use Rattle.rules.proofs.Runs.{answered}
 use Rattle.listing.specs.declared.Written.{Written}
 use Rattle.listing.specs.declared.Written.the-variants.{Length, Refused}
-use Rattle.listing.specs.Answer.{leaves, answers}
+use Rattle.listing.specs.Answer.{leaves, answers, Says, gives, refuses, says}
 use Rattle.calls.specs.Listings.{Call, Called, left, said}
+
+-- ---- a file
 
 -- what a file gets: the farm that it says, by the rules; or the first refusal in the written order
 pub data Gets (s : List ℕ) : FileAnswer → Type 0 where
@@ -36,21 +43,76 @@ demand-1 s = by (readOf s) refl (outcome (answered s))
   where
     by : (x : FileAnswer) → readOf s ≡ x → Outcome s x → Gets s x
     by x e (takes {f = f} none) = farm (accepts-exactly s f .0 e)
-    by x e (gives first) = refusal first
+    by x e (gives-first r) = refusal r
 
--- a call that answers with a refusal, 13 too, leaves the buffer as it was
-fits-or-not : (listing old : List ℕ) (t : Bool) (fault : Fault) (n : ℕ) → pick t (Length (length listing)) (Refused BufferTooShort 0) ≡ Refused fault n
+-- and what is said of it
+pub data FileSays (s : List ℕ) : found.Says → Type 0 where
+  fine : {f : Farm} → KeepsRules s f → FileSays s found.accepts
+  first : {n : ℕ} {fault : Fault} → First s n fault → FileSays s (found.refuses (number fault) n)
+
+pub demand-1-says : (s : List ℕ) → FileSays s (found.says (readOf s .checked))
+demand-1-says s = by (demand-1 s)
+  where
+    by : {a : FileAnswer} → Gets s a → FileSays s (found.says (a .checked))
+    by (farm keeps) = fine keeps
+    by (refusal r) = first r
+
+-- 01: "13 belongs to the writing calls alone"
+of-a-record : {before : List Record} {cs : Record} {fault : Fault} → Applies before cs fault → number fault < 13
+of-a-record (not-four-fields a) = omega arith
+of-a-record (bad-label a) = omega arith
+of-a-record (not-in-the-list a) = omega arith
+of-a-record (standard-forbidden a b c) = omega arith
+of-a-record (bad-value a b) = omega arith
+of-a-record (earlier-label a b) = omega arith
+of-a-record (no-room-for-herd a b) = omega arith
+of-a-record (other-kind a b c d e) = omega arith
+of-a-record (given-already a b) = omega arith
+
+of-a-file : {s : List ℕ} {n : ℕ} {fault : Fault} → AppliesAt s n fault → number fault < 13
+of-a-file (too-long a) = omega arith
+of-a-file (broken a) = omega arith
+of-a-file (wrong a b) = of-a-record b
+of-a-file (missing before cs after a b) = omega arith
+
+pub never-13 : {s : List ℕ} {n : ℕ} {fault : Fault} → First s n fault → number fault < 13
+never-13 r = of-a-file (r .applies)
+
+-- ---- a writing call
+
+-- what it says: the listing's length; what its checks or reading refuse; 13 only where they find nothing
+pub data CallSays (c : Call) (old : List ℕ) : Says → Type 0 where
+  listed : found.says (c .checked) ≡ found.accepts → length (c .listing) ≤ length old → CallSays c old (gives (length (c .listing)))
+  too-short : found.says (c .checked) ≡ found.accepts → length old < length (c .listing) → CallSays c old (refuses 13 0)
+  as-found : {k n : ℕ} → found.says (c .checked) ≡ found.refuses k n → CallSays c old (refuses k n)
+
+module _ (c : Call) (old : List ℕ) where
+  by-room : found.says (c .checked) ≡ found.accepts → (t : Bool) → leb (length (c .listing)) (length old) ≡ t
+      → CallSays c old (says (pick t (Length (length (c .listing))) (Refused BufferTooShort 0)))
+  by-room a true e = listed a (leb-true _ _ e)
+  by-room a false e = too-short a (leb-false _ _ e)
+
+  by-finding : (k : Checked) → c .checked ≡ k → CallSays c old (says (said k (c .listing) old))
+  unfolding answers
+  by-finding checks.Accepted e = by-room (ap found.says e) (leb (length (c .listing)) (length old)) refl
+  by-finding (checks.Refused fault n) e = as-found (ap found.says e)
+
+pub call-says : {c : Call} {old new : List ℕ} {r : Written} → Called c old new r → CallSays c old (says r)
+call-says {c} {old} w = rw (w .answer) (by-finding c old (c .checked) refl)
+
+-- one that says a refusal, 13 too, leaves the buffer as it was
+fits-or-not : (listing old : List ℕ) (t : Bool) (k n : ℕ) → says (pick t (Length (length listing)) (Refused BufferTooShort 0)) ≡ refuses k n
     → pick t (listing ++ drop (length listing) old) old ≡ old
-fits-or-not listing old true fault n e = let z : _≡_ {A = ℕ} 0 1 = cc in absurd (omega arith)
-fits-or-not listing old false fault n e = refl
+fits-or-not listing old true k n e = let z : _≡_ {A = ℕ} 0 1 = cc in absurd (omega arith)
+fits-or-not listing old false k n e = refl
 
-by-checks : (k : Checked) (listing old : List ℕ) (fault : Fault) (n : ℕ) → said k listing old ≡ Refused fault n → left k listing old ≡ old
+by-checks : (c : Checked) (listing old : List ℕ) (k n : ℕ) → says (said c listing old) ≡ refuses k n → left c listing old ≡ old
 unfolding leaves answers
-by-checks checks.Accepted listing old fault n e = fits-or-not listing old (leb (length listing) (length old)) fault n e
-by-checks (checks.Refused f m) listing old fault n e = refl
+by-checks checks.Accepted listing old k n e = fits-or-not listing old (leb (length listing) (length old)) k n e
+by-checks (checks.Refused f m) listing old k n e = refl
 
-pub refusal-leaves : {c : Call} {old new : List ℕ} {r : Written} (fault : Fault) (n : ℕ) → Called c old new r → r ≡ Refused fault n → new ≡ old
-refusal-leaves {c} {old} {new} {r} fault n w e = w .buffer ∙ by-checks (c .checked) (c .listing) old fault n (sym (w .answer) ∙ e)
+pub refusal-leaves : {c : Call} {old new : List ℕ} {r : Written} (k n : ℕ) → Called c old new r → says r ≡ refuses k n → new ≡ old
+refusal-leaves {c} {old} {new} {r} k n w e = w .buffer ∙ by-checks (c .checked) (c .listing) old k n (sym (ap says (w .answer)) ∙ e)
 
 -- any two results that a writing call's contract allows are equal, and so are the bytes that it leaves; every other call's contract says
 -- what its result is
