@@ -3,3 +3,4 @@ pub mod Picks
 pub mod Parts
 pub mod Writes
 pub mod Table
+pub mod Clash

@@ -12,6 +12,7 @@ use borrow.Author.Tests.{leb-true, leb-false}
 use lib.Dec.{leb}
 use lib.ListN.{length, drop}
 use Rattle.base.specs.Pick.{pick}
+use Rattle.base.proofs.Clash.{clash}
 use Rattle.farm.specs.declared.Farm.{Farm}
 use Rattle.farm.specs.declared.Fault.{Fault}
 use Rattle.farm.specs.declared.Fault.the-variants.{BufferTooShort}
@@ -103,7 +104,7 @@ call-says {c} {old} w = rw (w .answer) (by-finding c old (c .checked) refl)
 -- one that says a refusal, 13 too, leaves the buffer as it was
 fits-or-not : (listing old : List ℕ) (t : Bool) (k n : ℕ) → says (pick t (Length (length listing)) (Refused BufferTooShort 0)) ≡ refuses k n
     → pick t (listing ++ drop (length listing) old) old ≡ old
-fits-or-not listing old true k n e = let z : _≡_ {A = ℕ} 0 1 = cc in absurd (omega arith)
+fits-or-not listing old true k n e = clash cc
 fits-or-not listing old false k n e = refl
 
 by-checks : (c : Checked) (listing old : List ℕ) (k n : ℕ) → says (said c listing old) ≡ refuses k n → left c listing old ≡ old

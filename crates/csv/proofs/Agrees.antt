@@ -6,6 +6,7 @@ use mathlib.Core.Path.{_≡_, refl, ap, _∙_}
 use lib.ListN.{length, length-append}
 use native.Mathlib.Omega.{arith}
 use borrow.Author.Tests.{ne-eqb}
+use Rattle.base.proofs.Clash.{clash}
 use Rattle.csv.specs.Grammar.{comma, quote, cr, lf, Text, Plain, Inside, FieldOf, RecordOf, Front}
 use Rattle.csv.specs.Reading.{Row, row, withByte, withField, plainByte, atStart, inPlain, inQuotes, pastQuote, pastCR}
 use Rattle.csv.proofs.Cases.{by-test}
@@ -199,7 +200,7 @@ front-begins (Front.last r n) = rw append-nil at (record-begins r After.end)
 
 -- what is read at the front of some bytes is a record of the grammar
 pub read-stands : (b : ℕ) (u : List ℕ) {c v : List ℕ} {cs : List (List ℕ)} → atStart (b ∷ u) ≡ row c cs v → Front (c ∷ cs) (b ∷ u) v
-read-stands b u {c} {v} {cs} e = begins-front (got (rw e at (start-sound (b ∷ u)))) (λ d. let z : _≡_ {A = ℕ} 0 1 = cc in omega arith)
+read-stands b u {c} {v} {cs} e = begins-front (got (rw e at (start-sound (b ∷ u)))) (λ d. clash cc)
   where
     got : Sound Begins (b ∷ u) (row c cs v) → Begins (c ∷ cs) (b ∷ u) v
     got (reads x) = x

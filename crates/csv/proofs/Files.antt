@@ -5,6 +5,7 @@ use mathlib.Core.List.{List, [], _∷_}
 use mathlib.Core.Path.{_≡_, refl, sym, ap, _∙_}
 use lib.ListN.{length}
 use native.Mathlib.Omega.{arith}
+use Rattle.base.proofs.Clash.{clash}
 use Rattle.csv.specs.Grammar.{FileOf, Front, Before, Breaks}
 use Rattle.csv.specs.Reading.{Row, row, atStart, Reading, _then_, end, whole, brokenAfter, readingFrom, readingOf}
 use Rattle.csv.proofs.Agrees.{Read, as-row, read-stands, stands-read, left-shorter}
@@ -63,7 +64,7 @@ pub record Begun (cs : List (List ℕ)) (X : Reading) (s : List ℕ) : Type 0 wh
   pub rest : readingOf left ≡ X
 
 pub begun : (s : List ℕ) {cs : List (List ℕ)} {X : Reading} → readingOf s ≡ cs then X → Begun cs X s
-begun [] {cs} {X} e = let d : end ≡ cs then X = sym reading-none ∙ e in let z : _≡_ {A = ℕ} 0 1 = cc in absurd (omega arith)
+begun [] {cs} {X} e = let d : end ≡ cs then X = sym reading-none ∙ e in clash cc
 begun (b ∷ u) {cs} {X} e = go (atStart (b ∷ u)) refl
   where
     go : (R : Row) → atStart (b ∷ u) ≡ R → Begun cs X (b ∷ u)
@@ -73,7 +74,7 @@ begun (b ∷ u) {cs} {X} e = go (atStart (b ∷ u)) refl
         record { left = v; stands = rw h at (read-stands b u q); rest = cc }
     go Row.broken q =
         let d : Reading.broken ≡ (cs then X) = sym (reading-broken b u q) ∙ e in
-        let z : _≡_ {A = ℕ} 0 1 = cc in absurd (omega arith)
+        clash cc
 
 nothing-left : (s : List ℕ) → readingOf s ≡ end → s ≡ []
 nothing-left [] e = refl
@@ -82,14 +83,14 @@ nothing-left (b ∷ u) e = go (atStart (b ∷ u)) refl
     go : (R : Row) → atStart (b ∷ u) ≡ R → b ∷ u ≡ []
     go (row c ds v) q =
         let d : ((c ∷ ds) then readingOf v) ≡ end = sym (reading-row b u q) ∙ e in
-        let z : _≡_ {A = ℕ} 0 1 = cc in absurd (omega arith)
+        clash cc
     go Row.broken q =
         let d : Reading.broken ≡ end = sym (reading-broken b u q) ∙ e in
-        let z : _≡_ {A = ℕ} 0 1 = cc in absurd (omega arith)
+        clash cc
 
 none-left : (rs : List (List (List ℕ))) → readingOf [] ≡ whole rs → rs ≡ []
 none-left [] e = refl
-none-left (cs ∷ rs) e = let d : end ≡ (cs then whole rs) = sym reading-none ∙ e in let z : _≡_ {A = ℕ} 0 1 = cc in absurd (omega arith)
+none-left (cs ∷ rs) e = let d : end ≡ (cs then whole rs) = sym reading-none ∙ e in clash cc
 
 -- a file that is read through is one of the grammar, of the records read
 pub read-file : (rs : List (List (List ℕ))) (s : List ℕ) → readingOf s ≡ whole rs → FileOf rs s
@@ -114,14 +115,14 @@ none-broken (b ∷ u) some none = go (atStart (b ∷ u)) refl
 broken-none : (s : List ℕ) → readingOf s ≡ Reading.broken → (cs : List (List ℕ)) (v : List ℕ) → Front cs s v → ⊥
 broken-none s e cs v f =
     let d : Reading.broken ≡ (cs then readingOf v) = sym e ∙ reading-front f in
-    let z : _≡_ {A = ℕ} 0 1 = cc in omega arith
+    clash cc
 
 not-empty : (rs : List (List (List ℕ))) (s : List ℕ) → readingOf s ≡ brokenAfter rs → s ≡ [] → ⊥
 not-empty rs s e d = go rs (sym reading-none ∙ ap readingOf (sym d) ∙ e)
   where
     go : (rs : List (List (List ℕ))) → end ≡ brokenAfter rs → ⊥
-    go [] e = let z : _≡_ {A = ℕ} 0 1 = cc in omega arith
-    go (cs ∷ rs) e = let z : _≡_ {A = ℕ} 0 1 = cc in omega arith
+    go [] e = clash cc
+    go (cs ∷ rs) e = clash cc
 
 -- a file whose reading breaks after some records breaks so by the grammar, and the other way round
 pub read-breaks : (rs : List (List (List ℕ))) (s : List ℕ) → readingOf s ≡ brokenAfter rs → Breaks rs s
@@ -144,8 +145,8 @@ breaks-read rs s b = go (b .before) (none-broken (b .left) (b .bytes-left) (b .n
 -- a reading tells the records
 pub whole-one : (rs rs′ : List (List (List ℕ))) → whole rs ≡ whole rs′ → rs ≡ rs′
 whole-one [] [] e = refl
-whole-one [] (cs ∷ rs′) e = let z : _≡_ {A = ℕ} 0 1 = cc in absurd (omega arith)
-whole-one (cs ∷ rs) [] e = let z : _≡_ {A = ℕ} 0 1 = cc in absurd (omega arith)
+whole-one [] (cs ∷ rs′) e = clash cc
+whole-one (cs ∷ rs) [] e = clash cc
 whole-one (cs ∷ rs) (ds ∷ rs′) e =
     let h : cs ≡ ds = cc in
     let t : rs ≡ rs′ = whole-one rs rs′ (cc) in

@@ -7,6 +7,7 @@ use mathlib.Core.Path.{_≡_, refl, sym, ap, _∙_}
 use lib.ListN.{length, drop}
 use native.Mathlib.Omega.{arith}
 use Rattle.base.proofs.Rest.{rest-end}
+use Rattle.base.proofs.Clash.{clash}
 use Rattle.csv.specs.declared.Fields.{Fields}
 use Rattle.csv.specs.declared.ReaderPlace.{ReaderPlace}
 use Rattle.csv.specs.declared.Step.{Step}
@@ -36,7 +37,7 @@ module _ (s : List ℕ) (at : ℕ) where
   not-broken e f = go (stands-read f) e
     where
       go : {cs : List (List ℕ)} {u v : List ℕ} → Read u v cs → atStart u ≡ Row.broken → ⊥
-      go (as-row d) e = let z : _≡_ {A = ℕ} 0 1 = cc in omega arith
+      go (as-row d) e = clash cc
 
   not-ended : {cs : List (List ℕ)} {v : List ℕ} → length s ≤ at → Front cs (drop at s) v → ⊥
   not-ended l f = omega (arith, left-shorter f, ap length (rest-end s at l))

@@ -14,7 +14,7 @@ use borrow.Author.Tests.{ne-eqb, le-leb, le-ltb, ltb-false, leb-true, eqb-true, 
 use Rattle.base.specs.Pick.{pick}
 use Rattle.decimal.specs.declared.Number.{Number}
 use Rattle.decimal.specs.declared.Number.the-variants.{Value, Unreadable}
-use Rattle.decimal.specs.Numbers.{Digit, Digits, Whole, IsNumber, valueFrom, value}
+use Rattle.decimal.specs.Numbers.{Digit, Digits, Whole, IsNumber, valueFrom}
 use Rattle.decimal.specs.Reading.{if-digit_then_, more, fractionFrom, pointFrom, wholeFrom, zeroFrom, readOf, upTo, numberOf}
 use Rattle.decimal.proofs.Steps.{unequal}
 

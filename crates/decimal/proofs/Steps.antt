@@ -11,12 +11,13 @@ use native.Mathlib.Nat.{one-le-pow, pow-succ', mul-assoc, mul-one, le-mul-of-pos
 use borrow.Author.Tests.{eq-eqb, ne-eqb, le-leb, lt-leb, lt-ltb, le-ltb, ltb-false, leb-true, leb-false}
 use Rattle.base.specs.Pick.{pick}
 use Rattle.base.proofs.Rest.{rest-at, rest-end}
+use Rattle.base.proofs.Clash.{clash}
 use Rattle.decimal.specs.declared.Number.{Number}
 use Rattle.decimal.specs.declared.Number.the-variants.{Value, Unreadable}
 use Rattle.decimal.specs.Reading.{if-digit_then_, more, withDigit, scaledBy, fractionFrom, pointFrom, wholeFrom, zeroFrom, readOf, upTo, numberOf}
 
 pub unequal : (v : ℕ) → Unreadable ≡ Value v → ⊥
-unequal v e = let z : _≡_ {A = ℕ} 0 1 = cc in omega arith
+unequal v e = clash cc
 
 -- the tests of `with_digit`
 module _ (m v b : ℕ) where

@@ -1,13 +1,13 @@
 -- The checks of a record accept exactly what specs/Accepts.antt describes, and refuse by 01's numbers for a record, with record 0.
 -- Assumes nothing.
-use Prim.Native.Nat.{ℕ, _≤_}
+use Prim.Native.Nat.{_≤_}
 use mathlib.Core.Path.{_≡_, refl}
 use mathlib.Core.Bool.{Bool, true, false, not, _||_}
 use mathlib.Core.List.{List, [], _∷_, _++_}
-use native.Mathlib.Omega.{arith}
 use borrow.Author.Tests.{ltb-false, le-ltb, not-false}
 use Rattle.base.specs.Pick.{pick}
 use Rattle.base.specs.First.{Line, _when_, first}
+use Rattle.base.proofs.Clash.{clash}
 use Rattle.cut.specs.Total.{Each, none, more}
 use Rattle.cut.proofs.Totals.{each-of, each-map}
 use Rattle.inputs.specs.Inputs.{Row, rowsOf}
@@ -38,7 +38,7 @@ negated a e = rw e
 
 passing : (rows : List Row) (slots : List Slot) → lacksOne rows slots ≡ false → unfitOne rows slots ≡ false → Passes rows slots
 passing [] slots l u = Passes.none
-passing (row ∷ rows) [] l u = let z : _≡_ {A = ℕ} 0 1 = cc in absurd (omega arith)
+passing (row ∷ rows) [] l u = clash cc
 passing (row ∷ rows) (s ∷ slots) l u =
     let m = neither (isMissing (s .given)) (lacksOne rows slots) l in
     let f = neither (not (fits (row .form) (s .given))) (unfitOne rows slots) u in

@@ -2,10 +2,10 @@
 use Prim.Native.Nat.{ℕ}
 use mathlib.Core.Path.{_≡_, refl, ap}
 use mathlib.Core.Bool.{Bool, true, false}
-use native.Mathlib.Omega.{arith}
 use mathlib.Core.List.{List, [], _∷_, _++_}
 use Rattle.base.specs.Pick.{pick}
 use Rattle.base.specs.First.{Line, _when_, first}
+use Rattle.base.proofs.Clash.{clash}
 use Rattle.cut.specs.Total.{Each, none, more}
 use Rattle.farm.specs.declared.Fault.{Fault}
 use Rattle.farm.specs.declared.Checked.{Checked}
@@ -35,7 +35,7 @@ accepted-quiet none e = none
 accepted-quiet (more {l = ls} (refusing {fault} {place} {t}) rs) e = go t e (accepted-quiet rs)
   where
     go : (t : Bool) → pick t (Refused fault place) (first ls Accepted) ≡ Accepted → (first ls Accepted ≡ Accepted → Quiet ls) → Quiet (Refused fault place when t ∷ ls)
-    go true h rest = let z : _≡_ {A = ℕ} 0 1 = cc in absurd (omega arith)
+    go true h rest = clash cc
     go false h rest = more refl (rest h)
 
 -- and a refusal is given whatever stands behind them

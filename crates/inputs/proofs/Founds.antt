@@ -2,7 +2,7 @@
 use Prim.Native.Nat.{ℕ, suc, _+_, _<_}
 use Prim.Native.String.{String}
 use mathlib.Core.Path.{_≡_, refl, sym, subst}
-use mathlib.Core.Bool.{Bool, true, false, _&&_}
+use mathlib.Core.Bool.{Bool, true, false}
 use mathlib.Core.List.{List, [], _∷_, map}
 use native.Mathlib.Omega.{arith}
 use lib.Dec.{eqb}
@@ -11,6 +11,7 @@ use borrow.Author.Tests.{eqb-true}
 use Rattle.base.specs.Pick.{pick}
 use Rattle.base.specs.Text.{bytes}
 use Rattle.base.specs.Part.{sameBytes}
+use Rattle.base.proofs.Clash.{clash}
 use Rattle.inputs.specs.declared.Form.{Form}
 use Rattle.inputs.specs.declared.Form.the-variants.{OneOf}
 use Rattle.inputs.specs.declared.Found.the-variants.{At}
@@ -42,7 +43,7 @@ record Seen {A : Type 0} (test : A → Bool) (l : List A) (d : A) (i j : ℕ) : 
 
 seen : {A : Type 0} (test : A → Bool) (l : List A) (d : A) (i j : ℕ) → firstFrom test i l ≡ At j → Seen test l d i j
 unfolding firstFrom
-seen test [] d i j e = let z : _≡_ {A = ℕ} 0 1 = cc in absurd (omega arith)
+seen test [] d i j e = clash cc
 seen {A} test (x ∷ l) d i j e = go (test x) refl e (seen test l d (i + 1) j)
   where
     go : (t : Bool) → test x ≡ t → pick t (At i) (firstFrom test (i + 1) l) ≡ At j → (firstFrom test (i + 1) l ≡ At j → Seen test l d (i + 1) j) → Seen test (x ∷ l) d i j

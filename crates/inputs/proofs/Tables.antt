@@ -7,11 +7,12 @@ use mathlib.Core.List.{List, [], _∷_, map}
 use native.Mathlib.Nat.{le-of-suc-le-suc, not-suc-le-zero}
 use native.Mathlib.Omega.{arith}
 use lib.ListN.{length, getD}
+use Rattle.base.proofs.Clash.{clash}
 
 -- where f and g give two lists the same, so they give the two entries at a place
 pub entry : {A B C : Type 0} (f : A → C) (g : B → C) (xs : List A) (ys : List B) (d : A) (e : B) → map f xs ≡ map g ys → (k : ℕ) → k < length ys → f (getD xs k d) ≡ g (getD ys k e)
 entry f g xs [] d e h k b = absurd (not-suc-le-zero b)
-entry f g [] (y ∷ ys) d e h k b = let z : _≡_ {A = ℕ} 0 1 = cc in absurd (omega arith)
+entry f g [] (y ∷ ys) d e h k b = clash cc
 entry f g (x ∷ xs) (y ∷ ys) d e h zero b = cc
 entry f g (x ∷ xs) (y ∷ ys) d e h (suc k) b = let t : map f xs ≡ map g ys = cc in entry f g xs ys d e t k (le-of-suc-le-suc b)
 

@@ -10,6 +10,7 @@ use lib.Dec.{ltb, leb, eqb}
 use lib.IntN.{ℤ, pos, negsuc, natAbs}
 use Rattle.base.specs.Pick.{pick}
 use Rattle.base.specs.Text.{bytes}
+use Rattle.base.proofs.Clash.{clash}
 use Rattle.csv.specs.Grammar.{comma, quote, cr, lf, Text, Plain, Inside, FieldOf, RecordOf, FileOf}
 use Rattle.decimal.specs.Writing.{lowest, width, wholeOf, thousandthsOf, sign, kilogramsOf}
 use Rattle.inputs.specs.declared.Kind.{Kind}
@@ -142,7 +143,7 @@ unfolding hasComma
 comma-free b s e = go (eqb b comma) (hasComma s) refl e
   where
     go : (t u : Bool) → eqb b comma ≡ t → pick t true u ≡ false → (b ≡ comma → ⊥) × (u ≡ false)
-    go true u h e = let z : _≡_ {A = ℕ} 0 1 = cc in absurd (omega arith)
+    go true u h e = clash cc
     go false u h e = (eqb-false b comma h, e)
 
 unquoted : (s : List ℕ) → allOk s ≡ true → hasComma s ≡ false → Plain s

@@ -8,6 +8,7 @@ use lib.Dec.{ltb}
 use mir.Syntax.{w64}
 use mir.Val.{Fits}
 use borrow.Author.Tests.{lt-ltb, le-ltb}
+use Rattle.base.proofs.Clash.{clash}
 use Rattle.cut.proofs.Products.{mul-fits}
 use Rattle.tables.specs.Standards.{standardOf}
 use Rattle.tables.proofs.Standards.{standard-most}
@@ -27,7 +28,7 @@ use Rattle.model.specs.Notes.{offStandard, offShare, shareLowered, rough
 -- a number that was entered is in range
 pub entered-most : (m : ℕ) (e : Entered) (n : ℕ) → EnteredTo m e → e ≡ Number n → n ≤ m
 entered-most m (Number k) n (number h) q = let w : k ≡ n = cc in omega arith
-entered-most m Standard n standard q = let z : _≡_ {A = ℕ} 0 1 = cc in absurd (omega arith)
+entered-most m Standard n standard q = clash cc
 
 -- the products of the comparison fit
 pub entered-fits : (k : ℕ) (e : Entered) (grams : ℕ) → k ≤ 13 → EnteredTo mostGrams e → e ≡ Number grams → Fits w64 (k * grams)

@@ -11,8 +11,8 @@ use Rattle.inputs.specs.declared.Kind.the-variants as kinds
 use Rattle.inputs.specs.Inputs.{Row, rowsOf}
 use Rattle.farm.specs.declared.Given.{Given}
 use Rattle.farm.specs.declared.Given.the-variants.{Missing, Standard, Value}
-use Rattle.farm.specs.declared.Slot.{Slot}
 use Rattle.farm.specs.declared.Herd.{Herd}
+use Rattle.farm.specs.Herds.{noSlot}
 use Rattle.flows.specs.declared.Entered.{Entered}
 use Rattle.flows.specs.declared.Entered.the-variants as entered
 use Rattle.flows.specs.declared.ExerciseYard.{ExerciseYard}

@@ -3,9 +3,9 @@ use Prim.Native.Nat.{ℕ}
 use mathlib.Core.Path.{_≡_, sym, ap, subst, _∙_}
 use mathlib.Core.Logic.{_↔_}
 use mathlib.Core.List.{List}
-use native.Mathlib.Omega.{arith}
 use lib.ListN.{length}
 use borrow.Author.Tests.{le-ltb}
+use Rattle.base.proofs.Clash.{clash}
 use Rattle.csv.specs.Reading.{readingOf}
 use Rattle.csv.proofs.Files.{read-file, file-read}
 use Rattle.farm.specs.declared.Farm.{Farm}
@@ -28,10 +28,10 @@ keeps {s} {x} {f} (read short r) e = go r e
           reads = read-file rs s (w ∙ sym (whole-thens rs));
           says = subst (λ (y : Farm). FarmOf rs y) (ap (λ (a : FileAnswer). a .farm) e) says;
         }
-    go (breaks _ _ _) e = let c = ap (λ (a : FileAnswer). a .checked) e in let z : _≡_ {A = ℕ} 0 1 = cc in absurd (omega arith)
-    go (wrong _ _ _ _ _ _ _) e = let c = ap (λ (a : FileAnswer). a .checked) e in let z : _≡_ {A = ℕ} 0 1 = cc in absurd (omega arith)
-    go (missing _ _ _ _ _ _ _) e = let c = ap (λ (a : FileAnswer). a .checked) e in let z : _≡_ {A = ℕ} 0 1 = cc in absurd (omega arith)
-keeps (too-long _) e = let c = ap (λ (a : FileAnswer). a .checked) e in let z : _≡_ {A = ℕ} 0 1 = cc in absurd (omega arith)
+    go (breaks _ _ _) e = let c = ap (λ (a : FileAnswer). a .checked) e in clash cc
+    go (wrong _ _ _ _ _ _ _) e = let c = ap (λ (a : FileAnswer). a .checked) e in clash cc
+    go (missing _ _ _ _ _ _ _) e = let c = ap (λ (a : FileAnswer). a .checked) e in clash cc
+keeps (too-long _) e = let c = ap (λ (a : FileAnswer). a .checked) e in clash cc
 
 -- what keeps the rules is accepted
 accepted-so : {s : List ℕ} {f : Farm} → KeepsRules s f → readOf s ≡ accepted f

@@ -8,6 +8,7 @@ use lib.Dec.{eqb}
 use lib.ListN.{length, getD}
 use borrow.Author.Tests.{eqb-true, eqb-false}
 use Rattle.base.specs.First.{first}
+use Rattle.base.proofs.Clash.{clash}
 use Rattle.csv.specs.Reading.{partsOf}
 use Rattle.inputs.specs.declared.Found.{Found}
 use Rattle.inputs.specs.declared.Found.the-variants.{At, Nowhere}
@@ -115,14 +116,14 @@ module _ (before : List Record) (cs : Record) where
           → NoneBelow before cs 6 → (r : Said) → valueOf (formAt i) (valueIn cs) ≡ r → Alone before cs
       value {i} h e3 good e4 names e5 below (Is g) e =
           let v = said-value (formAt i) (valueIn cs) e in
-          tells (four cs h good names v) (none-next 7 (none-next 6 below (no-6 names e (λ d. let z : _≡_ {A = ℕ} 0 1 = cc in omega arith))) (no-7 names v))
+          tells (four cs h good names v) (none-next 7 (none-next 6 below (no-6 names e (λ d. clash cc))) (no-7 names v))
       value {i} h e3 good e4 names e5 below Forbidden e =
           let f = said-forbidden (formAt i) (valueIn cs) e in
           wrong (standard-forbidden names (f .0) (f .1)) below (λ n z. rw (e3, e4, e5, e))
       value {i} h e3 good e4 names e5 below Unfit e =
           wrong
-          (bad-value names (λ g v. let s = value-said i (names .inside) (formAt i) refl v in let z : _≡_ {A = ℕ} 0 1 = cc in omega arith))
-          (none-next 6 below (no-6 names e (λ d. let z : _≡_ {A = ℕ} 0 1 = cc in omega arith)))
+          (bad-value names (λ g v. let s = value-said i (names .inside) (formAt i) refl v in clash cc))
+          (none-next 6 below (no-6 names e (λ d. clash cc)))
           (λ n z. rw (e3, e4, e5, e))
 
       input : length cs ≡ 4 → eqb (length cs) 4 ≡ true → GoodLabel (labelIn cs) → labelOk (labelOf (labelIn cs)) ≡ true → NoneBelow before cs 5
@@ -132,7 +133,7 @@ module _ (before : List Record) (cs : Record) where
           value h e3 good e4 names e (none-next 5 below (no-5 names)) (valueOf (formAt i) (valueIn cs)) refl
       input h e3 good e4 below Nowhere e =
           wrong
-          (not-in-the-list (λ i names. let f = named-found names in let z : _≡_ {A = ℕ} 0 1 = cc in omega arith))
+          (not-in-the-list (λ i names. let f = named-found names in clash cc))
           below
           (λ n z. rw (e3, e4, e))
 
@@ -141,7 +142,7 @@ module _ (before : List Record) (cs : Record) where
           let good = ok-good (labelIn cs) e in
           input h e3 good e (none-next 4 below (no-4 good)) (findInput (getD cs 1 []) (getD cs 2 [])) refl
       label h e3 below false e =
-          wrong (bad-label (λ good. let g = good-ok (labelIn cs) good in let z : _≡_ {A = ℕ} 0 1 = cc in omega arith)) below (λ n z. rw (e3, e))
+          wrong (bad-label (λ good. let g = good-ok (labelIn cs) good in clash cc)) below (λ n z. rw (e3, e))
 
       count : (t : Bool) → eqb (length cs) 4 ≡ t → Alone before cs
       count true e = let h = eqb-true (length cs) 4 e in label h e (none-next 3 none-yet (no-3 h)) (labelOk (labelOf (labelIn cs))) refl

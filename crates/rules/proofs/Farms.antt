@@ -10,6 +10,7 @@ use lib.Seq.{set-append-seam, take-append-seam}
 use borrow.Author.Tests.{ne-eqb}
 use Rattle.base.specs.Pick.{pick}
 use Rattle.base.specs.First.{Line, _when_, first}
+use Rattle.base.proofs.Clash.{clash}
 use Rattle.cut.specs.Total.{Each, none, more}
 use Rattle.csv.specs.Reading.{partsOf}
 use Rattle.inputs.specs.Inputs.{kindAt}
@@ -131,7 +132,7 @@ module _ {l : List ℕ} (good : GoodLabel l) where
     pub not-own : sameLabel (h .label) (labelOf l) ≡ false → h .label ≡ labelOf l → ⊥
     not-own e d =
         let t : false ≡ true = sym e ∙ ap (λ (y : Label). sameLabel y (labelOf l)) d ∙ own-label good in
-        let z : _≡_ {A = ℕ} 0 1 = cc in omega arith
+        clash cc
 
   pub no-earlier : {hs : List Herd} → Each Labelled hs → Each (λ h. h .label ≡ labelOf l → ⊥) hs → earlierLabel hs (labelOf l) ≡ false
   unfolding earlierLabel
@@ -147,7 +148,7 @@ module _ {l : List ℕ} (good : GoodLabel l) where
 
   pub earlier-some : (hs : List Herd) → Each Labelled hs → earlierLabel hs (labelOf l) ≡ true → Some (λ h. h .label ≡ labelOf l) hs
   unfolding earlierLabel
-  earlier-some [] none e = let z : _≡_ {A = ℕ} 0 1 = cc in absurd (omega arith)
+  earlier-some [] none e = clash cc
   earlier-some (h ∷ hs) (more x xs) e = go (sameLabel (h .label) (labelOf l)) refl e (earlier-some hs xs)
     where
       go : (t : Bool) → sameLabel (h .label) (labelOf l) ≡ t → (t || earlierLabel hs (labelOf l)) ≡ true → (earlierLabel hs (labelOf l) ≡ true → Some (λ h. h .label ≡ labelOf l) hs)

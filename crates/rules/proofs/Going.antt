@@ -11,6 +11,7 @@ use lib.ListN.{length, length-append}
 use borrow.Author.Tests.{ne-eqb, leb-true, leb-false, not-false}
 use Rattle.base.specs.Pick.{pick}
 use Rattle.base.specs.First.{first}
+use Rattle.base.proofs.Clash.{clash}
 use Rattle.cut.specs.Total.{Each, none, more}
 use Rattle.csv.specs.Reading.{partsOf}
 use Rattle.inputs.specs.Inputs.{kindAt}
@@ -170,7 +171,7 @@ module _ {a b : List Record} {hs : List Herd} {h : Herd} {k : ℕ} (st : Stand P
           go (inl s) = given-already (rd .names) (some-back a (some-left of-it (pt .each) s))
           go (inr n) =
               let m : false ≡ true = ap (λ (s : Slot). not (isMissing (s .given))) (sym (pt .rest (slotOf i) n)) ∙ e in
-              let z : _≡_ {A = ℕ} 0 1 = cc in absurd (omega arith)
+              clash cc
 
     own-11 : hasInput h i ≡ false → Applies (a ++ b) cs GivenAlready → ⊥
     own-11 e (given-already {input} names s) = ⊎-elim earlier here′ (some-split a s)

@@ -10,6 +10,7 @@ use lib.Dec.{eqb}
 use lib.ListN.{length, getD, set, replicate, length-set, length-append}
 use lib.Seq.{getD-set-same, getD-set-other, ext-getD}
 use borrow.Author.Tests.{eqb-true, eqb-false, not-false}
+use Rattle.base.proofs.Clash.{clash}
 use Rattle.cut.specs.Total.{Each, none, more}
 use Rattle.cut.proofs.Totals.{each-map}
 use Rattle.inputs.specs.declared.Kind.{Kind}
@@ -49,7 +50,7 @@ kind-one Pigs Roughage e = cc
 kind-one Pigs Cattle e = cc
 
 pub kind-two : (a b : Kind) → sameKind a b ≡ false → a ≡ b → ⊥
-kind-two a b e d = let t : false ≡ true = sym e ∙ ap (λ (k : Kind). sameKind k b) d ∙ own-kind b in let z : _≡_ {A = ℕ} 0 1 = cc in omega arith
+kind-two a b e d = let t : false ≡ true = sym e ∙ ap (λ (k : Kind). sameKind k b) d ∙ own-kind b in clash cc
 
 -- ---- slots
 
@@ -99,7 +100,7 @@ gives-filled x = ap (λ (s : Slot). isMissing (s .given)) (x .slot) ∙ value-gi
 pub unfilled : {h : Herd} {rs : List Record} {is : List ℕ} (j : ℕ) → Pairs (Gives h) rs is → missingAt h j ≡ true → Each (λ i. slotOf i ≡ j → ⊥) is
 unfilled j Pairs.none e = none
 unfilled {h} j (Pairs.more {b = i} x p) e =
-    more (λ d. let f : true ≡ false = sym e ∙ ap (missingAt h) (sym d) ∙ gives-filled x in let z : _≡_ {A = ℕ} 0 1 = cc in omega arith) (unfilled j p e)
+    more (λ d. let f : true ≡ false = sym e ∙ ap (missingAt h) (sym d) ∙ gives-filled x in clash cc) (unfilled j p e)
 
 -- ---- a herd grows by a record
 
@@ -219,7 +220,7 @@ module _ {h h′ : Herd} where
 
 lacks-none : (rs : List Row) (slots : List Slot) → lacksOne rs slots ≡ false → (j : ℕ) → j < length rs → isMissing (getD slots j noSlot .given) ≡ false
 lacks-none [] slots e j h = absurd (omega arith)
-lacks-none (row ∷ rs) [] e j h = let z : _≡_ {A = ℕ} 0 1 = cc in absurd (omega arith)
+lacks-none (row ∷ rs) [] e j h = clash cc
 lacks-none (row ∷ rs) (s ∷ slots) e zero h = neither (isMissing (s .given)) (lacksOne rs slots) e .0
 lacks-none (row ∷ rs) (s ∷ slots) e (suc j) h = lacks-none rs slots (neither (isMissing (s .given)) (lacksOne rs slots) e .1) j (omega arith)
 
@@ -235,7 +236,7 @@ pub record Missed (rs : List Row) (slots : List Slot) : Type 0 where
   pub missing : isMissing (getD slots slot noSlot .given) ≡ true
 
 lacks-one : (rs : List Row) (slots : List Slot) → length rs ≤ length slots → lacksOne rs slots ≡ true → Missed rs slots
-lacks-one [] slots h e = let z : _≡_ {A = ℕ} 0 1 = cc in absurd (omega arith)
+lacks-one [] slots h e = clash cc
 lacks-one (row ∷ rs) [] h e = absurd (omega arith)
 lacks-one (row ∷ rs) (s ∷ slots) h e = go (isMissing (s .given)) refl e (lacks-one rs slots (omega arith))
   where
@@ -264,7 +265,7 @@ module _ {rs : List Record} {h : Herd} (p : PartOf rs h) where
 
       go : Some (λ i. slotOf i ≡ j) (p .inputs) ⊎ Each (λ i. slotOf i ≡ j → ⊥) (p .inputs) → Some (λ i. i ≡ firstOf (h .kind) + j) (p .inputs)
       go (inl s) = place (p .each) s
-      go (inr n) = let b = ap (λ (s : Slot). isMissing (s .given)) (p .rest j n) in let z : _≡_ {A = ℕ} 0 1 = cc in absurd (omega arith)
+      go (inr n) = let b = ap (λ (s : Slot). isMissing (s .given)) (p .rest j n) in clash cc
 
   pub part-all : lacks h ≡ false → HerdOf rs h
   unfolding lacks

@@ -4,6 +4,7 @@ use mathlib.Core.Path.{_≡_, refl, sym, ap, _∙_}
 use mathlib.Core.List.{List, [], _∷_, _++_}
 use native.Mathlib.Omega.{arith}
 use lib.ListN.{length}
+use Rattle.base.proofs.Clash.{clash}
 use Rattle.cut.specs.Total.{Each, more}
 use Rattle.csv.specs.Grammar.{Front, Before}
 use Rattle.csv.specs.Reading.{Reading, _then_, end, broken, whole, brokenAfter, readingOf}
@@ -46,8 +47,8 @@ pub record-read : {s : List ℕ} {before : List Record} {cs : Record} → Record
 record-read {before = before} x = record { rest = readingOf (x .past); is = before-read (x .behind) ∙ ap (thens before) (reading-front (x .front)) }
 
 not-at-end : {R : Type 0} (before : List Record) (cs : Record) (rest : Reading) → end ≡ thens before (cs then rest) → R
-not-at-end [] cs rest e = let z : _≡_ {A = ℕ} 0 1 = cc in absurd (omega arith)
-not-at-end (c ∷ before) cs rest e = let z : _≡_ {A = ℕ} 0 1 = cc in absurd (omega arith)
+not-at-end [] cs rest e = clash cc
+not-at-end (c ∷ before) cs rest e = clash cc
 
 pub read-record : (s : List ℕ) (before : List Record) (cs : Record) (rest : Reading) → readingOf s ≡ thens before (cs then rest) → RecordAt s before cs
 read-record s [] cs rest e = let x = begun s e in record { left = s; past = x .left; behind = Before.none; front = x .stands }
@@ -70,10 +71,10 @@ pub data Stops : Reading → Type 0 where
   at-break : Stops broken
 
 pub split-read : {x : Reading} (r : Reading) (rs a : List Record) (c : Record) → Stops x → thens rs x ≡ thens a (c then r) → Split rs a c
-split-read r [] [] c at-end e = let z : _≡_ {A = ℕ} 0 1 = cc in absurd (omega arith)
-split-read r [] [] c at-break e = let z : _≡_ {A = ℕ} 0 1 = cc in absurd (omega arith)
-split-read r [] (y ∷ a) c at-end e = let z : _≡_ {A = ℕ} 0 1 = cc in absurd (omega arith)
-split-read r [] (y ∷ a) c at-break e = let z : _≡_ {A = ℕ} 0 1 = cc in absurd (omega arith)
+split-read r [] [] c at-end e = clash cc
+split-read r [] [] c at-break e = clash cc
+split-read r [] (y ∷ a) c at-end e = clash cc
+split-read r [] (y ∷ a) c at-break e = clash cc
 split-read r (x ∷ rs) [] c p e = let d : x ≡ c = cc in record { after = rs; is = ap (λ (y : Record). y ∷ rs) d }
 split-read r (x ∷ rs) (y ∷ a) c p e =
     let d : x ≡ y = cc in
@@ -83,19 +84,19 @@ split-read r (x ∷ rs) (y ∷ a) c p e =
 
 pub one-thens : (rs rs′ : List Record) {x : Reading} → Stops x → thens rs x ≡ thens rs′ x → rs ≡ rs′
 one-thens [] [] p e = refl
-one-thens [] (c ∷ rs′) at-end e = let z : _≡_ {A = ℕ} 0 1 = cc in absurd (omega arith)
-one-thens [] (c ∷ rs′) at-break e = let z : _≡_ {A = ℕ} 0 1 = cc in absurd (omega arith)
-one-thens (c ∷ rs) [] at-end e = let z : _≡_ {A = ℕ} 0 1 = cc in absurd (omega arith)
-one-thens (c ∷ rs) [] at-break e = let z : _≡_ {A = ℕ} 0 1 = cc in absurd (omega arith)
+one-thens [] (c ∷ rs′) at-end e = clash cc
+one-thens [] (c ∷ rs′) at-break e = clash cc
+one-thens (c ∷ rs) [] at-end e = clash cc
+one-thens (c ∷ rs) [] at-break e = clash cc
 one-thens (c ∷ rs) (d ∷ rs′) p e =
     let h : c ≡ d = cc in
     let t : rs ≡ rs′ = one-thens rs rs′ p (cc) in
     cc
 
 pub end-not-broken : {R : Type 0} (rs rs′ : List Record) → thens rs end ≡ thens rs′ broken → R
-end-not-broken [] [] e = let z : _≡_ {A = ℕ} 0 1 = cc in absurd (omega arith)
-end-not-broken [] (c ∷ rs′) e = let z : _≡_ {A = ℕ} 0 1 = cc in absurd (omega arith)
-end-not-broken (c ∷ rs) [] e = let z : _≡_ {A = ℕ} 0 1 = cc in absurd (omega arith)
+end-not-broken [] [] e = clash cc
+end-not-broken [] (c ∷ rs′) e = clash cc
+end-not-broken (c ∷ rs) [] e = clash cc
 end-not-broken (c ∷ rs) (d ∷ rs′) e = end-not-broken rs rs′ (cc)
 
 -- of two records of a reading, one stands behind the other, or they are one

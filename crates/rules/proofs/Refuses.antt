@@ -9,6 +9,7 @@ use native.Mathlib.Omega.{arith}
 use lib.Dec.{ltb}
 use lib.ListN.{length, length-append}
 use borrow.Author.Tests.{ltb-true, ltb-false}
+use Rattle.base.proofs.Clash.{clash}
 use Rattle.cut.specs.Total.{Each}
 use Rattle.csv.specs.Grammar.{FileOf, Breaks}
 use Rattle.csv.specs.Reading.{Reading, _then_, end, broken, readingOf}
@@ -248,7 +249,7 @@ one-first {s} {m} {n} {f} {g} a b = go (order (rank (a .applies)) (rank (b .appl
 
 module _ (s : List ℕ) (n : ℕ) (fault : Fault) where
   refused-first : {x : FileAnswer} → Outcome s x → x ≡ refused n fault → First s n fault
-  refused-first (takes _) e = let c = ap (λ (a : FileAnswer). a .checked) e in let z : _≡_ {A = ℕ} 0 1 = cc in absurd (omega arith)
+  refused-first (takes _) e = let c = ap (λ (a : FileAnswer). a .checked) e in clash cc
   refused-first (gives {n = m} {fault = f} x) e =
       let c = ap (λ (a : FileAnswer). a .checked) e in
       let p : m ≡ n = cc in
@@ -275,7 +276,7 @@ taken-exactly s = (λ t. clear (outcome (answered s)) (accepts-exactly s (t .far
   where
     clear : {x : FileAnswer} {f : Farm} → Outcome s x → x ≡ accepted f → (m : ℕ) (other : Fault) → AppliesAt s m other → ⊥
     clear (takes none) e = none
-    clear (gives _) e = let c = ap (λ (a : FileAnswer). a .checked) e in let z : _≡_ {A = ℕ} 0 1 = cc in absurd (omega arith)
+    clear (gives _) e = let c = ap (λ (a : FileAnswer). a .checked) e in clash cc
 
     keep : ((m : ℕ) (other : Fault) → AppliesAt s m other → ⊥) → (x : FileAnswer) → readOf s ≡ x → Outcome s x → Taken s
     keep none x e (takes {f = f} _) = record { farm = f; keeps = accepts-exactly s f .0 e }

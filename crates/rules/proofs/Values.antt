@@ -9,6 +9,7 @@ use borrow.Author.Tests.{ne-eqb, lt-ltb}
 use Rattle.base.specs.Pick.{pick}
 use Rattle.base.specs.Text.{bytes}
 use Rattle.base.specs.Part.{sameBytes, lower, lowered}
+use Rattle.base.proofs.Clash.{clash}
 use Rattle.decimal.specs.declared.Number.{Number}
 use Rattle.decimal.specs.declared.Number.the-variants as numbers
 use Rattle.decimal.specs.Numbers.{Digit, Whole, IsNumber}
@@ -89,7 +90,7 @@ number-of {s} {d} {m} {g} F make e = go (numberOf s d m) refl e
         let n = number-iff s d m v .0 q in
         let z : Value v ≡ g = cc in
         rw z at (make v (n .0) (n .1))
-    go numbers.Unreadable q e = let z : _≡_ {A = ℕ} 0 1 = cc in absurd (omega arith)
+    go numbers.Unreadable q e = clash cc
 
 pub said-value : {g : Given} (form : Form) (s : List ℕ) → valueOf form s ≡ Is g → ValueIs form s g
 unfolding valueOf
@@ -105,7 +106,7 @@ said-value {g} (forms.OrStandard d m) s e = go (isStandard s) refl e
 said-value {g} (forms.NoStandard d m) s e = go (isStandard s) e
   where
     go : (t : Bool) → pick t Forbidden (numberSaid (numberOf s d m)) ≡ Is g → ValueIs (forms.NoStandard d m) s g
-    go true e = let z : _≡_ {A = ℕ} 0 1 = cc in absurd (omega arith)
+    go true e = clash cc
     go false e = number-of (forms.NoStandard d m) (λ v. ValueIs.no-standard) e
 said-value {g} (forms.OneOf from count) s e = go (findName (forms.OneOf from count) s) refl e
   where
@@ -115,7 +116,7 @@ said-value {g} (forms.OneOf from count) s e = go (findName (forms.OneOf from cou
         let x : ValueIs (forms.OneOf from count) s (Value j) = ValueIs.name (record { inside = n .inside; name = n .name }) in
         let z : Value j ≡ g = cc in
         rw z at x
-    go Nowhere q e = let z : _≡_ {A = ℕ} 0 1 = cc in absurd (omega arith)
+    go Nowhere q e = clash cc
 
 -- ---- a `standard` that is forbidden
 
@@ -124,8 +125,8 @@ unfolding valueOf
 forbidden-said s forbids e = rw (standard-true s e)
 
 never-forbidden : {A : Type 0} (n : Number) → numberSaid n ≡ Forbidden → A
-never-forbidden (numbers.Value v) e = let z : _≡_ {A = ℕ} 0 1 = cc in absurd (omega arith)
-never-forbidden numbers.Unreadable e = let z : _≡_ {A = ℕ} 0 1 = cc in absurd (omega arith)
+never-forbidden (numbers.Value v) e = clash cc
+never-forbidden numbers.Unreadable e = clash cc
 
 pub said-forbidden : (form : Form) (s : List ℕ) → valueOf form s ≡ Forbidden → Forbids form × IsStandard s
 unfolding valueOf
@@ -133,7 +134,7 @@ said-forbidden (forms.Number d m) s e = never-forbidden (numberOf s d m) e
 said-forbidden (forms.OrStandard d m) s e = go (isStandard s) e
   where
     go : (t : Bool) → pick t (Is Standard) (numberSaid (numberOf s d m)) ≡ Forbidden → Forbids (forms.OrStandard d m) × IsStandard s
-    go true e = let z : _≡_ {A = ℕ} 0 1 = cc in absurd (omega arith)
+    go true e = clash cc
     go false e = never-forbidden (numberOf s d m) e
 said-forbidden (forms.NoStandard d m) s e = go (isStandard s) refl e
   where
@@ -143,5 +144,5 @@ said-forbidden (forms.NoStandard d m) s e = go (isStandard s) refl e
 said-forbidden (forms.OneOf from count) s e = go (findName (forms.OneOf from count) s) e
   where
     go : (r : Found) → nameSaid r ≡ Forbidden → Forbids (forms.OneOf from count) × IsStandard s
-    go (At j) e = let z : _≡_ {A = ℕ} 0 1 = cc in absurd (omega arith)
-    go Nowhere e = let z : _≡_ {A = ℕ} 0 1 = cc in absurd (omega arith)
+    go (At j) e = clash cc
+    go Nowhere e = clash cc
