@@ -1,6 +1,6 @@
 -- Demand 1: a file of any bytes gets either the farm's figures or exactly one numbered refusal with its record number, always the first that
 -- applies in the written order; a refusal leaves the lent buffer untouched. And any two results that a call's contract allows are equal.
--- What a call says is told in 01's numbers, by the definitions `says` of crates `farm` and `listing`; what the checks of a record say, by
+-- What a call says is told in 01's numbers, by `says` of crate `farm` and `saysOf` of crate `listing`; what the checks of a record say, by
 -- `herd-says` and `farm-says` of crate `farm`.
 -- Assumes nothing.
 use Prim.Native.Nat.{ℕ, _≤_, _<_}
@@ -18,8 +18,7 @@ use Rattle.farm.specs.declared.Fault.{Fault}
 use Rattle.farm.specs.declared.Fault.the-variants.{BufferTooShort}
 use Rattle.farm.specs.declared.Checked.{Checked}
 use Rattle.farm.specs.declared.Checked.the-variants as checks
-use Rattle.farm.specs.Refusals.{number}
-use Rattle.farm.specs.Refusals as found
+use Rattle.farm.specs.Refusals.{number, Says, accepts, gives, refuses, says}
 use Rattle.reader.specs.declared.FileAnswer.{FileAnswer}
 use Rattle.reader.specs.Files.{readOf, accepted, refused}
 use Rattle.rules.specs.Rules.{KeepsRules, Record}
@@ -29,7 +28,7 @@ use Rattle.rules.proofs.Refuses.{Outcome, takes, gives as gives-first, outcome}
 use Rattle.rules.proofs.Runs.{answered}
 use Rattle.listing.specs.declared.Written.{Written}
 use Rattle.listing.specs.declared.Written.the-variants.{Length, Refused}
-use Rattle.listing.specs.Answer.{leaves, answers, Says, gives, refuses, says}
+use Rattle.listing.specs.Answer.{leaves, answers, saysOf}
 use Rattle.calls.specs.Listings.{Call, Called, left, said}
 
 -- ---- a file
@@ -47,14 +46,14 @@ demand-1 s = by (readOf s) refl (outcome (answered s))
     by x e (gives-first r) = refusal r
 
 -- and what is said of it
-pub data FileSays (s : List ℕ) : found.Says → Type 0 where
-  fine : {f : Farm} → KeepsRules s f → FileSays s found.accepts
-  first : {n : ℕ} {fault : Fault} → First s n fault → FileSays s (found.refuses (number fault) n)
+pub data FileSays (s : List ℕ) : Says → Type 0 where
+  fine : {f : Farm} → KeepsRules s f → FileSays s accepts
+  first : {n : ℕ} {fault : Fault} → First s n fault → FileSays s (refuses (number fault) n)
 
-pub demand-1-says : (s : List ℕ) → FileSays s (found.says (readOf s .checked))
+pub demand-1-says : (s : List ℕ) → FileSays s (says (readOf s .checked))
 demand-1-says s = by (demand-1 s)
   where
-    by : {a : FileAnswer} → Gets s a → FileSays s (found.says (a .checked))
+    by : {a : FileAnswer} → Gets s a → FileSays s (says (a .checked))
     by (farm keeps) = fine keeps
     by (refusal r) = first r
 
@@ -83,37 +82,37 @@ never-13 r = of-a-file (r .applies)
 
 -- what it says: the listing's length; what its checks or reading refuse; 13 only where they find nothing
 pub data CallSays (c : Call) (old : List ℕ) : Says → Type 0 where
-  listed : found.says (c .checked) ≡ found.accepts → length (c .listing) ≤ length old → CallSays c old (gives (length (c .listing)))
-  too-short : found.says (c .checked) ≡ found.accepts → length old < length (c .listing) → CallSays c old (refuses 13 0)
-  as-found : {k n : ℕ} → found.says (c .checked) ≡ found.refuses k n → CallSays c old (refuses k n)
+  listed : says (c .checked) ≡ accepts → length (c .listing) ≤ length old → CallSays c old (gives (length (c .listing)))
+  too-short : says (c .checked) ≡ accepts → length old < length (c .listing) → CallSays c old (refuses 13 0)
+  as-found : {k n : ℕ} → says (c .checked) ≡ refuses k n → CallSays c old (refuses k n)
 
 module _ (c : Call) (old : List ℕ) where
-  by-room : found.says (c .checked) ≡ found.accepts → (t : Bool) → leb (length (c .listing)) (length old) ≡ t
-      → CallSays c old (says (pick t (Length (length (c .listing))) (Refused BufferTooShort 0)))
+  by-room : says (c .checked) ≡ accepts → (t : Bool) → leb (length (c .listing)) (length old) ≡ t
+      → CallSays c old (saysOf (pick t (Length (length (c .listing))) (Refused BufferTooShort 0)))
   by-room a true e = listed a (leb-true _ _ e)
   by-room a false e = too-short a (leb-false _ _ e)
 
-  by-finding : (k : Checked) → c .checked ≡ k → CallSays c old (says (said k (c .listing) old))
+  by-finding : (k : Checked) → c .checked ≡ k → CallSays c old (saysOf (said k (c .listing) old))
   unfolding answers
-  by-finding checks.Accepted e = by-room (ap found.says e) (leb (length (c .listing)) (length old)) refl
-  by-finding (checks.Refused fault n) e = as-found (ap found.says e)
+  by-finding checks.Accepted e = by-room (ap says e) (leb (length (c .listing)) (length old)) refl
+  by-finding (checks.Refused fault n) e = as-found (ap says e)
 
-pub call-says : {c : Call} {old new : List ℕ} {r : Written} → Called c old new r → CallSays c old (says r)
+pub call-says : {c : Call} {old new : List ℕ} {r : Written} → Called c old new r → CallSays c old (saysOf r)
 call-says {c} {old} w = rw (w .answer) (by-finding c old (c .checked) refl)
 
 -- one that says a refusal, 13 too, leaves the buffer as it was
-fits-or-not : (listing old : List ℕ) (t : Bool) (k n : ℕ) → says (pick t (Length (length listing)) (Refused BufferTooShort 0)) ≡ refuses k n
+fits-or-not : (listing old : List ℕ) (t : Bool) (k n : ℕ) → saysOf (pick t (Length (length listing)) (Refused BufferTooShort 0)) ≡ refuses k n
     → pick t (listing ++ drop (length listing) old) old ≡ old
 fits-or-not listing old true k n e = clash cc
 fits-or-not listing old false k n e = refl
 
-by-checks : (c : Checked) (listing old : List ℕ) (k n : ℕ) → says (said c listing old) ≡ refuses k n → left c listing old ≡ old
+by-checks : (c : Checked) (listing old : List ℕ) (k n : ℕ) → saysOf (said c listing old) ≡ refuses k n → left c listing old ≡ old
 unfolding leaves answers
 by-checks checks.Accepted listing old k n e = fits-or-not listing old (leb (length listing) (length old)) k n e
 by-checks (checks.Refused f m) listing old k n e = refl
 
-pub refusal-leaves : {c : Call} {old new : List ℕ} {r : Written} (k n : ℕ) → Called c old new r → says r ≡ refuses k n → new ≡ old
-refusal-leaves {c} {old} {new} {r} k n w e = w .buffer ∙ by-checks (c .checked) (c .listing) old k n (sym (ap says (w .answer)) ∙ e)
+pub refusal-leaves : {c : Call} {old new : List ℕ} {r : Written} (k n : ℕ) → Called c old new r → saysOf r ≡ refuses k n → new ≡ old
+refusal-leaves {c} {old} {new} {r} k n w e = w .buffer ∙ by-checks (c .checked) (c .listing) old k n (sym (ap saysOf (w .answer)) ∙ e)
 
 -- any two results that a writing call's contract allows are equal, and so are the bytes that it leaves; every other call's contract says
 -- what its result is

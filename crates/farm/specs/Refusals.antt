@@ -20,9 +20,10 @@ number GivenAlready = 11
 number InputMissing = 12
 number BufferTooShort = 13
 
--- what an answer says in 01's numbers: nothing, or the refusal's number and the record's
+-- what an answer says in 01's numbers: that nothing is wrong; a listing's length; or the refusal's number and the record's
 pub data Says : Type 0 where
   accepts : Says
+  gives : (listing-length : ℕ) → Says
   refuses : (refusal at-record : ℕ) → Says
 
 abbrev pub says : Checked → Says

@@ -6,22 +6,23 @@ use mathlib.Core.Path.{_≡_, sym, ap, _∙_}
 use mathlib.Core.List.{List, _++_}
 use borrow.Author.Tests.{le-leb, lt-leb}
 use lib.ListN.{length, drop}
+use Rattle.farm.specs.Refusals.{Says, gives, refuses}
 use Rattle.listing.specs.declared.Written.{Written}
-use Rattle.listing.specs.Answer.{leaves, answers, Answered, Says, gives, refuses, says}
+use Rattle.listing.specs.Answer.{leaves, answers, Answered, saysOf}
 
 -- a call's buffer afterwards and what it says
 pub record Gave (left : List ℕ) (saying : Says) (new : List ℕ) (r : Written) : Type 0 where
   pub buffer : new ≡ left
-  pub answer : says r ≡ saying
+  pub answer : saysOf r ≡ saying
 
 module _ {listing old new : List ℕ} {r : Written} (a : Answered listing old new r) where
   pub enough : length listing ≤ length old → Gave (listing ++ drop (length listing) old) (gives (length listing)) new r
   unfolding leaves answers
-  enough h = let e = le-leb (length listing) (length old) h in record { buffer = rw e at (a .buffer); answer = ap says (rw e at (a .answer)) }
+  enough h = let e = le-leb (length listing) (length old) h in record { buffer = rw e at (a .buffer); answer = ap saysOf (rw e at (a .answer)) }
 
   pub too-short : length old < length listing → Gave old (refuses 13 0) new r
   unfolding leaves answers
-  too-short h = let e = lt-leb (length listing) (length old) h in record { buffer = rw e at (a .buffer); answer = ap says (rw e at (a .answer)) }
+  too-short h = let e = lt-leb (length listing) (length old) h in record { buffer = rw e at (a .buffer); answer = ap saysOf (rw e at (a .answer)) }
 
 pub one-answer : {listing old new new′ : List ℕ} {r r′ : Written} → Answered listing old new r → Answered listing old new′ r′ → (new ≡ new′) × (r ≡ r′)
 one-answer a b = (a .buffer ∙ sym (b .buffer), a .answer ∙ sym (b .answer))

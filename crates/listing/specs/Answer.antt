@@ -8,7 +8,7 @@ use lib.Dec.{leb}
 use lib.ListN.{length, drop}
 use Rattle.base.specs.Pick.{pick}
 use Rattle.farm.specs.declared.Fault.the-variants.{BufferTooShort}
-use Rattle.farm.specs.Refusals.{number}
+use Rattle.farm.specs.Refusals.{number, Says, gives, refuses}
 use Rattle.listing.specs.declared.Written.{Written}
 use Rattle.listing.specs.declared.Written.the-variants.{Length, Refused}
 
@@ -28,11 +28,7 @@ pub record Answered (listing old new : List ℕ) (r : Written) : Type 0 where
   pub buffer : new ≡ leaves listing old
   pub answer : r ≡ answers listing old
 
--- what an answer says in 01's numbers: a listing's length, or the refusal's number and the record's
-pub data Says : Type 0 where
-  gives : (listing-length : ℕ) → Says
-  refuses : (refusal at-record : ℕ) → Says
-
-abbrev pub says : Written → Says
-says (Length n) = gives n
-says (Refused fault at-record) = refuses (number fault) at-record
+-- what it says in 01's numbers
+abbrev pub saysOf : Written → Says
+saysOf (Length n) = gives n
+saysOf (Refused fault at-record) = refuses (number fault) at-record

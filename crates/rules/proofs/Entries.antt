@@ -26,7 +26,7 @@ use Rattle.reader.specs.declared.FileAnswer.{FileAnswer}
 use Rattle.reader.specs.Values.{valueOf}
 use Rattle.reader.specs.Entries.{inputIn, givenIn, entryLines}
 use Rattle.reader.specs.Files.{refused}
-use Rattle.rules.specs.Rules.{Record, GoodLabel, Names, ValueIs, Says, says}
+use Rattle.rules.specs.Rules.{Record, GoodLabel, Names, ValueIs, RecordSays, says}
 use Rattle.rules.specs.Refusals.{labelIn, valueIn, NamesInput, Applies, not-four-fields, bad-label, not-in-the-list, standard-forbidden, bad-value}
 use Rattle.rules.proofs.Labels.{ok-good, good-ok}
 use Rattle.rules.proofs.Values.{value-said, said-value, forbidden-said, said-forbidden}
@@ -54,7 +54,7 @@ pub record Reads (cs : Record) (l : List ℕ) (i : ℕ) (g : Given) : Type 0 whe
   pub value : ValueIs (formAt i) (valueIn cs) g
   pub passes : (n : ℕ) (z : FileAnswer) → first (entryLines (refused n) (partsOf cs)) z ≡ z
 
-pub reads : {cs : Record} {l : List ℕ} {i : ℕ} {g : Given} → Says cs l i g → Reads cs l i g
+pub reads : {cs : Record} {l : List ℕ} {i : ℕ} {g : Given} → RecordSays cs l i g → Reads cs l i g
 reads (says {label = l} {path = m} {name = n} {value = v} {input = i} {given = g} good names value) =
     let found = named-found names in
     let said = value-said i (names .inside) (formAt i) refl value in
@@ -68,7 +68,7 @@ reads (says {label = l} {path = m} {name = n} {value = v} {input = i} {given = g
       passes = λ k z. rw (good-ok l good, found, said);
     }
 
-pub one-given : {cs : Record} {l l′ : List ℕ} {i j : ℕ} {g g′ : Given} → Says cs l i g → Says cs l′ j g′ → (l ≡ l′) × ((i ≡ j) × (g ≡ g′))
+pub one-given : {cs : Record} {l l′ : List ℕ} {i j : ℕ} {g g′ : Given} → RecordSays cs l i g → RecordSays cs l′ j g′ → (l ≡ l′) × ((i ≡ j) × (g ≡ g′))
 one-given a b =
     let r = reads a in
     let q = reads b in
@@ -76,7 +76,7 @@ one-given a b =
 
 -- ---- the other way
 
-four : {i : ℕ} {g : Given} (cs : Record) → length cs ≡ 4 → GoodLabel (labelIn cs) → NamesInput cs i → ValueIs (formAt i) (valueIn cs) g → Says cs (labelIn cs) i g
+four : {i : ℕ} {g : Given} (cs : Record) → length cs ≡ 4 → GoodLabel (labelIn cs) → NamesInput cs i → ValueIs (formAt i) (valueIn cs) g → RecordSays cs (labelIn cs) i g
 four [] e = absurd (omega arith)
 four (a ∷ []) e = absurd (omega arith)
 four (a ∷ b ∷ []) e = absurd (omega arith)
@@ -85,7 +85,7 @@ four (a ∷ b ∷ c ∷ d ∷ []) e = says
 four (a ∷ b ∷ c ∷ d ∷ x ∷ cs) e = absurd (omega arith)
 
 pub data Alone (before : List Record) (cs : Record) : Type 0 where
-  tells : {l : List ℕ} {i : ℕ} {g : Given} → Says cs l i g → NoneBelow before cs 8 → Alone before cs
+  tells : {l : List ℕ} {i : ℕ} {g : Given} → RecordSays cs l i g → NoneBelow before cs 8 → Alone before cs
   wrong : {fault : Fault} → Applies before cs fault → NoneBelow before cs (number fault)
       → ((n : ℕ) (z : FileAnswer) → first (entryLines (refused n) (partsOf cs)) z ≡ refused n fault) → Alone before cs
 

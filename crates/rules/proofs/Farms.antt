@@ -27,7 +27,7 @@ use Rattle.farm.specs.Herds.{noHerd}
 use Rattle.reader.specs.Herds.{sameKind, withInput, newHerd, hasInput}
 use Rattle.reader.specs.Files.{Progress, refused, withHerd, lackingWith, closed, recordLines, taken}
 use Rattle.rules.specs.Lists.{Some, here, there, Apart, Pairs}
-use Rattle.rules.specs.Rules.{Record, GoodLabel, Says, Gives, PartOf, Stand, farmOf, labels}
+use Rattle.rules.specs.Rules.{Record, GoodLabel, RecordSays, Gives, PartOf, Stand, farmOf, labels}
 use Rattle.rules.proofs.Lists.{neither, apart-last}
 use Rattle.rules.proofs.Labels.{same-texts, other-label, own-label}
 use Rattle.rules.proofs.Entries.{reads}
@@ -47,7 +47,7 @@ tookTo n p l i g =
     pick (sameLabel (p .herd .label) l) (record { farm = p .farm; herd = withInput (p .herd) i g; first = p .first; lacking = p .lacking })
     (record { farm = closed p .farm; herd = newHerd l i g; first = n; lacking = closed p .lacking })
 
-module _ {cs : Record} {l : List ℕ} {i : ℕ} {g : Given} (said : Says cs l i g) (n : ℕ) (p : Progress) where
+module _ {cs : Record} {l : List ℕ} {i : ℕ} {g : Given} (said : RecordSays cs l i g) (n : ℕ) (p : Progress) where
   pub record-turn : (z : FileAnswer) → first (recordLines n p (partsOf cs)) z ≡ first (turnLines n p (labelOf l) i) z
   unfolding recordLines
   record-turn z =

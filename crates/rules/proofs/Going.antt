@@ -29,7 +29,7 @@ use Rattle.farm.specs.Herds.{slotOf}
 use Rattle.reader.specs.Herds.{sameKind, newHerd, withInput, hasInput}
 use Rattle.reader.specs.Files.{Progress, refused, nothingRead, lackingWith, closed, recordLines, taken}
 use Rattle.rules.specs.Lists.{Some, Last, Apart}
-use Rattle.rules.specs.Rules.{Record, Says, Gives, PartOf, Stand, farmOf, labels}
+use Rattle.rules.specs.Rules.{Record, RecordSays, Gives, PartOf, Stand, farmOf, labels}
 use Rattle.rules.specs.Refusals.{labelIn, NamesInput, SameLabel, ManyLabels, Applies, earlier-label, no-room-for-herd, other-kind, given-already}
 use Rattle.rules.proofs.Lists.{each-append, meet, some-front, some-back, some-map, some-split, some-none, HasLast, has-last, last-append, last-none, last-one, last-some, last-each, some-left, some-right}
 use Rattle.rules.proofs.Labels.{not-none}
@@ -71,7 +71,7 @@ pub data Verdict (before : List Record) (cs : Record) (n : ℕ) (p : Progress) :
 
 -- ---- the first record of a file
 
-module _ {cs : Record} {l : List ℕ} {i : ℕ} {g : Given} (said : Says cs l i g) (below : NoneBelow [] cs 8) where
+module _ {cs : Record} {l : List ℕ} {i : ℕ} {g : Given} (said : RecordSays cs l i g) (below : NoneBelow [] cs 8) where
   no-labels : ManyLabels [] → ⊥
   no-labels m = go (m .labels) (m .many) (m .each)
     where
@@ -109,7 +109,7 @@ abbrev Later : List Record → List Record → List Herd → Herd → ℕ → Re
 Later a b hs h k cs = Verdict (a ++ b) cs (length (a ++ b) + 1) (at hs h (length a + 1) k)
 
 module _ {a b : List Record} {hs : List Herd} {h : Herd} {k : ℕ} (st : Stand PartOf a hs) (pt : PartOf b h) (new : Each (λ x. x .label ≡ h .label → ⊥) hs) (two : Apart (labels hs))
-    (room : length hs < 64) (lk : Lack a hs k) {cs : Record} {l : List ℕ} {i : ℕ} {g : Given} (said : Says cs l i g) (below : NoneBelow (a ++ b) cs 8) where
+    (room : length hs < 64) (lk : Lack a hs k) {cs : Record} {l : List ℕ} {i : ℕ} {g : Given} (said : RecordSays cs l i g) (below : NoneBelow (a ++ b) cs 8) where
   rd : Reads cs l i g
   rd = reads said
 

@@ -27,7 +27,7 @@ use Rattle.farm.specs.Labels.{labelOf}
 use Rattle.farm.specs.Herds.{noSlot, slotOf}
 use Rattle.reader.specs.Herds.{sameKind, withInput, newHerd, hasInput}
 use Rattle.rules.specs.Lists.{Some, here, there, Apart, Pairs}
-use Rattle.rules.specs.Rules.{Record, ValueIs, Says, Gives, PartOf, HerdOf}
+use Rattle.rules.specs.Rules.{Record, ValueIs, RecordSays, Gives, PartOf, HerdOf}
 use Rattle.rules.proofs.Lists.{neither, each-front, each-back, meet, apart-last, pairs-append, pairs-map, fellow}
 use Rattle.rules.proofs.Entries.{reads, one-given}
 
@@ -104,7 +104,7 @@ unfilled {h} j (Pairs.more {b = i} x p) e =
 
 -- ---- a herd grows by a record
 
-module _ {cs : Record} {l : List ℕ} {i : ℕ} {g : Given} (said : Says cs l i g) where
+module _ {cs : Record} {l : List ℕ} {i : ℕ} {g : Given} (said : RecordSays cs l i g) where
   pub part-new : PartOf (cs ∷ []) (newHerd (labelOf l) i g)
   unfolding newHerd withInput
   part-new =

@@ -24,7 +24,7 @@ use Rattle.farm.specs.Herds.{slotOf}
 use Rattle.reader.specs.Herds.{sameKind, withInput, newHerd, hasInput}
 use Rattle.reader.specs.Files.{Progress, accepted, nothingRead, closed, taken, finished, readFrom}
 use Rattle.rules.specs.Lists.{Apart, Pairs}
-use Rattle.rules.specs.Rules.{Record, GoodLabel, Says, Gives, PartOf, HerdOf, Stand, farmOf, labels, FarmOf}
+use Rattle.rules.specs.Rules.{Record, GoodLabel, RecordSays, Gives, PartOf, HerdOf, Stand, farmOf, labels, FarmOf}
 use Rattle.rules.proofs.Lists.{each-append, each-front, each-back, pairs-append}
 use Rattle.rules.proofs.Labels.{own-label, not-none}
 use Rattle.rules.proofs.Entries.{reads}
@@ -34,7 +34,7 @@ use Rattle.rules.proofs.Farms.{turnLines, tookTo, record-turn, record-t
 
 -- ---- one record: what is read of the rest of the file does not depend on how it came
 
-module _ {cs : Record} {l : List ℕ} {i : ℕ} {g : Given} (said : Says cs l i g) (n : ℕ) (p : Progress) (r : Reading) where
+module _ {cs : Record} {l : List ℕ} {i : ℕ} {g : Given} (said : RecordSays cs l i g) (n : ℕ) (p : Progress) (r : Reading) where
   -- a record that none of 8 to 11 is given for is taken
   pub steps : (q : Progress) → tookTo n p (labelOf l) i g ≡ q → ((z : FileAnswer) → first (turnLines n p (labelOf l) i) z ≡ z) → readFrom n p (cs then r) ≡ readFrom (n + 1) q r
   unfolding readFrom
@@ -114,7 +114,7 @@ ready-next hs h m room ls x whole′ =
     only (more p none) = p
 
 -- the first record of a herd
-module _ {hs : List Herd} {p : Progress} (r : Ready hs p) (room : length hs < 64) {cs : Record} {l : List ℕ} {i : ℕ} {g : Given} (said : Says cs l i g)
+module _ {hs : List Herd} {p : Progress} (r : Ready hs p) (room : length hs < 64) {cs : Record} {l : List ℕ} {i : ℕ} {g : Given} (said : RecordSays cs l i g)
     (new : Each (λ h. h .label ≡ labelOf l → ⊥) hs) (n : ℕ) (rest : Reading) where
   begins : readFrom n p (cs then rest) ≡ readFrom (n + 1) (at hs (newHerd (labelOf l) i g) n 0) rest
   begins =

@@ -65,9 +65,9 @@ pub data ValueIs : Form → List ℕ → Given → Type 0 where
 
 -- a record says that the herd of this label has this value for this input: "Each record has four fields: herd label, module path, input
 -- name, value"
-pub data Says : Record → List ℕ → ℕ → Given → Type 0 where
+pub data RecordSays : Record → List ℕ → ℕ → Given → Type 0 where
   says : {label path name value : List ℕ} {input : ℕ} {given : Given} → GoodLabel label → Names path name input → ValueIs (formAt input) value given
-      → Says (label ∷ path ∷ name ∷ value ∷ []) label input given
+      → RecordSays (label ∷ path ∷ name ∷ value ∷ []) label input given
 
 -- ---- a herd
 
@@ -76,7 +76,7 @@ pub data Says : Record → List ℕ → ℕ → Given → Type 0 where
 pub record Gives (h : Herd) (cs : Record) (input : ℕ) : Type 0 where
   pub label : List ℕ
   pub given : Given
-  pub says : Says cs label input given
+  pub says : RecordSays cs label input given
   pub own : h .label ≡ labelOf label
   pub kind : h .kind ≡ kindAt input
   pub slot : getD (h .slots) (slotOf input) noSlot ≡ record { given = given }
