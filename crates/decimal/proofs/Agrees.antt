@@ -15,7 +15,7 @@ use Rattle.base.specs.Pick.{pick}
 use Rattle.decimal.specs.declared.Number.{Number}
 use Rattle.decimal.specs.declared.Number.the-variants.{Value, Unreadable}
 use Rattle.decimal.specs.Numbers.{Digit, Digits, Whole, IsNumber, valueFrom}
-use Rattle.decimal.specs.Reading.{if-digit_then_, more, fractionFrom, pointFrom, wholeFrom, zeroFrom, readOf, upTo, numberOf}
+use Rattle.decimal.specs.Reading.{if-digit_then_, more, fractionFrom, pointFrom, wholeFrom, zeroFrom, anyNumberOf, upTo, numberOf}
 use Rattle.decimal.proofs.Steps.{unequal}
 
 -- from the text's bytes to what was read: every number is read, with its value
@@ -51,8 +51,8 @@ unfolding pointFrom
 point-digits d v Digits.none o h = absurd (omega arith)
 point-digits d v (Digits.more g gs) o h = fraction-digits d v (Digits.more g gs) h
 
-pub read-all : {s : List ℕ} {d v : ℕ} → IsNumber s d v → readOf s d ≡ Value v
-unfolding readOf zeroFrom
+pub read-all : {s : List ℕ} {d v : ℕ} → IsNumber s d v → anyNumberOf s d ≡ Value v
+unfolding anyNumberOf zeroFrom
 read-all (IsNumber.whole {d = d} Whole.nought) = rw zero-mul
 read-all (IsNumber.whole {d = d} (Whole.some {b} g n gs)) = rw (ne-eqb b 48 n) (digit-taken g _ ∙ whole-digits d (more 0 b) gs)
 read-all (IsNumber.pointed {f = f} {d = d} Whole.nought fs o h) = point-digits d 0 fs o h
@@ -141,8 +141,8 @@ digits-read {b} {d} g n (Rest.pointed {ds} {f} gs o fs) =
     same-number (ap (λ (x : List ℕ). b ∷ x) (append-snoc ds 46 f)) (ap (λ (x : ℕ). x * 10 ^ (d - length f)) (value-append (more 0 b) ds f) ∙ sym (fs .is))
     (IsNumber.pointed (Whole.some g n gs) (fs .digits) o (fs .short))
 
-pub read-only : (s : List ℕ) (d v : ℕ) → readOf s d ≡ Value v → IsNumber s d v
-unfolding readOf
+pub read-only : (s : List ℕ) (d v : ℕ) → anyNumberOf s d ≡ Value v → IsNumber s d v
+unfolding anyNumberOf
 read-only [] d v e = absurd (unequal v e)
 read-only (b ∷ s) d v e = go (eqb b 48) refl e
   where
@@ -162,7 +162,7 @@ in-range m (Value x) v e = go (leb x m) refl e
 pub number-iff : (s : List ℕ) (d m v : ℕ) → (numberOf s d m ≡ Value v) ↔ (IsNumber s d v × (v ≤ m))
 unfolding numberOf
 number-iff s d m v = (
-  λ e. let (p, h) = in-range m (readOf s d) v e in (read-only s d v p, h),
+  λ e. let (p, h) = in-range m (anyNumberOf s d) v e in (read-only s d v p, h),
   λ n. rw (read-all (n .0)) (simp (le-leb v m (n .1))),
 )
 

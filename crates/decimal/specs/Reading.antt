@@ -55,9 +55,9 @@ zeroFrom d [] = Value 0
 zeroFrom d (b ∷ rest) = if b is point then pointFrom d 0 rest else Unreadable
 
 -- the whole text
-unfoldable pub readOf : List ℕ → ℕ → Number
-readOf [] d = Unreadable
-readOf (b ∷ rest) d =
+unfoldable pub anyNumberOf : List ℕ → ℕ → Number
+anyNumberOf [] d = Unreadable
+anyNumberOf (b ∷ rest) d =
     if b is zero-digit then zeroFrom d rest else
     if-digit b then wholeFrom d (more 0 b) rest
 
@@ -67,4 +67,4 @@ upTo most (Value v) = pick (leb v most) (Value v) Unreadable
 upTo most Unreadable = Unreadable
 
 unfoldable pub numberOf : List ℕ → ℕ → ℕ → Number
-numberOf s d most = upTo most (readOf s d)
+numberOf s d most = upTo most (anyNumberOf s d)

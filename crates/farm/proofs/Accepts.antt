@@ -6,7 +6,7 @@ use mathlib.Core.Bool.{Bool, true, false, not, _||_}
 use mathlib.Core.List.{List, [], _∷_, _++_}
 use borrow.Author.Tests.{ltb-false, le-ltb, not-false}
 use Rattle.base.specs.Pick.{pick}
-use Rattle.base.specs.First.{Line, _when_, first}
+use Rattle.base.specs.First.{Test, _when_, first}
 use Rattle.base.proofs.Clash.{clash}
 use Rattle.cut.specs.Total.{Each, none, more}
 use Rattle.cut.proofs.Totals.{each-of, each-map}
@@ -20,9 +20,9 @@ use Rattle.farm.specs.declared.Checked.{Checked}
 use Rattle.farm.specs.declared.Checked.the-variants.{Accepted, Refused}
 use Rattle.farm.specs.Labels.{labelOk, sameLabel}
 use Rattle.farm.specs.Refusals.{Says, accepts, says, HerdSays, FarmSays}
-use Rattle.farm.specs.Checks.{fits, isMissing, lacksOne, unfitOne, lacks, unfit, hasLabel, inputLines, herdLines, herdsLines, checkHerd, herdsOf, farmLines, checkFarm}
+use Rattle.farm.specs.Checks.{fits, isMissing, lacksOne, unfitOne, lacks, unfit, hasLabel, inputTests, herdTests, herdsTests, checkHerd, herdsOf, farmTests, checkFarm}
 use Rattle.farm.specs.Accepts.{Passes, GoodHerd, Distinct, GoodFarm}
-use Rattle.farm.proofs.Lines.{Refusing, refusing, Quiet, quiet-passes, accepted-quiet}
+use Rattle.farm.proofs.Tests.{Refusing, refusing, Quiet, quiet-passes, accepted-quiet}
 use Rattle.farm.proofs.HerdSteps.{herd-refusing}
 
 -- ---- tests that fail
@@ -54,14 +54,14 @@ none-unfit (Passes.next m f p) = rw f (none-unfit p)
 
 -- ---- a herd, after those that stand before it
 
-new-and-good : (before : List Label) (h : Herd) → Quiet (herdLines before h) → (hasLabel before (h .label) ≡ false) × GoodHerd h
+new-and-good : (before : List Label) (h : Herd) → Quiet (herdTests before h) → (hasLabel before (h .label) ≡ false) × GoodHerd h
 unfolding lacks unfit
 new-and-good before h (more bad (more known (more lacking (more unfitting none)))) = (
   known,
   record { label = not-false (labelOk (h .label)) bad; inputs = passing (rowsOf (h .kind)) (h .slots) lacking unfitting },
 )
 
-quiet-herd : (before : List Label) (h : Herd) → hasLabel before (h .label) ≡ false → GoodHerd h → Quiet (herdLines before h)
+quiet-herd : (before : List Label) (h : Herd) → hasLabel before (h .label) ≡ false → GoodHerd h → Quiet (herdTests before h)
 unfolding lacks unfit
 quiet-herd before h new g =
     more (negated (labelOk (h .label)) (g .label)) (more new (more (none-lacks (g .inputs)) (more (none-unfit (g .inputs)) none)))
@@ -113,24 +113,24 @@ record Right (before : List Label) (hs : List Herd) : Type 0 where
   pub herds : Each GoodHerd hs
   pub labels : Distinct hs
 
-right : (before : List Label) (hs : List Herd) → Quiet (herdsLines before hs) → Right before hs
+right : (before : List Label) (hs : List Herd) → Quiet (herdsTests before hs) → Right before hs
 right before [] q = record { new = none; herds = none; labels = Distinct.none }
 right before (h ∷ hs) q =
-    let here = new-and-good before h (each-front (herdLines before h) (herdsLines (before ++ (h .label ∷ [])) hs) q) in
-    let rest = right (before ++ (h .label ∷ [])) hs (each-back (herdLines before h) (herdsLines (before ++ (h .label ∷ [])) hs) q) in
+    let here = new-and-good before h (each-front (herdTests before h) (herdsTests (before ++ (h .label ∷ [])) hs) q) in
+    let rest = right (before ++ (h .label ∷ [])) hs (each-back (herdTests before h) (herdsTests (before ++ (h .label ∷ [])) hs) q) in
     record {
       new = more (here .0) (each-map (λ x e. new-split before (h .label) (x .label) e .0) (rest .new));
       herds = more (here .1) (rest .herds);
       labels = Distinct.next (each-map (λ x e. new-split before (h .label) (x .label) e .1) (rest .new)) (rest .labels);
     }
 
-quiet-herds : (before : List Label) (hs : List Herd) → Each (λ h. hasLabel before (h .label) ≡ false) hs → Each GoodHerd hs → Distinct hs → Quiet (herdsLines before hs)
+quiet-herds : (before : List Label) (hs : List Herd) → Each (λ h. hasLabel before (h .label) ≡ false) hs → Each GoodHerd hs → Distinct hs → Quiet (herdsTests before hs)
 quiet-herds before [] new herds labels = none
 quiet-herds before (h ∷ hs) (more n new) (more g herds) (Distinct.next d labels) =
     each-append (quiet-herd before h n g)
     (quiet-herds (before ++ (h .label ∷ [])) hs (each-both (λ x. new-join before (h .label) (x .label)) new d) herds labels)
 
-herds-refusing : (before : List Label) (hs : List Herd) → Each Refusing (herdsLines before hs)
+herds-refusing : (before : List Label) (hs : List Herd) → Each Refusing (herdsTests before hs)
 herds-refusing before [] = none
 herds-refusing before (h ∷ hs) = each-append (herd-refusing before h) (herds-refusing (before ++ (h .label ∷ [])) hs)
 
@@ -141,13 +141,13 @@ pub accepted-farm : (f : Farm) → checkFarm f ≡ Accepted → GoodFarm f
 unfolding checkFarm
 accepted-farm f e = go (accepted-quiet (more refusing (herds-refusing [] (herdsOf f))) e)
   where
-    go : Quiet (farmLines f) → GoodFarm f
+    go : Quiet (farmTests f) → GoodFarm f
     go (more full q) = let r = right [] (herdsOf f) q in record { room = ltb-false 64 (f .count) full; herds = r .herds; labels = r .labels }
 
 pub good-farm : (f : Farm) → GoodFarm f → checkFarm f ≡ Accepted
 unfolding checkFarm
 good-farm f g =
-    quiet-passes {ls = farmLines f} (more (le-ltb 64 (f .count) (g .room)) (quiet-herds [] (herdsOf f) (all-new (herdsOf f)) (g .herds) (g .labels))) Accepted
+    quiet-passes {ls = farmTests f} (more (le-ltb 64 (f .count) (g .room)) (quiet-herds [] (herdsOf f) (all-new (herdsOf f)) (g .herds) (g .labels))) Accepted
 
 pub farm-count : (f : Farm) → checkFarm f ≡ Accepted → f .count ≤ 64
 farm-count f e = accepted-farm f e .room
@@ -158,7 +158,7 @@ farm-each f e = each-map good-herd (accepted-farm f e .herds)
 -- ---- what is said of a record
 
 module _ (P : Says → Type 0) (accepted : P accepts) where
-  said : {ls : List (Line Checked)} → Each (λ l. P (says (l .answer))) ls → P (says (first ls Accepted))
+  said : {ls : List (Test Checked)} → Each (λ l. P (says (l .answer))) ls → P (says (first ls Accepted))
   said none = accepted
   said (more {a} {l} p ps) = go (a .holds) p (said ps)
     where
@@ -168,15 +168,15 @@ module _ (P : Says → Type 0) (accepted : P accepts) where
 
 pub herd-says : (h : Herd) → HerdSays (says (checkHerd h))
 unfolding checkHerd
-herd-says h = said HerdSays HerdSays.fine {ls = Refused BadLabel 0 when not (labelOk (h .label)) ∷ inputLines h} (more HerdSays.label (more HerdSays.missing (more HerdSays.value none)))
+herd-says h = said HerdSays HerdSays.fine {ls = Refused BadLabel 0 when not (labelOk (h .label)) ∷ inputTests h} (more HerdSays.label (more HerdSays.missing (more HerdSays.value none)))
 
-herds-say : (before : List Label) (hs : List Herd) → Each (λ l. FarmSays (says (l .answer))) (herdsLines before hs)
+herds-say : (before : List Label) (hs : List Herd) → Each (λ l. FarmSays (says (l .answer))) (herdsTests before hs)
 herds-say before [] = none
 herds-say before (h ∷ hs) =
-    each-append {a = herdLines before h}
+    each-append {a = herdTests before h}
     (more (FarmSays.herd HerdSays.label) (more FarmSays.earlier (more (FarmSays.herd HerdSays.missing) (more (FarmSays.herd HerdSays.value) none))))
     (herds-say (before ++ (h .label ∷ [])) hs)
 
 pub farm-says : (f : Farm) → FarmSays (says (checkFarm f))
 unfolding checkFarm
-farm-says f = said FarmSays (FarmSays.herd HerdSays.fine) {ls = farmLines f} (more FarmSays.room (herds-say [] (herdsOf f)))
+farm-says f = said FarmSays (FarmSays.herd HerdSays.fine) {ls = farmTests f} (more FarmSays.room (herds-say [] (herdsOf f)))

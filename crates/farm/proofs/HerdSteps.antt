@@ -19,9 +19,9 @@ use Rattle.farm.specs.declared.Fault.the-variants.{NoRoomForHerd}
 use Rattle.farm.specs.declared.Checked.{Checked}
 use Rattle.farm.specs.declared.Checked.the-variants.{Accepted, Refused}
 use Rattle.farm.specs.Labels.{sameLabel}
-use Rattle.farm.specs.Checks.{hasLabel, herdLines, herdsLines, herdsOf, checkFarm}
+use Rattle.farm.specs.Checks.{hasLabel, herdTests, herdsTests, herdsOf, checkFarm}
 use Rattle.farm.proofs.Left.{taken-at, taken-end, taken-past, taken-stored}
-use Rattle.farm.proofs.Lines.{first-append, Refusing, refusing, quiet-passes, accepted-quiet, refused-first}
+use Rattle.farm.proofs.Tests.{first-append, Refusing, refusing, quiet-passes, accepted-quiet, refused-first}
 
 -- ---- i of the labels were other ones
 
@@ -57,8 +57,8 @@ pub ruleset flags = (flag-true, flag-false, flag-not-true, flag-not-false)
 
 -- ---- a farm: i herds were accepted
 
--- the lines of a herd refuse
-pub herd-refusing : (earlier : List Label) (h : Herd) → Each Refusing (herdLines earlier h)
+-- the tests of a herd refuse
+pub herd-refusing : (earlier : List Label) (h : Herd) → Each Refusing (herdTests earlier h)
 herd-refusing earlier h = more refusing (more refusing (more refusing (more refusing none)))
 
 module _ (f : Farm) where
@@ -66,30 +66,30 @@ module _ (f : Farm) where
   unfolding checkFarm
   no-room h = simp (lt-ltb 64 (f .count) h)
 
-  pub farm-start : f .count ≤ 64 → first (herdsLines [] (herdsOf f)) Accepted ≡ checkFarm f
+  pub farm-start : f .count ≤ 64 → first (herdsTests [] (herdsOf f)) Accepted ≡ checkFarm f
   unfolding checkFarm
   farm-start h = simp (le-ltb 64 (f .count) h)
 
-  module _ (ls : List Label) (i : ℕ) (inv : first (herdsLines (take i ls) (drop i (herdsOf f))) Accepted ≡ checkFarm f) where
+  module _ (ls : List Label) (i : ℕ) (inv : first (herdsTests (take i ls) (drop i (herdsOf f))) Accepted ≡ checkFarm f) where
     module _ (long : length (f .herds) ≡ 64) (room : f .count ≤ 64) (b : i < f .count) (d : Herd) (r : Checked)
-        (e : r ≡ first (herdLines (take i (set ls i (getD (f .herds) i d .label))) (getD (f .herds) i d)) Accepted) where
+        (e : r ≡ first (herdTests (take i (set ls i (getD (f .herds) i d .label))) (getD (f .herds) i d)) Accepted) where
       abbrev after : Checked
-      after = first (herdsLines (take i ls ++ (getD (f .herds) i d .label ∷ [])) (drop (i + 1) (herdsOf f))) Accepted
+      after = first (herdsTests (take i ls ++ (getD (f .herds) i d .label ∷ [])) (drop (i + 1) (herdsOf f))) Accepted
 
-      next-herd : first (herdLines (take i ls) (getD (f .herds) i d)) after ≡ checkFarm f
+      next-herd : first (herdTests (take i ls) (getD (f .herds) i d)) after ≡ checkFarm f
       next-herd =
           let j : i < length (f .herds) = omega arith in
           let h = getD (f .herds) i d in
-          sym (first-append (herdLines (take i ls) h) (herdsLines (take i ls ++ (h .label ∷ [])) (drop (i + 1) (herdsOf f))) Accepted)
-          ∙ sym (ap (λ (hs : List Herd). first (herdsLines (take i ls) hs) Accepted) (taken-at (f .count) (f .herds) i d b j))
+          sym (first-append (herdTests (take i ls) h) (herdsTests (take i ls ++ (h .label ∷ [])) (drop (i + 1) (herdsOf f))) Accepted)
+          ∙ sym (ap (λ (hs : List Herd). first (herdsTests (take i ls) hs) Accepted) (taken-at (f .count) (f .herds) i d b j))
           ∙ inv
 
       -- the herd's own label is stored behind the labels that it is compared with
-      compared : r ≡ first (herdLines (take i ls) (getD (f .herds) i d)) Accepted
+      compared : r ≡ first (herdTests (take i ls) (getD (f .herds) i d)) Accepted
       compared = rw (take-set-le i ls i (getD (f .herds) i d .label) (omega arith)) at e
 
       pub herd-accepted : length ls ≡ 64 → r ≡ Accepted
-          → first (herdsLines (take (i + 1) (set ls i (getD (f .herds) i d .label))) (drop (i + 1) (herdsOf f))) Accepted ≡ checkFarm f
+          → first (herdsTests (take (i + 1) (set ls i (getD (f .herds) i d .label))) (drop (i + 1) (herdsOf f))) Accepted ≡ checkFarm f
       herd-accepted long′ t =
           let j : i < length ls = omega arith in
           let q = accepted-quiet (herd-refusing (take i ls) (getD (f .herds) i d)) (sym compared ∙ t) in

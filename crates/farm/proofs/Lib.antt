@@ -3,6 +3,6 @@ pub mod LabelSteps
 pub mod LabelTexts
 pub mod LabelsSoFar
 pub mod SlotSteps
-pub mod Lines
+pub mod Tests
 pub mod HerdSteps
 pub mod Accepts

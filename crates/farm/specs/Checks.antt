@@ -6,7 +6,7 @@ use mathlib.Core.Bool.{Bool, true, false, not, _||_}
 use mathlib.Core.List.{List, [], _∷_, _++_, map}
 use lib.ListN.{take}
 use lib.Dec.{leb, ltb}
-use Rattle.base.specs.First.{Line, _when_, first}
+use Rattle.base.specs.First.{Test, _when_, first}
 use Rattle.inputs.specs.declared.Form.{Form}
 use Rattle.inputs.specs.declared.Form.the-variants.{Number, OrStandard, NoStandard, OneOf}
 use Rattle.inputs.specs.Inputs.{Row, rowsOf}
@@ -77,29 +77,29 @@ unfoldable pub earlierLabel : List Herd → Label → Bool
 earlierLabel hs l = hasLabel (labelsOf hs) l
 
 -- the tests of a herd's inputs, and of a herd that stands after those with these labels, in their order
-abbrev pub inputLines : Herd → List (Line Checked)
-inputLines h = Refused InputMissing 0 when lacks h ∷ Refused BadValue 0 when unfit h ∷ []
+abbrev pub inputTests : Herd → List (Test Checked)
+inputTests h = Refused InputMissing 0 when lacks h ∷ Refused BadValue 0 when unfit h ∷ []
 
-abbrev pub herdLines : List Label → Herd → List (Line Checked)
-herdLines earlier h =
-    Refused BadLabel 0 when not (labelOk (h .label)) ∷ Refused EarlierLabel 0 when hasLabel earlier (h .label) ∷ inputLines h
+abbrev pub herdTests : List Label → Herd → List (Test Checked)
+herdTests earlier h =
+    Refused BadLabel 0 when not (labelOk (h .label)) ∷ Refused EarlierLabel 0 when hasLabel earlier (h .label) ∷ inputTests h
 
 -- herd by herd
-abbrev pub herdsLines : List Label → List Herd → List (Line Checked)
-herdsLines earlier [] = []
-herdsLines earlier (h ∷ hs) = herdLines earlier h ++ herdsLines (earlier ++ (h .label ∷ [])) hs
+abbrev pub herdsTests : List Label → List Herd → List (Test Checked)
+herdsTests earlier [] = []
+herdsTests earlier (h ∷ hs) = herdTests earlier h ++ herdsTests (earlier ++ (h .label ∷ [])) hs
 
 -- a herd by itself: no herd is earlier
 unfoldable pub checkHerd : Herd → Checked
-checkHerd h = first (herdLines [] h) Accepted
+checkHerd h = first (herdTests [] h) Accepted
 
 -- the herds of a farm
 abbrev pub herdsOf : Farm → List Herd
 herdsOf f = take (f .count) (f .herds)
 
 -- the tests of a farm
-abbrev pub farmLines : Farm → List (Line Checked)
-farmLines f = Refused NoRoomForHerd 0 when ltb 64 (f .count) ∷ herdsLines [] (herdsOf f)
+abbrev pub farmTests : Farm → List (Test Checked)
+farmTests f = Refused NoRoomForHerd 0 when ltb 64 (f .count) ∷ herdsTests [] (herdsOf f)
 
 unfoldable pub checkFarm : Farm → Checked
-checkFarm f = first (farmLines f) Accepted
+checkFarm f = first (farmTests f) Accepted

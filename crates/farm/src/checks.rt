@@ -12,7 +12,7 @@ ghost use mathlib.Core.Path.{_≡_};
 ghost use lib.ListN.{take};
 ghost use Rattle.base.specs.First.{first};
 ghost use Rattle.farm.specs.declared.Checked.the-variants.{Accepted};
-ghost use Rattle.farm.specs.Checks.{standardFits, valueFits, fits, isMissing, lacks, unfit, hasLabel, inputLines, herdLines, checkHerd, checkFarm};
+ghost use Rattle.farm.specs.Checks.{standardFits, valueFits, fits, isMissing, lacks, unfit, hasLabel, inputTests, herdTests, checkHerd, checkFarm};
 
 const HERDS_MOST: usize = 64;
 
@@ -116,7 +116,7 @@ pub fn earlier_label(labels: Labels, upto: usize, l: Label) -> bool
 
 // The checks of a herd's inputs: 12, then 7.
 fn check_inputs(h: Herd) -> Checked
-    ensures { λ r. ⌜ r ≡ first (inputLines h) Accepted ⌝ }
+    ensures { λ r. ⌜ r ≡ first (inputTests h) Accepted ⌝ }
 {
     if lacks_input(h) {
         return Checked::Refused(Fault::InputMissing, 0);
@@ -139,7 +139,7 @@ pub fn check_herd(h: Herd) -> Checked
 
 // A herd that stands after those of the first `place` labels: 4, 8, 12, 7.
 fn check_after(labels: Labels, place: usize, h: Herd) -> Checked
-    ensures { λ r. ⌜ r ≡ first (herdLines (take place (labels .of)) h) Accepted ⌝ }
+    ensures { λ r. ⌜ r ≡ first (herdTests (take place (labels .of)) h) Accepted ⌝ }
 {
     if !labels::label_ok(h.label) {
         return Checked::Refused(Fault::BadLabel, 0);

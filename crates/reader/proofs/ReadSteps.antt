@@ -29,9 +29,9 @@ use Rattle.reader.specs.declared.Current.{Current}
 use Rattle.reader.specs.declared.Met.{Met}
 use Rattle.reader.specs.declared.FileAnswer.{FileAnswer}
 use Rattle.farm.specs.Herds.{noHerd}
-use Rattle.reader.specs.Files.{Progress, noFarm, refused, nothingRead, recordLines, taken, closed, finished, readFrom}
+use Rattle.reader.specs.Files.{Progress, noFarm, refused, nothingRead, recordTests, taken, closed, finished, readFrom}
 use Rattle.reader.specs.Turns.{progress, nothingCurrent, followedBy, metBy, metAt, counted, admitted, Underway}
-use Rattle.reader.proofs.TurnSays.{newLines, beginning, withCurrent, TurnSays, turn-says, Admits, admits}
+use Rattle.reader.proofs.TurnSays.{newTests, beginning, withCurrent, TurnSays, turn-says, Admits, admits}
 use Rattle.reader.proofs.FileSteps.{none-yet, one-counted, stored, closed-farm, closed-lacking}
 
 -- what is read from a place on, where the n-th record comes
@@ -45,22 +45,22 @@ data MetSays (s : List ℕ) (place : ReaderPlace) (n : ℕ) (p : Progress) : Tur
   wrong : {fault : Fault} {h : Herd} {next : ReaderPlace} → onFrom s place n p ≡ refused n fault → MetSays s place n p (Wrong fault) h next
   adds : {h : Herd} {next : ReaderPlace} → (p .herd ≡ noHerd → ⊥) → onFrom s place n p ≡ onFrom s next (n + 1) (withCurrent p h) → place .at < next .at → next .at ≤ length s
       → MetSays s place n p Adds h next
-  begins : {h : Herd} {next : ReaderPlace} → onFrom s place n p ≡ first (newLines n p (h .label)) (onFrom s next (n + 1) (beginning n p h))
+  begins : {h : Herd} {next : ReaderPlace} → onFrom s place n p ≡ first (newTests n p (h .label)) (onFrom s next (n + 1) (beginning n p h))
       → place .at < next .at → next .at ≤ length s
       → MetSays s place n p Begins h next
 
 module _ (s : List ℕ) (place : ReaderPlace) (n : ℕ) (p : Progress) where
-  turn-met : (x : Parts) (next : ReaderPlace) → onFrom s place n p ≡ first (recordLines n p x) (onFrom s next (n + 1) (taken n p x)) → place .at < next .at → next .at ≤ length s
+  turn-met : (x : Parts) (next : ReaderPlace) → onFrom s place n p ≡ first (recordTests n p x) (onFrom s next (n + 1) (taken n p x)) → place .at < next .at → next .at ≤ length s
       → {t : Turn} {h : Herd} → TurnSays n p x t h → MetSays s place n p t h next
   turn-met x next e past fits (TurnSays.wrong l) = MetSays.wrong (e ∙ l _)
   turn-met x next e past fits (TurnSays.adds some l k) = MetSays.adds some (e ∙ l _ ∙ ap (onFrom s next (n + 1)) k) past fits
   turn-met x next e past fits (TurnSays.begins {h} l k) =
-      MetSays.begins (e ∙ l _ ∙ ap (λ (q : Progress). first (newLines n p (h .label)) (onFrom s next (n + 1) q)) k) past fits
+      MetSays.begins (e ∙ l _ ∙ ap (λ (q : Progress). first (newTests n p (h .label)) (onFrom s next (n + 1) q)) k) past fits
 
   step-met : {o : Step} → Says s (place .at) o → let m = metBy s place (p .herd) o in MetSays s place n p (m .turn) (m .herd) (m .next)
   unfolding readFrom
   step-met (Says.found {f} {n = next} x) =
-      let e : onFrom s place n p ≡ first (recordLines n p (partsAt s f)) (onFrom s next (n + 1) (taken n p (partsAt s f))) = rw (x .reads, readFrom, x .holds) in
+      let e : onFrom s place n p ≡ first (recordTests n p (partsAt s f)) (onFrom s next (n + 1) (taken n p (partsAt s f))) = rw (x .reads, readFrom, x .holds) in
       turn-met (partsAt s f) next e (x .past) (x .fits) (turn-says n p (partsAt s f))
   step-met (Says.broken b a e) = MetSays.wrong {fault = RecordBroken} (rw (e, readFrom))
   step-met (Says.ended l) = MetSays.ends (rw (end-read s (place .at) l, readFrom))

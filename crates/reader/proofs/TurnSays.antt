@@ -8,7 +8,7 @@ use lib.Dec.{eqb, leb}
 use lib.ListN.{length}
 use borrow.Author.Tests.{leb-false}
 use Rattle.base.specs.Pick.{pick}
-use Rattle.base.specs.First.{Line, _when_, first}
+use Rattle.base.specs.First.{Test, _when_, first}
 use Rattle.csv.specs.declared.Fields.{Fields}
 use Rattle.csv.specs.declared.ReaderPlace.{ReaderPlace}
 use Rattle.csv.specs.declared.Step.{Step}
@@ -38,20 +38,20 @@ use Rattle.reader.specs.declared.Turn.the-variants.{Adds, Wrong, Begins,
 use Rattle.reader.specs.declared.Turned.{Turned}
 use Rattle.reader.specs.declared.FileAnswer.{FileAnswer}
 use Rattle.reader.specs.Values.{valueOf}
-use Rattle.reader.specs.Entries.{labelIn, isNowhere, placeIn, foundIn, inputIn, isForbidden, isUnfit, givenBy, givenIn, entryLines, toldIn, entryOf}
+use Rattle.reader.specs.Entries.{labelIn, isNowhere, placeIn, foundIn, inputIn, isForbidden, isUnfit, givenBy, givenIn, entryTests, toldIn, entryOf}
 use Rattle.farm.specs.Herds.{noHerd}
 use Rattle.reader.specs.Herds.{sameKind, withInput, newHerd, hasInput}
-use Rattle.reader.specs.Files.{Progress, refused, closed, isCurrent, recordLines, taken}
+use Rattle.reader.specs.Files.{Progress, refused, closed, isCurrent, recordTests, taken}
 use Rattle.reader.specs.Turns.{Listed, turned, addingTo, turnTo, turnOf, metBy, metAt, admitted}
 
 -- ---- lists of refusals, whatever a refusal is said as
 
-abbrev lines : {A : Type 0} → (Fault → A) → List (Line Fault) → List (Line A)
+abbrev lines : {A : Type 0} → (Fault → A) → List (Test Fault) → List (Test A)
 lines refuse [] = []
 lines refuse (l ∷ ls) = refuse (l .answer) when l .holds ∷ lines refuse ls
 
-abbrev faults : Parts → List (Line Fault)
-faults x = entryLines (λ fault. fault) x
+abbrev faults : Parts → List (Test Fault)
+faults x = entryTests (λ fault. fault) x
 
 -- what is told decides: the refusal, or what comes behind
 abbrev decided : {A : Type 0} → (Fault → A) → A → Told → A
@@ -59,11 +59,11 @@ decided refuse z (tolds.Wrong fault) = refuse fault
 decided refuse z (tolds.Input i g) = z
 
 -- what a list of refusals tells of a record that gives g for the input i
-abbrev told : ℕ → Given → List (Line Fault) → Told
+abbrev told : ℕ → Given → List (Test Fault) → Told
 told i g ls = first (lines tolds.Wrong ls) (tolds.Input i g)
 
 module _ (i : ℕ) (g : Given) where
-  told-first : {A : Type 0} (refuse : Fault → A) (behind : List (Line A)) (z : A) (ls : List (Line Fault)) → first (lines refuse ls ++ behind) z ≡ decided refuse (first behind z) (told i g ls)
+  told-first : {A : Type 0} (refuse : Fault → A) (behind : List (Test A)) (z : A) (ls : List (Test Fault)) → first (lines refuse ls ++ behind) z ≡ decided refuse (first behind z) (told i g ls)
   told-first refuse behind z [] = refl
   told-first {A} refuse behind z (l ∷ ls) = go (l .holds) (told-first refuse behind z ls)
     where
@@ -72,7 +72,7 @@ module _ (i : ℕ) (g : Given) where
       go true e = refl
       go false e = e
 
-  told-input : (ls : List (Line Fault)) {j : ℕ} {v : Given} → told i g ls ≡ tolds.Input j v → tolds.Input i g ≡ tolds.Input j v
+  told-input : (ls : List (Test Fault)) {j : ℕ} {v : Given} → told i g ls ≡ tolds.Input j v → tolds.Input i g ≡ tolds.Input j v
   told-input [] e = e
   told-input (l ∷ ls) {j} {v} e = go (l .holds) e (told-input ls)
     where
@@ -80,7 +80,7 @@ module _ (i : ℕ) (g : Given) where
       go true h more = cc
       go false h more = more h
 
-  told-listed : i < length rows → (ls : List (Line Fault)) → Listed (told i g ls)
+  told-listed : i < length rows → (ls : List (Test Fault)) → Listed (told i g ls)
   told-listed b [] = Listed.input b
   told-listed b (l ∷ ls) = go (l .holds) (told-listed b ls)
     where
@@ -105,7 +105,7 @@ entry-listed x = go (foundIn x) refl
     nowhere false true = Listed.wrong
     nowhere false false = Listed.wrong
 
-    by : Found → List (Line Fault)
+    by : Found → List (Test Fault)
     by o =
         NotFourFields when a
         ∷ BadLabel when b
@@ -152,11 +152,11 @@ module _ (s : List ℕ) (place : ReaderPlace) (h : Herd) {o : Step} (q : o ≡ s
 
 pub ruleset met-steps = (met-record, met-broken, met-end)
 
--- ---- the turn says what the lines give, and what is read then
+-- ---- the turn says what the tests give, and what is read then
 
--- the lines of a record of another label
-abbrev pub newLines : ℕ → Progress → Label → List (Line FileAnswer)
-newLines n p l = refused n EarlierLabel when earlierLabel (herdsOf (p .farm)) l ∷ refused n NoRoomForHerd when leb 64 (closed p .farm .count) ∷ []
+-- the tests of a record of another label
+abbrev pub newTests : ℕ → Progress → Label → List (Test FileAnswer)
+newTests n p l = refused n EarlierLabel when earlierLabel (herdsOf (p .farm)) l ∷ refused n NoRoomForHerd when leb 64 (closed p .farm .count) ∷ []
 
 -- the herd h, whose first record is the n-th, is the one being read
 abbrev pub beginning : ℕ → Progress → Herd → Progress
@@ -167,9 +167,9 @@ abbrev pub withCurrent : Progress → Herd → Progress
 withCurrent p h = record { farm = p .farm; herd = h; first = p .first; lacking = p .lacking }
 
 pub data TurnSays (n : ℕ) (p : Progress) (x : Parts) : Turn → Herd → Type 0 where
-  wrong : {fault : Fault} {h : Herd} → ((z : FileAnswer) → first (recordLines n p x) z ≡ refused n fault) → TurnSays n p x (Wrong fault) h
-  adds : {h : Herd} → (p .herd ≡ noHerd → ⊥) → ((z : FileAnswer) → first (recordLines n p x) z ≡ z) → taken n p x ≡ withCurrent p h → TurnSays n p x Adds h
-  begins : {h : Herd} → ((z : FileAnswer) → first (recordLines n p x) z ≡ first (newLines n p (h .label)) z) → taken n p x ≡ beginning n p h → TurnSays n p x Begins h
+  wrong : {fault : Fault} {h : Herd} → ((z : FileAnswer) → first (recordTests n p x) z ≡ refused n fault) → TurnSays n p x (Wrong fault) h
+  adds : {h : Herd} → (p .herd ≡ noHerd → ⊥) → ((z : FileAnswer) → first (recordTests n p x) z ≡ z) → taken n p x ≡ withCurrent p h → TurnSays n p x Adds h
+  begins : {h : Herd} → ((z : FileAnswer) → first (recordTests n p x) z ≡ first (newTests n p (h .label)) z) → taken n p x ≡ beginning n p h → TurnSays n p x Begins h
 
 module _ (n : ℕ) (p : Progress) (x : Parts) where
   abbrev i : ℕ
@@ -179,7 +179,7 @@ module _ (n : ℕ) (p : Progress) (x : Parts) where
   g = givenIn x
 
   -- 8 to 11, where the record's label is the herd's own or not
-  abbrev behind : Bool → List (Line FileAnswer)
+  abbrev behind : Bool → List (Test FileAnswer)
   behind own =
       refused n EarlierLabel when (not own && earlierLabel (herdsOf (p .farm)) (labelIn x))
       ∷ refused n NoRoomForHerd when (not own && leb 64 (closed p .farm .count))
@@ -193,7 +193,7 @@ module _ (n : ℕ) (p : Progress) (x : Parts) where
 
   -- the herd's own label: 10 and 11
   own-turn : (p .herd ≡ noHerd → ⊥) → (same given : Bool)
-      → ((z : FileAnswer) → first (recordLines n p x) z ≡ pick (not same) (refused n OtherKind) (pick given (refused n GivenAlready) z))
+      → ((z : FileAnswer) → first (recordTests n p x) z ≡ pick (not same) (refused n OtherKind) (pick given (refused n GivenAlready) z))
       → taken n p x ≡ took true
       → let t = pick (not same) (turned (Wrong OtherKind) (p .herd)) (pick given (turned (Wrong GivenAlready) (p .herd)) (turned Adds (withInput (p .herd) i g))) in
       TurnSays n p x (t .turn) (t .herd)
@@ -202,15 +202,15 @@ module _ (n : ℕ) (p : Progress) (x : Parts) where
   own-turn some true false l t = TurnSays.adds some l t
 
   -- 3 to 7 do not apply
-  input-turn : labelOk (labelIn x) ≡ true → (own : Bool) → isCurrent p x ≡ own → ((z : FileAnswer) → first (recordLines n p x) z ≡ first (behind own) z) → taken n p x ≡ took own
+  input-turn : labelOk (labelIn x) ≡ true → (own : Bool) → isCurrent p x ≡ own → ((z : FileAnswer) → first (recordTests n p x) z ≡ first (behind own) z) → taken n p x ≡ took own
       → let t = pick own (addingTo (p .herd) i g) (turned Begins (newHerd (labelIn x) i g)) in
       TurnSays n p x (t .turn) (t .herd)
   unfolding addingTo newHerd withInput
   input-turn good true e l t = own-turn (λ q. true≢false (sym (rw q at e) ∙ no-label (labelIn x) good)) (sameKind (p .herd .kind) (kindAt i)) (hasInput (p .herd) i) l t
   input-turn good false e l t = TurnSays.begins l t
 
-  told-lines : {t : Told} → toldIn x ≡ t → (z : FileAnswer) → first (recordLines n p x) z ≡ decided (refused n) (first (behind (isCurrent p x)) z) t
-  unfolding toldIn recordLines
+  told-lines : {t : Told} → toldIn x ≡ t → (z : FileAnswer) → first (recordTests n p x) z ≡ decided (refused n) (first (behind (isCurrent p x)) z) t
+  unfolding toldIn recordTests
   told-lines e z = told-first i g (refused n) (behind (isCurrent p x)) z (faults x) ∙ ap (decided (refused n) (first (behind (isCurrent p x)) z)) e
 
   told-turn : (t : Told) → toldIn x ≡ t → TurnSays n p x (turnTo (p .herd) (labelIn x) t .turn) (turnTo (p .herd) (labelIn x) t .herd)
@@ -227,15 +227,15 @@ module _ (n : ℕ) (p : Progress) (x : Parts) where
 -- ---- another label: 8 and 9
 
 pub data Admits (n : ℕ) (p : Progress) (l : Label) : Checked → Type 0 where
-  refuses : {fault : Fault} {k : ℕ} → ((z : FileAnswer) → first (newLines n p l) z ≡ refused k fault) → Admits n p l (Refused fault k)
-  accepts : ((z : FileAnswer) → first (newLines n p l) z ≡ z) → closed p .farm .count < 64 → Admits n p l Accepted
+  refuses : {fault : Fault} {k : ℕ} → ((z : FileAnswer) → first (newTests n p l) z ≡ refused k fault) → Admits n p l (Refused fault k)
+  accepts : ((z : FileAnswer) → first (newTests n p l) z ≡ z) → closed p .farm .count < 64 → Admits n p l Accepted
 
 pub admits : (n : ℕ) (p : Progress) (l : Label) → Admits n p l (admitted (labelsOf (herdsOf (p .farm))) (closed p .farm .count) l n)
 unfolding admitted earlierLabel
 admits n p l = go (hasLabel (labelsOf (herdsOf (p .farm))) l) (leb 64 (closed p .farm .count)) (λ z. refl) refl
   where
     go : (earlier full : Bool)
-        → ((z : FileAnswer) → first (newLines n p l) z ≡ pick earlier (refused n EarlierLabel) (pick full (refused n NoRoomForHerd) z))
+        → ((z : FileAnswer) → first (newTests n p l) z ≡ pick earlier (refused n EarlierLabel) (pick full (refused n NoRoomForHerd) z))
         → leb 64 (closed p .farm .count) ≡ full
         → Admits n p l (pick earlier (Refused EarlierLabel n) (pick full (Refused NoRoomForHerd n) Accepted))
     go true full h e = Admits.refuses h

@@ -4,7 +4,7 @@ use mathlib.Core.Bool.{Bool, true, false, not}
 use mathlib.Core.List.{List, [], _∷_}
 use lib.ListN.{drop}
 use lib.Dec.{eqb}
-use Rattle.base.specs.First.{Line, _when_, first}
+use Rattle.base.specs.First.{Test, _when_, first}
 use Rattle.csv.specs.Reading.{Parts}
 use Rattle.inputs.specs.declared.Found.{Found}
 use Rattle.inputs.specs.declared.Found.the-variants.{At, Nowhere}
@@ -65,8 +65,8 @@ abbrev pub givenIn : Parts → Given
 givenIn x = givenBy (saidIn x)
 
 -- 3 to 7, in that order, whatever a refusal is said as
-abbrev pub entryLines : {A : Type 0} → (Fault → A) → Parts → List (Line A)
-entryLines refuse x =
+abbrev pub entryTests : {A : Type 0} → (Fault → A) → Parts → List (Test A)
+entryTests refuse x =
     refuse NotFourFields when not (eqb (x .count) 4)
     ∷ refuse BadLabel when not (labelOk (labelIn x))
     ∷ refuse NotInTheList when isNowhere (foundIn x)
@@ -75,11 +75,11 @@ entryLines refuse x =
     ∷ []
 
 unfoldable pub toldIn : Parts → Told
-toldIn x = first (entryLines Wrong x) (Input (inputIn x) (givenIn x))
+toldIn x = first (entryTests Wrong x) (Input (inputIn x) (givenIn x))
 
--- where 3 and 4 do not apply: the lines from 5 on
+-- where 3 and 4 do not apply: the tests from 5 on
 unfoldable pub toldOf : Parts → Told
-toldOf x = first (drop 2 (entryLines Wrong x)) (Input (inputIn x) (givenIn x))
+toldOf x = first (drop 2 (entryTests Wrong x)) (Input (inputIn x) (givenIn x))
 
 unfoldable pub entryOf : Parts → Entry
 entryOf x = record { label = labelIn x; told = toldIn x }

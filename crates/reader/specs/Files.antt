@@ -6,7 +6,7 @@ use mathlib.Core.List.{List, [], _∷_, _++_}
 use lib.ListN.{length, set, replicate}
 use lib.Dec.{eqb, leb, ltb}
 use Rattle.base.specs.Pick.{pick}
-use Rattle.base.specs.First.{Line, _when_, first}
+use Rattle.base.specs.First.{Test, _when_, first}
 use Rattle.csv.specs.Reading.{Parts, partsOf, Reading, _then_, end, broken, readingOf}
 use Rattle.inputs.specs.Inputs.{kindAt}
 use Rattle.farm.specs.declared.Herd.{Herd}
@@ -17,7 +17,7 @@ use Rattle.farm.specs.declared.Checked.the-variants.{Accepted, Refused}
 use Rattle.farm.specs.Labels.{sameLabel}
 use Rattle.farm.specs.Checks.{lacks, earlierLabel, herdsOf}
 use Rattle.reader.specs.declared.FileAnswer.{FileAnswer}
-use Rattle.reader.specs.Entries.{entryLines, labelIn, inputIn, givenIn}
+use Rattle.reader.specs.Entries.{entryTests, labelIn, inputIn, givenIn}
 use Rattle.farm.specs.Herds.{noHerd}
 use Rattle.reader.specs.Herds.{sameKind, withInput, newHerd, hasInput}
 
@@ -66,9 +66,9 @@ isCurrent p x = sameLabel (p .herd .label) (labelIn x)
 
 -- ---- one record: 3 to 11, in that order
 
-unfoldable pub recordLines : ℕ → Progress → Parts → List (Line FileAnswer)
-recordLines n p x =
-    entryLines (refused n) x
+unfoldable pub recordTests : ℕ → Progress → Parts → List (Test FileAnswer)
+recordTests n p x =
+    entryTests (refused n) x
     ++ (refused n EarlierLabel when (not (isCurrent p x) && earlierLabel (herdsOf (p .farm)) (labelIn x))
     ∷ refused n NoRoomForHerd when (not (isCurrent p x) && leb 64 (closed p .farm .count))
     ∷ refused n OtherKind when (isCurrent p x && not (sameKind (p .herd .kind) (kindAt (inputIn x))))
@@ -97,7 +97,7 @@ finished p = first (refused (closed p .lacking) InputMissing when not (eqb (clos
 unfoldable pub readFrom : ℕ → Progress → Reading → FileAnswer
 readFrom n p end = finished p
 readFrom n p broken = refused n RecordBroken
-readFrom n p (cs then rest) = first (recordLines n p (partsOf cs)) (readFrom (n + 1) (taken n p (partsOf cs)) rest)
+readFrom n p (cs then rest) = first (recordTests n p (partsOf cs)) (readFrom (n + 1) (taken n p (partsOf cs)) rest)
 
 -- 01: "at most 65,536 bytes"
 abbrev pub fileMost : ℕ

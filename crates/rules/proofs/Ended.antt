@@ -15,12 +15,12 @@ use Rattle.inputs.proofs.Places.{within-kind, place-inside, kind-of-place}
 use Rattle.farm.specs.declared.Herd.{Herd}
 use Rattle.farm.specs.declared.Farm.{Farm}
 use Rattle.farm.specs.declared.Fault.the-variants.{InputMissing}
-use Rattle.farm.specs.Checks.{lacks}
+use Rattle.farm.specs.Checks.{labelsOf, lacks}
 use Rattle.reader.specs.declared.FileAnswer.{FileAnswer}
 use Rattle.farm.specs.Herds.{slotOf}
 use Rattle.reader.specs.Files.{Progress, refused, accepted, closed, finished}
 use Rattle.rules.specs.Lists.{Some, here, there, Apart}
-use Rattle.rules.specs.Rules.{Record, Gives, PartOf, HerdOf, Stand, farmOf, labels, FarmOf}
+use Rattle.rules.specs.Rules.{Record, Gives, PartOf, HerdOf, Stand, farmOf, FarmOf}
 use Rattle.rules.specs.Refusals.{NamesInput, SameLabel, Lacks}
 use Rattle.rules.proofs.Lists.{each-append, each-front, each-back, meet, some-left, some-right}
 use Rattle.rules.proofs.Entries.{one-input, reads}
@@ -61,18 +61,18 @@ stand-all (Stand.more p s) (more e es) = Stand.more (part-all p e) (stand-all s 
 
 -- ---- a herd that lacks one
 
-labels-other : (h : Herd) (hs : List Herd) → Each (λ b. h .label ≡ b → ⊥) (labels hs) → Each (λ x. x .label ≡ h .label → ⊥) hs
+labels-other : (h : Herd) (hs : List Herd) → Each (λ b. h .label ≡ b → ⊥) (labelsOf hs) → Each (λ x. x .label ≡ h .label → ⊥) hs
 labels-other h [] none = none
 labels-other h (x ∷ hs) (more n ns) = more (λ e. n (sym e)) (labels-other h hs ns)
 
-others-before : (hs : List Herd) (h : Herd) (hs′ : List Herd) → Apart (labels (hs ++ (h ∷ hs′))) → Each (λ x. x .label ≡ h .label → ⊥) hs
+others-before : (hs : List Herd) (h : Herd) (hs′ : List Herd) → Apart (labelsOf (hs ++ (h ∷ hs′))) → Each (λ x. x .label ≡ h .label → ⊥) hs
 others-before [] h hs′ d = none
 others-before (x ∷ hs) h hs′ (Apart.next n d) = more (of h (each-back hs (h ∷ hs′) (labels-other x (hs ++ (h ∷ hs′)) n))) (others-before hs h hs′ d)
   where
     of : (h : Herd) → Each (λ y. y .label ≡ x .label → ⊥) (h ∷ hs′) → x .label ≡ h .label → ⊥
     of h (more m _) e = m (sym e)
 
-others-behind : (hs : List Herd) (h : Herd) (hs′ : List Herd) → Apart (labels (hs ++ (h ∷ hs′))) → Each (λ x. x .label ≡ h .label → ⊥) hs′
+others-behind : (hs : List Herd) (h : Herd) (hs′ : List Herd) → Apart (labelsOf (hs ++ (h ∷ hs′))) → Each (λ x. x .label ≡ h .label → ⊥) hs′
 others-behind [] h hs′ (Apart.next n d) = labels-other h hs′ n
 others-behind (x ∷ hs) h hs′ (Apart.next n d) = others-behind hs h hs′ d
 
@@ -95,7 +95,7 @@ module _ {h : Herd} {cs : Record} (own : OfHerd h cs) where
       no x = let m = meet (unfilled j (p .each) e) (some-right slot-of (p .each) x) in m .one (m .other)
 
 lacks-input : {a c : List Record} (b : List Record) {hs hs′ : List Herd} {h : Herd} {cs : Record} → OfHerd h cs → Stand PartOf a hs → PartOf b h → Stand PartOf c hs′
-    → Apart (labels (hs ++ (h ∷ hs′))) → lacks h ≡ true → Lacks (a ++ (b ++ c)) cs
+    → Apart (labelsOf (hs ++ (h ∷ hs′))) → lacks h ≡ true → Lacks (a ++ (b ++ c)) cs
 lacks-input b {hs} {hs′} {h} own s p s′ d e =
     let m = part-missed p e in
     let input = firstOf (h .kind) + m .slot in
@@ -117,7 +117,7 @@ pub data Ended (rs : List Record) : FileAnswer → Type 0 where
   lacking : (before : List Record) (cs : Record) (after : List Record) → rs ≡ before ++ (cs ∷ after) → Lacks rs cs → Each (λ r. Lacks rs r → ⊥) before
       → Ended rs (refused (length before + 1) InputMissing)
 
-ended : {rs : List Record} {hs : List Herd} {k : ℕ} → Stand PartOf rs hs → Apart (labels hs) → length hs ≤ 64 → Lack rs hs k
+ended : {rs : List Record} {hs : List Herd} {k : ℕ} → Stand PartOf rs hs → Apart (labelsOf hs) → length hs ≤ 64 → Lack rs hs k
     → Ended rs (first (refused k InputMissing when not (eqb k 0) ∷ []) (accepted (farmOf hs)))
 ended {rs} {hs} s d room (nowhere ns) =
     let whole = stand-all s ns in

@@ -24,10 +24,10 @@ use Rattle.reader.specs.declared.Said.{Said}
 use Rattle.reader.specs.declared.Said.the-variants.{Is, Forbidden, Unfit}
 use Rattle.reader.specs.declared.FileAnswer.{FileAnswer}
 use Rattle.reader.specs.Values.{valueOf}
-use Rattle.reader.specs.Entries.{inputIn, givenIn, entryLines}
+use Rattle.reader.specs.Entries.{inputIn, givenIn, entryTests}
 use Rattle.reader.specs.Files.{refused}
 use Rattle.rules.specs.Rules.{Record, GoodLabel, Names, ValueIs, RecordSays, says}
-use Rattle.rules.specs.Refusals.{labelIn, valueIn, NamesInput, Applies, not-four-fields, bad-label, not-in-the-list, standard-forbidden, bad-value}
+use Rattle.rules.specs.Refusals.{labelText, valueIn, NamesInput, Applies, not-four-fields, bad-label, not-in-the-list, standard-forbidden, bad-value}
 use Rattle.rules.proofs.Labels.{ok-good, good-ok}
 use Rattle.rules.proofs.Values.{value-said, said-value, forbidden-said, said-forbidden}
 use Rattle.rules.proofs.Faults.{NoneBelow, none-yet, none-next}
@@ -46,13 +46,13 @@ one-input x y = let a = named-found x in let b = named-found y in cc
 -- ---- a record that says something passes 3 to 7, and is read as what it says
 
 pub record Reads (cs : Record) (l : List ℕ) (i : ℕ) (g : Given) : Type 0 where
-  pub label : labelIn cs ≡ l
+  pub label : labelText cs ≡ l
   pub good : GoodLabel l
   pub names : NamesInput cs i
   pub input : inputIn (partsOf cs) ≡ i
   pub given : givenIn (partsOf cs) ≡ g
   pub value : ValueIs (formAt i) (valueIn cs) g
-  pub passes : (n : ℕ) (z : FileAnswer) → first (entryLines (refused n) (partsOf cs)) z ≡ z
+  pub passes : (n : ℕ) (z : FileAnswer) → first (entryTests (refused n) (partsOf cs)) z ≡ z
 
 pub reads : {cs : Record} {l : List ℕ} {i : ℕ} {g : Given} → RecordSays cs l i g → Reads cs l i g
 reads (says {label = l} {path = m} {name = n} {value = v} {input = i} {given = g} good names value) =
@@ -76,7 +76,7 @@ one-given a b =
 
 -- ---- the other way
 
-four : {i : ℕ} {g : Given} (cs : Record) → length cs ≡ 4 → GoodLabel (labelIn cs) → NamesInput cs i → ValueIs (formAt i) (valueIn cs) g → RecordSays cs (labelIn cs) i g
+four : {i : ℕ} {g : Given} (cs : Record) → length cs ≡ 4 → GoodLabel (labelText cs) → NamesInput cs i → ValueIs (formAt i) (valueIn cs) g → RecordSays cs (labelText cs) i g
 four [] e = absurd (omega arith)
 four (a ∷ []) e = absurd (omega arith)
 four (a ∷ b ∷ []) e = absurd (omega arith)
@@ -87,13 +87,13 @@ four (a ∷ b ∷ c ∷ d ∷ x ∷ cs) e = absurd (omega arith)
 pub data Alone (before : List Record) (cs : Record) : Type 0 where
   tells : {l : List ℕ} {i : ℕ} {g : Given} → RecordSays cs l i g → NoneBelow before cs 8 → Alone before cs
   wrong : {fault : Fault} → Applies before cs fault → NoneBelow before cs (number fault)
-      → ((n : ℕ) (z : FileAnswer) → first (entryLines (refused n) (partsOf cs)) z ≡ refused n fault) → Alone before cs
+      → ((n : ℕ) (z : FileAnswer) → first (entryTests (refused n) (partsOf cs)) z ≡ refused n fault) → Alone before cs
 
 module _ (before : List Record) (cs : Record) where
   no-3 : length cs ≡ 4 → Applies before cs NotFourFields → ⊥
   no-3 e (not-four-fields n) = n e
 
-  no-4 : GoodLabel (labelIn cs) → Applies before cs BadLabel → ⊥
+  no-4 : GoodLabel (labelText cs) → Applies before cs BadLabel → ⊥
   no-4 g (bad-label n) = n g
 
   module _ {i : ℕ} (names : NamesInput cs i) where
@@ -112,7 +112,7 @@ module _ (before : List Record) (cs : Record) where
   pub alone : Alone before cs
   alone = count (eqb (length cs) 4) refl
     where
-      value : {i : ℕ} → length cs ≡ 4 → eqb (length cs) 4 ≡ true → GoodLabel (labelIn cs) → labelOk (labelOf (labelIn cs)) ≡ true → NamesInput cs i → findInput (getD cs 1 []) (getD cs 2 []) ≡ At i
+      value : {i : ℕ} → length cs ≡ 4 → eqb (length cs) 4 ≡ true → GoodLabel (labelText cs) → labelOk (labelOf (labelText cs)) ≡ true → NamesInput cs i → findInput (getD cs 1 []) (getD cs 2 []) ≡ At i
           → NoneBelow before cs 6 → (r : Said) → valueOf (formAt i) (valueIn cs) ≡ r → Alone before cs
       value {i} h e3 good e4 names e5 below (Is g) e =
           let v = said-value (formAt i) (valueIn cs) e in
@@ -126,7 +126,7 @@ module _ (before : List Record) (cs : Record) where
           (none-next 6 below (no-6 names e (λ d. clash cc)))
           (λ n z. rw (e3, e4, e5, e))
 
-      input : length cs ≡ 4 → eqb (length cs) 4 ≡ true → GoodLabel (labelIn cs) → labelOk (labelOf (labelIn cs)) ≡ true → NoneBelow before cs 5
+      input : length cs ≡ 4 → eqb (length cs) 4 ≡ true → GoodLabel (labelText cs) → labelOk (labelOf (labelText cs)) ≡ true → NoneBelow before cs 5
           → (r : Found) → findInput (getD cs 1 []) (getD cs 2 []) ≡ r → Alone before cs
       input h e3 good e4 below (At i) e =
           let names = found-named (getD cs 1 []) (getD cs 2 []) i e in
@@ -137,13 +137,13 @@ module _ (before : List Record) (cs : Record) where
           below
           (λ n z. rw (e3, e4, e))
 
-      label : length cs ≡ 4 → eqb (length cs) 4 ≡ true → NoneBelow before cs 4 → (t : Bool) → labelOk (labelOf (labelIn cs)) ≡ t → Alone before cs
+      label : length cs ≡ 4 → eqb (length cs) 4 ≡ true → NoneBelow before cs 4 → (t : Bool) → labelOk (labelOf (labelText cs)) ≡ t → Alone before cs
       label h e3 below true e =
-          let good = ok-good (labelIn cs) e in
+          let good = ok-good (labelText cs) e in
           input h e3 good e (none-next 4 below (no-4 good)) (findInput (getD cs 1 []) (getD cs 2 [])) refl
       label h e3 below false e =
-          wrong (bad-label (λ good. let g = good-ok (labelIn cs) good in clash cc)) below (λ n z. rw (e3, e))
+          wrong (bad-label (λ good. let g = good-ok (labelText cs) good in clash cc)) below (λ n z. rw (e3, e))
 
       count : (t : Bool) → eqb (length cs) 4 ≡ t → Alone before cs
-      count true e = let h = eqb-true (length cs) 4 e in label h e (none-next 3 none-yet (no-3 h)) (labelOk (labelOf (labelIn cs))) refl
+      count true e = let h = eqb-true (length cs) 4 e in label h e (none-next 3 none-yet (no-3 h)) (labelOk (labelOf (labelText cs))) refl
       count false e = wrong (not-four-fields (eqb-false (length cs) 4 e)) none-yet (λ n z. rw e)

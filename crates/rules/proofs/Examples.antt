@@ -8,7 +8,7 @@ use lib.ListN.{getD, replicate}
 use Rattle.base.specs.Text.{bytes}
 use Rattle.base.specs.Part.{sameBytes, lower, lowered}
 use Rattle.csv.specs.Reading.{atStart, inPlain, inQuotes, pastQuote, pastCR, readingFrom, readingOf}
-use Rattle.decimal.specs.Reading.{fractionFrom, pointFrom, wholeFrom, zeroFrom, readOf as readNumber, numberOf}
+use Rattle.decimal.specs.Reading.{fractionFrom, pointFrom, wholeFrom, zeroFrom, anyNumberOf, numberOf}
 use Rattle.inputs.specs.declared.Kind.the-variants.{Roughage, Pigs}
 use Rattle.inputs.specs.Inputs.{formAt}
 use Rattle.inputs.specs.Find.{firstFrom, isRow, findInput, isName, findName}
@@ -23,7 +23,7 @@ use Rattle.reader.specs.declared.FileAnswer.{FileAnswer}
 use Rattle.reader.specs.Values.{isStandard, valueOf}
 use Rattle.farm.specs.Herds.{noSlot}
 use Rattle.reader.specs.Herds.{withInput, newHerd}
-use Rattle.reader.specs.Files.{refused, accepted, closed, recordLines, taken, finished, readFrom, readOf}
+use Rattle.reader.specs.Files.{refused, accepted, closed, recordTests, taken, finished, readFrom, readOf}
 use Rattle.rules.specs.Rules.{farmOf, KeepsRules}
 use Rattle.rules.proofs.Accepts.{accepts-exactly}
 
@@ -110,7 +110,7 @@ examples =
     ∷ []
 
 worked : map (λ (e : Example). readOf (e .file)) examples ≡ map (λ (e : Example). e .answer) examples
-unfolding readOf readFrom recordLines taken closed finished readingOf readingFrom atStart inPlain inQuotes pastQuote pastCR labelOf labelOk byteOk sameLabel sameBytes lower lowered findInput firstFrom isRow formAt valueOf isStandard numberOf readNumber zeroFrom wholeFrom pointFrom fractionFrom findName isName newHerd withInput lacks earlierLabel
+unfolding readOf readFrom recordTests taken closed finished readingOf readingFrom atStart inPlain inQuotes pastQuote pastCR labelOf labelOk byteOk sameLabel sameBytes lower lowered findInput firstFrom isRow formAt valueOf isStandard numberOf anyNumberOf zeroFrom wholeFrom pointFrom fractionFrom findName isName newHerd withInput lacks earlierLabel
 worked = refl
 
 -- the pigs of 01 keep the rules

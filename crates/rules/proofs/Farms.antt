@@ -9,7 +9,7 @@ use lib.ListN.{length, set, replicate, length-append}
 use lib.Seq.{set-append-seam, take-append-seam}
 use borrow.Author.Tests.{ne-eqb}
 use Rattle.base.specs.Pick.{pick}
-use Rattle.base.specs.First.{Line, _when_, first}
+use Rattle.base.specs.First.{Test, _when_, first}
 use Rattle.base.proofs.Clash.{clash}
 use Rattle.cut.specs.Total.{Each, none, more}
 use Rattle.csv.specs.Reading.{partsOf}
@@ -20,22 +20,22 @@ use Rattle.farm.specs.declared.Herd.{Herd}
 use Rattle.farm.specs.declared.Farm.{Farm}
 use Rattle.farm.specs.declared.Fault.the-variants.{EarlierLabel, NoRoomForHerd, OtherKind, GivenAlready}
 use Rattle.farm.specs.Labels.{sameLabel, labelOf}
-use Rattle.farm.specs.Checks.{earlierLabel, herdsOf}
+use Rattle.farm.specs.Checks.{labelsOf, earlierLabel, herdsOf}
 use Rattle.reader.specs.declared.FileAnswer.{FileAnswer}
 use Rattle.reader.specs.Entries.{inputIn, givenIn}
 use Rattle.farm.specs.Herds.{noHerd}
 use Rattle.reader.specs.Herds.{sameKind, withInput, newHerd, hasInput}
-use Rattle.reader.specs.Files.{Progress, refused, withHerd, lackingWith, closed, recordLines, taken}
+use Rattle.reader.specs.Files.{Progress, refused, withHerd, lackingWith, closed, recordTests, taken}
 use Rattle.rules.specs.Lists.{Some, here, there, Apart, Pairs}
-use Rattle.rules.specs.Rules.{Record, GoodLabel, RecordSays, Gives, PartOf, Stand, farmOf, labels}
+use Rattle.rules.specs.Rules.{Record, GoodLabel, RecordSays, Gives, PartOf, Stand, farmOf}
 use Rattle.rules.proofs.Lists.{neither, apart-last}
 use Rattle.rules.proofs.Labels.{same-texts, other-label, own-label}
 use Rattle.rules.proofs.Entries.{reads}
 
 -- ---- a record that says something, with 8 to 11 before it
 
-abbrev pub turnLines : ℕ → Progress → Label → ℕ → List (Line FileAnswer)
-turnLines n p l i =
+abbrev pub turnTests : ℕ → Progress → Label → ℕ → List (Test FileAnswer)
+turnTests n p l i =
     refused n EarlierLabel when (not (sameLabel (p .herd .label) l) && earlierLabel (herdsOf (p .farm)) l)
     ∷ refused n NoRoomForHerd when (not (sameLabel (p .herd .label) l) && leb 64 (closed p .farm .count))
     ∷ refused n OtherKind when (sameLabel (p .herd .label) l && not (sameKind (p .herd .kind) (kindAt i)))
@@ -48,13 +48,13 @@ tookTo n p l i g =
     (record { farm = closed p .farm; herd = newHerd l i g; first = n; lacking = closed p .lacking })
 
 module _ {cs : Record} {l : List ℕ} {i : ℕ} {g : Given} (said : RecordSays cs l i g) (n : ℕ) (p : Progress) where
-  pub record-turn : (z : FileAnswer) → first (recordLines n p (partsOf cs)) z ≡ first (turnLines n p (labelOf l) i) z
-  unfolding recordLines
+  pub record-turn : (z : FileAnswer) → first (recordTests n p (partsOf cs)) z ≡ first (turnTests n p (labelOf l) i) z
+  unfolding recordTests
   record-turn z =
       let r = reads said in
       r .passes n _
-      ∙ ap (λ (t : List ℕ). first (turnLines n p (labelOf t) (inputIn (partsOf cs))) z) (r .label)
-      ∙ ap (λ (j : ℕ). first (turnLines n p (labelOf l) j) z) (r .input)
+      ∙ ap (λ (t : List ℕ). first (turnTests n p (labelOf t) (inputIn (partsOf cs))) z) (r .label)
+      ∙ ap (λ (j : ℕ). first (turnTests n p (labelOf l) j) z) (r .input)
 
   pub record-took : taken n p (partsOf cs) ≡ tookTo n p (labelOf l) i g
   unfolding taken
@@ -162,13 +162,13 @@ pub stand-last : {R : List Record → Herd → Type 0} {a b : List Record} {hs :
 stand-last {R} {b = b} {h = h} Stand.none r = let x : Stand R (b ++ []) (h ∷ []) = Stand.more r Stand.none in rw append-nil at x
 stand-last (Stand.more q s) r = rw append-assoc (Stand.more q (stand-last s r))
 
-pub labels-last : (hs : List Herd) (h : Herd) → labels (hs ++ (h ∷ [])) ≡ labels hs ++ (h .label ∷ [])
+pub labels-last : (hs : List Herd) (h : Herd) → labelsOf (hs ++ (h ∷ [])) ≡ labelsOf hs ++ (h .label ∷ [])
 labels-last [] h = refl
 labels-last (x ∷ hs) h = ap (λ (ls : List Label). x .label ∷ ls) (labels-last hs h)
 
-each-labels : {l : Label} {hs : List Herd} → Each (λ h. h .label ≡ l → ⊥) hs → Each (λ b. b ≡ l → ⊥) (labels hs)
+each-labels : {l : Label} {hs : List Herd} → Each (λ h. h .label ≡ l → ⊥) hs → Each (λ b. b ≡ l → ⊥) (labelsOf hs)
 each-labels none = none
 each-labels (more n ns) = more n (each-labels ns)
 
-pub apart-herds : (hs : List Herd) (h : Herd) → Apart (labels hs) → Each (λ x. x .label ≡ h .label → ⊥) hs → Apart (labels (hs ++ (h ∷ [])))
+pub apart-herds : (hs : List Herd) (h : Herd) → Apart (labelsOf hs) → Each (λ x. x .label ≡ h .label → ⊥) hs → Apart (labelsOf (hs ++ (h ∷ [])))
 apart-herds hs h d n = rw (labels-last hs h) (apart-last d (each-labels n))

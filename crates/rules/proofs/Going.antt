@@ -23,20 +23,20 @@ use Rattle.farm.specs.declared.Fault.{Fault}
 use Rattle.farm.specs.declared.Fault.the-variants.{EarlierLabel, NoRoomForHerd, OtherKind, GivenAlready}
 use Rattle.farm.specs.Labels.{sameLabel, labelOf}
 use Rattle.farm.specs.Refusals.{number}
-use Rattle.farm.specs.Checks.{isMissing, lacks, earlierLabel}
+use Rattle.farm.specs.Checks.{labelsOf, isMissing, lacks, earlierLabel}
 use Rattle.reader.specs.declared.FileAnswer.{FileAnswer}
 use Rattle.farm.specs.Herds.{slotOf}
 use Rattle.reader.specs.Herds.{sameKind, newHerd, withInput, hasInput}
-use Rattle.reader.specs.Files.{Progress, refused, nothingRead, lackingWith, closed, recordLines, taken}
+use Rattle.reader.specs.Files.{Progress, refused, nothingRead, lackingWith, closed, recordTests, taken}
 use Rattle.rules.specs.Lists.{Some, Last, Apart}
-use Rattle.rules.specs.Rules.{Record, RecordSays, Gives, PartOf, Stand, farmOf, labels}
-use Rattle.rules.specs.Refusals.{labelIn, NamesInput, SameLabel, ManyLabels, Applies, earlier-label, no-room-for-herd, other-kind, given-already}
+use Rattle.rules.specs.Rules.{Record, RecordSays, Gives, PartOf, Stand, farmOf}
+use Rattle.rules.specs.Refusals.{labelText, NamesInput, SameLabel, ManyLabels, Applies, earlier-label, no-room-for-herd, other-kind, given-already}
 use Rattle.rules.proofs.Lists.{each-append, meet, some-front, some-back, some-map, some-split, some-none, HasLast, has-last, last-append, last-none, last-one, last-some, last-each, some-left, some-right}
 use Rattle.rules.proofs.Labels.{not-none}
 use Rattle.rules.proofs.Faults.{NoneBelow, none-next}
 use Rattle.rules.proofs.Entries.{one-input, Reads, reads, Alone, tells, wrong, alone}
 use Rattle.rules.proofs.Herds.{kind-one, kind-two, slot-one, some-slot, missingAt, unfilled, part-new, part-more}
-use Rattle.rules.proofs.Farms.{turnLines, tookTo, record-turn, record-took, herds-of, at, closed-farm, closed-lacking, Labelled, part-labelled, stand-labelled, own-herd, not-own, earlier-none, earlier-some, stand-last, apart-herds}
+use Rattle.rules.proofs.Farms.{turnTests, tookTo, record-turn, record-took, herds-of, at, closed-farm, closed-lacking, Labelled, part-labelled, stand-labelled, own-herd, not-own, earlier-none, earlier-some, stand-last, apart-herds}
 use Rattle.rules.proofs.Records.{OfHerd, of-herd, part-records, record-label, label-record, herds-seen, seen-herds, seen-herd, many-labels, few-labels}
 
 -- ---- where the first herd that lacks an input begins, 0 where none does
@@ -60,14 +60,14 @@ lack-last {b = b} {h = h} s p (first-at {a = a} {b = b′} {c = c} {hs = hs} {hs
 
 pub data Inv : List Record → Progress → Type 0 where
   start : Inv [] nothingRead
-  going : {a b : List Record} {hs : List Herd} {h : Herd} {k : ℕ} → Stand PartOf a hs → PartOf b h → Each (λ x. x .label ≡ h .label → ⊥) hs → Apart (labels hs) → length hs < 64
+  going : {a b : List Record} {hs : List Herd} {h : Herd} {k : ℕ} → Stand PartOf a hs → PartOf b h → Each (λ x. x .label ≡ h .label → ⊥) hs → Apart (labelsOf hs) → length hs < 64
       → Lack a hs k → Inv (a ++ b) (at hs h (length a + 1) k)
 
 -- what is to be shown of a record: it is refused, by the first that applies, or none applies and reading goes on
 pub data Verdict (before : List Record) (cs : Record) (n : ℕ) (p : Progress) : Type 0 where
-  refuses : {fault : Fault} → Applies before cs fault → NoneBelow before cs (number fault) → ((z : FileAnswer) → first (recordLines n p (partsOf cs)) z ≡ refused n fault)
+  refuses : {fault : Fault} → Applies before cs fault → NoneBelow before cs (number fault) → ((z : FileAnswer) → first (recordTests n p (partsOf cs)) z ≡ refused n fault)
       → Verdict before cs n p
-  goes-on : NoneBelow before cs 12 → ((z : FileAnswer) → first (recordLines n p (partsOf cs)) z ≡ z) → Inv (before ++ (cs ∷ [])) (taken n p (partsOf cs)) → Verdict before cs n p
+  goes-on : NoneBelow before cs 12 → ((z : FileAnswer) → first (recordTests n p (partsOf cs)) z ≡ z) → Inv (before ++ (cs ∷ [])) (taken n p (partsOf cs)) → Verdict before cs n p
 
 -- ---- the first record of a file
 
@@ -75,7 +75,7 @@ module _ {cs : Record} {l : List ℕ} {i : ℕ} {g : Given} (said : RecordSays c
   no-labels : ManyLabels [] → ⊥
   no-labels m = go (m .labels) (m .many) (m .each)
     where
-      go : (ls : List (List ℕ)) → length ls ≡ 64 → Each (λ l. Some (λ r. labelIn r ≡ l) []) ls → ⊥
+      go : (ls : List (List ℕ)) → length ls ≡ 64 → Each (λ l. Some (λ r. labelText r ≡ l) []) ls → ⊥
       go [] e x = omega arith
       go (l ∷ ls) e (more s x) = some-none s
 
@@ -108,7 +108,7 @@ module _ {cs : Record} {l : List ℕ} {i : ℕ} {g : Given} (said : RecordSays c
 abbrev Later : List Record → List Record → List Herd → Herd → ℕ → Record → Type 0
 Later a b hs h k cs = Verdict (a ++ b) cs (length (a ++ b) + 1) (at hs h (length a + 1) k)
 
-module _ {a b : List Record} {hs : List Herd} {h : Herd} {k : ℕ} (st : Stand PartOf a hs) (pt : PartOf b h) (new : Each (λ x. x .label ≡ h .label → ⊥) hs) (two : Apart (labels hs))
+module _ {a b : List Record} {hs : List Herd} {h : Herd} {k : ℕ} (st : Stand PartOf a hs) (pt : PartOf b h) (new : Each (λ x. x .label ≡ h .label → ⊥) hs) (two : Apart (labelsOf hs))
     (room : length hs < 64) (lk : Lack a hs k) {cs : Record} {l : List ℕ} {i : ℕ} {g : Given} (said : RecordSays cs l i g) (below : NoneBelow (a ++ b) cs 8) where
   rd : Reads cs l i g
   rd = reads said
@@ -117,7 +117,7 @@ module _ {a b : List Record} {hs : List Herd} {h : Herd} {k : ℕ} (st : Stand P
   labelled = stand-labelled st
 
   -- 3 to 7 are passed, and the record is taken as what it says
-  turns : (z : FileAnswer) → first (recordLines (length (a ++ b) + 1) (at hs h (length a + 1) k) (partsOf cs)) z ≡ first (turnLines (length (a ++ b) + 1) (at hs h (length a + 1) k) (labelOf l) i) z
+  turns : (z : FileAnswer) → first (recordTests (length (a ++ b) + 1) (at hs h (length a + 1) k) (partsOf cs)) z ≡ first (turnTests (length (a ++ b) + 1) (at hs h (length a + 1) k) (labelOf l) i) z
   turns = record-turn said (length (a ++ b) + 1) (at hs h (length a + 1) k)
 
   goes-to : (q : Progress) → tookTo (length (a ++ b) + 1) (at hs h (length a + 1) k) (labelOf l) i g ≡ q → Inv ((a ++ b) ++ (cs ∷ [])) q
@@ -219,7 +219,7 @@ module _ {a b : List Record} {hs : List Herd} {h : Herd} {k : ℕ} (st : Stand P
     is-8 : earlierLabel hs (labelOf l) ≡ true → Applies (a ++ b) cs EarlierLabel
     is-8 e =
         earlier-label (some-front b (some-map (λ r y. y ∙ sym (rd .label)) (herds-seen (rd .good) st (earlier-some (rd .good) hs labelled e))))
-        (λ r last′ s. other (label-record (rd .good) h (before-it .of) its-herd (ap labelIn (last-one just-before last′) ∙ s ∙ rd .label)))
+        (λ r last′ s. other (label-record (rd .good) h (before-it .of) its-herd (ap labelText (last-one just-before last′) ∙ s ∙ rd .label)))
 
     module _ (none-has : earlierLabel hs (labelOf l) ≡ false) where
       unseen : Some (λ r. SameLabel r cs) (a ++ b) → ⊥
@@ -284,7 +284,7 @@ module _ {a b : List Record} {hs : List Herd} {h : Herd} {k : ℕ} (st : Stand P
 -- ---- any record
 
 pub verdict : {before : List Record} {p : Progress} → Inv before p → (cs : Record) → Verdict before cs (length before + 1) p
-unfolding recordLines
+unfolding recordTests
 verdict {before} {p} inv cs = go inv (alone before cs)
   where
     go : {before : List Record} {p : Progress} → Inv before p → Alone before cs → Verdict before cs (length before + 1) p

@@ -16,13 +16,13 @@ use Rattle.farm.specs.declared.Herd.{Herd}
 use Rattle.farm.specs.declared.Farm.{Farm}
 use Rattle.farm.specs.declared.Checked.the-variants.{Accepted}
 use Rattle.farm.specs.Labels.{labelOk, sameLabel}
-use Rattle.farm.specs.Checks.{fits, isMissing, checkFarm}
+use Rattle.farm.specs.Checks.{labelsOf, fits, isMissing, checkFarm}
 use Rattle.farm.specs.Accepts.{Passes, GoodHerd, Distinct, GoodFarm}
 use Rattle.farm.proofs.Accepts.{good-farm}
 use Rattle.farm.specs.Herds.{noSlot, slotOf}
 use Rattle.reader.specs.Files.{accepted, readOf}
 use Rattle.rules.specs.Lists.{Apart}
-use Rattle.rules.specs.Rules.{Record, ValueIs, HerdOf, Stand, labels, FarmOf}
+use Rattle.rules.specs.Rules.{Record, ValueIs, HerdOf, Stand, FarmOf}
 use Rattle.rules.proofs.Lists.{fellow}
 use Rattle.rules.proofs.Labels.{good-ok}
 use Rattle.rules.proofs.Entries.{reads}
@@ -71,13 +71,13 @@ herd-good {rs} {h} x =
 
 -- ---- labels
 
-labels-two : {h : Herd} {hs : List Herd} → Labelled h → Each Labelled hs → Each (λ b. h .label ≡ b → ⊥) (labels hs) → Each (λ later. sameLabel (h .label) (later .label) ≡ false) hs
+labels-two : {h : Herd} {hs : List Herd} → Labelled h → Each Labelled hs → Each (λ b. h .label ≡ b → ⊥) (labelsOf hs) → Each (λ later. sameLabel (h .label) (later .label) ≡ false) hs
 labels-two x none none = none
 labels-two {h} x (more {a = later} y ys) (more n ns) =
     let two : sameLabel (h .label) (later .label) ≡ false = rw (y .is) (other-herd (y .good) h x (λ e. n (e ∙ sym (y .is)))) in
     more two (labels-two x ys ns)
 
-distinct : {hs : List Herd} → Each Labelled hs → Apart (labels hs) → Distinct hs
+distinct : {hs : List Herd} → Each Labelled hs → Apart (labelsOf hs) → Distinct hs
 distinct none Apart.none = Distinct.none
 distinct (more x xs) (Apart.next n d) = Distinct.next (labels-two x xs n) (distinct xs d)
 

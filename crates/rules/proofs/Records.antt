@@ -8,11 +8,12 @@ use lib.ListN.{length, length-map}
 use Rattle.cut.specs.Total.{Each, none, more}
 use Rattle.cut.proofs.Totals.{each-map}
 use Rattle.inputs.specs.Inputs.{kindAt}
+use Rattle.farm.specs.Checks.{labelsOf}
 use Rattle.farm.specs.declared.Herd.{Herd}
 use Rattle.farm.specs.Labels.{text, labelOf}
 use Rattle.rules.specs.Lists.{Some, here, there, Apart}
-use Rattle.rules.specs.Rules.{Record, GoodLabel, Gives, PartOf, Stand, labels}
-use Rattle.rules.specs.Refusals.{labelIn, NamesInput, ManyLabels}
+use Rattle.rules.specs.Rules.{Record, GoodLabel, Gives, PartOf, Stand}
+use Rattle.rules.specs.Refusals.{labelText, NamesInput, ManyLabels}
 use Rattle.rules.proofs.Lists.{meet, some-front, some-back, some-split, each-left}
 use Rattle.rules.proofs.Labels.{text-of, one-text}
 use Rattle.rules.proofs.Entries.{reads}
@@ -21,8 +22,8 @@ use Rattle.rules.proofs.Farms.{Labelled}
 -- ---- a record of a herd
 
 pub record OfHerd (h : Herd) (r : Record) : Type 0 where
-  pub is : h .label ≡ labelOf (labelIn r)
-  pub good : GoodLabel (labelIn r)
+  pub is : h .label ≡ labelOf (labelText r)
+  pub good : GoodLabel (labelText r)
   pub input : ℕ
   pub names : NamesInput r input
   pub kind : h .kind ≡ kindAt input
@@ -42,23 +43,23 @@ first-record (r ∷ b) n (more p _) = here p
 -- ---- labels
 
 module _ {l : List ℕ} (good : GoodLabel l) where
-  pub record-label : (h : Herd) (r : Record) → OfHerd h r → h .label ≡ labelOf l → labelIn r ≡ l
+  pub record-label : (h : Herd) (r : Record) → OfHerd h r → h .label ≡ labelOf l → labelText r ≡ l
   record-label h r x e = one-text (x .good) good (sym (x .is) ∙ e)
 
-  pub label-record : (h : Herd) (r : Record) → OfHerd h r → labelIn r ≡ l → h .label ≡ labelOf l
+  pub label-record : (h : Herd) (r : Record) → OfHerd h r → labelText r ≡ l → h .label ≡ labelOf l
   label-record h r x e = x .is ∙ ap labelOf e
 
-  pub herd-seen : {b : List Record} {h : Herd} → PartOf b h → h .label ≡ labelOf l → Some (λ r. labelIn r ≡ l) b
+  pub herd-seen : {b : List Record} {h : Herd} → PartOf b h → h .label ≡ labelOf l → Some (λ r. labelText r ≡ l) b
   herd-seen {b} {h} p e = first-record b (p .some) (each-map (λ r x. record-label h r x e) (part-records p))
 
-  pub seen-herd : {b : List Record} {h : Herd} → PartOf b h → Some (λ r. labelIn r ≡ l) b → h .label ≡ labelOf l
+  pub seen-herd : {b : List Record} {h : Herd} → PartOf b h → Some (λ r. labelText r ≡ l) b → h .label ≡ labelOf l
   seen-herd {h = h} p s = let m = meet (part-records p) s in label-record h (m .of) (m .one) (m .other)
 
-  pub herds-seen : {a : List Record} {hs : List Herd} → Stand PartOf a hs → Some (λ h. h .label ≡ labelOf l) hs → Some (λ r. labelIn r ≡ l) a
+  pub herds-seen : {a : List Record} {hs : List Herd} → Stand PartOf a hs → Some (λ h. h .label ≡ labelOf l) hs → Some (λ r. labelText r ≡ l) a
   herds-seen (Stand.more {rest = rest} p s) (here e) = some-front rest (herd-seen p e)
   herds-seen (Stand.more {rs = rs} p s) (there m) = some-back rs (herds-seen s m)
 
-  pub seen-herds : {a : List Record} {hs : List Herd} → Stand PartOf a hs → Some (λ r. labelIn r ≡ l) a → Some (λ h. h .label ≡ labelOf l) hs
+  pub seen-herds : {a : List Record} {hs : List Herd} → Stand PartOf a hs → Some (λ r. labelText r ≡ l) a → Some (λ h. h .label ≡ labelOf l) hs
   seen-herds Stand.none s = elim s [ ]
   seen-herds (Stand.more {rs = rs} p s) m = ⊎-elim (λ x. here (seen-herd p x)) (λ x. there (seen-herds s x)) (some-split rs m)
 
@@ -72,36 +73,36 @@ text-is : {h : Herd} (x : Labelled h) → text (h .label) ≡ x .text
 text-is x = ap text (x .is) ∙ text-of (x .text) (x .good .most)
 
 -- labels that are two have two texts
-other-texts : {h : Herd} {hs : List Herd} → Labelled h → Each Labelled hs → Each (λ b. h .label ≡ b → ⊥) (labels hs) → Each (λ b. text (h .label) ≡ b → ⊥) (texts hs)
+other-texts : {h : Herd} {hs : List Herd} → Labelled h → Each Labelled hs → Each (λ b. h .label ≡ b → ⊥) (labelsOf hs) → Each (λ b. text (h .label) ≡ b → ⊥) (texts hs)
 other-texts x none none = none
 other-texts x (more y ys) (more n ns) =
     more (λ e. n (x .is ∙ ap labelOf (sym (text-is x) ∙ e ∙ text-is y) ∙ sym (y .is))) (other-texts x ys ns)
 
-apart-texts : {hs : List Herd} → Each Labelled hs → Apart (labels hs) → Apart (texts hs)
+apart-texts : {hs : List Herd} → Each Labelled hs → Apart (labelsOf hs) → Apart (texts hs)
 apart-texts none Apart.none = Apart.none
 apart-texts (more x xs) (Apart.next n d) = Apart.next (other-texts x xs n) (apart-texts xs d)
 
-seen-text : {b : List Record} {h : Herd} (p : PartOf b h) → Labelled h → Some (λ r. labelIn r ≡ text (h .label)) b
+seen-text : {b : List Record} {h : Herd} (p : PartOf b h) → Labelled h → Some (λ r. labelText r ≡ text (h .label)) b
 seen-text p x = rw (text-is x) (herd-seen (x .good) p (x .is))
 
-seen-texts : {a : List Record} {hs : List Herd} → Stand PartOf a hs → Each Labelled hs → Each (λ l. Some (λ r. labelIn r ≡ l) a) (texts hs)
+seen-texts : {a : List Record} {hs : List Herd} → Stand PartOf a hs → Each Labelled hs → Each (λ l. Some (λ r. labelText r ≡ l) a) (texts hs)
 seen-texts Stand.none none = none
 seen-texts (Stand.more {rs = rs} {rest = rest} p s) (more x xs) =
     more (some-front rest (seen-text p x)) (each-map (λ l m. some-back rs m) (seen-texts s xs))
 
-pub many-labels : {a : List Record} {hs : List Herd} → Stand PartOf a hs → Each Labelled hs → Apart (labels hs) → length hs ≡ 64 → ManyLabels a
+pub many-labels : {a : List Record} {hs : List Herd} → Stand PartOf a hs → Each Labelled hs → Apart (labelsOf hs) → length hs ≡ 64 → ManyLabels a
 many-labels {hs = hs} s xs d n =
     record { labels = texts hs; many = length-map hs (λ h. text (h .label)) ∙ n; apart = apart-texts xs d; each = seen-texts s xs }
 
 -- the labels that records have are the texts of their herds' labels
-text-seen : {a : List Record} {hs : List Herd} (l : List ℕ) → Stand PartOf a hs → Some (λ r. labelIn r ≡ l) a → Some (λ t. l ≡ t) (texts hs)
+text-seen : {a : List Record} {hs : List Herd} (l : List ℕ) → Stand PartOf a hs → Some (λ r. labelText r ≡ l) a → Some (λ t. l ≡ t) (texts hs)
 text-seen l Stand.none s = elim s [ ]
 text-seen l (Stand.more {rs = rs} {h = h} p s) m = ⊎-elim (λ x. here (own x)) (λ x. there (text-seen l s x)) (some-split rs m)
   where
-    own : Some (λ r. labelIn r ≡ l) rs → l ≡ text (h .label)
+    own : Some (λ r. labelText r ≡ l) rs → l ≡ text (h .label)
     own x =
         let q = meet (part-records p) x in
-        sym (q .other) ∙ sym (ap text (q .one .is) ∙ text-of (labelIn (q .of)) (q .one .good .most))
+        sym (q .other) ∙ sym (ap text (q .one .is) ∙ text-of (labelText (q .of)) (q .one .good .most))
 
 -- a list without one of its entries
 data Without {A : Type 0} (a : A) : List A → List A → Type 0 where

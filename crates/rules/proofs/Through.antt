@@ -18,25 +18,25 @@ use Rattle.farm.specs.declared.Given.{Given}
 use Rattle.farm.specs.declared.Herd.{Herd}
 use Rattle.farm.specs.declared.Farm.{Farm}
 use Rattle.farm.specs.Labels.{sameLabel, labelOf}
-use Rattle.farm.specs.Checks.{lacks, earlierLabel, herdsOf}
+use Rattle.farm.specs.Checks.{labelsOf, lacks, earlierLabel, herdsOf}
 use Rattle.reader.specs.declared.FileAnswer.{FileAnswer}
 use Rattle.farm.specs.Herds.{slotOf}
 use Rattle.reader.specs.Herds.{sameKind, withInput, newHerd, hasInput}
 use Rattle.reader.specs.Files.{Progress, accepted, nothingRead, closed, taken, finished, readFrom}
 use Rattle.rules.specs.Lists.{Apart, Pairs}
-use Rattle.rules.specs.Rules.{Record, GoodLabel, RecordSays, Gives, PartOf, HerdOf, Stand, farmOf, labels, FarmOf}
+use Rattle.rules.specs.Rules.{Record, GoodLabel, RecordSays, Gives, PartOf, HerdOf, Stand, farmOf, FarmOf}
 use Rattle.rules.proofs.Lists.{each-append, each-front, each-back, pairs-append}
 use Rattle.rules.proofs.Labels.{own-label, not-none}
 use Rattle.rules.proofs.Entries.{reads}
 use Rattle.rules.proofs.Readings.{thens, thens-append, whole-thens}
 use Rattle.rules.proofs.Herds.{own-kind, part-new, part-more, one-herd, all-part, slot-one, agree, heads}
-use Rattle.rules.proofs.Farms.{turnLines, tookTo, record-turn, record-took, at, closed-farm, closed-lacking, herds-of, Labelled, part-labelled, other-herd, no-earlier}
+use Rattle.rules.proofs.Farms.{turnTests, tookTo, record-turn, record-took, at, closed-farm, closed-lacking, herds-of, Labelled, part-labelled, other-herd, no-earlier}
 
 -- ---- one record: what is read of the rest of the file does not depend on how it came
 
 module _ {cs : Record} {l : List ℕ} {i : ℕ} {g : Given} (said : RecordSays cs l i g) (n : ℕ) (p : Progress) (r : Reading) where
   -- a record that none of 8 to 11 is given for is taken
-  pub steps : (q : Progress) → tookTo n p (labelOf l) i g ≡ q → ((z : FileAnswer) → first (turnLines n p (labelOf l) i) z ≡ z) → readFrom n p (cs then r) ≡ readFrom (n + 1) q r
+  pub steps : (q : Progress) → tookTo n p (labelOf l) i g ≡ q → ((z : FileAnswer) → first (turnTests n p (labelOf l) i) z ≡ z) → readFrom n p (cs then r) ≡ readFrom (n + 1) q r
   unfolding readFrom
   steps q e quiet =
       record-turn said n p (readFrom (n + 1) (taken n p (partsOf cs)) r)
@@ -145,12 +145,12 @@ finish r = rw (finished, r .lacking) (ap accepted (r .farm))
 abbrev New : List Herd → List Herd → Type 0
 New done coming = Each (λ t. Each (λ d. d .label ≡ t .label → ⊥) done) coming
 
-new-next : (done : List Herd) (h : Herd) (coming : List Herd) → New done coming → Each (λ b. h .label ≡ b → ⊥) (labels coming) → New (done ++ (h ∷ [])) coming
+new-next : (done : List Herd) (h : Herd) (coming : List Herd) → New done coming → Each (λ b. h .label ≡ b → ⊥) (labelsOf coming) → New (done ++ (h ∷ [])) coming
 new-next done h [] none none = none
 new-next done h (t ∷ coming) (more n ns) (more m ms) = more (each-append n (more m none)) (new-next done h coming ns ms)
 
 herds-through : (done : List Herd) {p : Progress} {rs : List Record} {coming : List Herd} → Ready done p → Each Labelled done → Stand HerdOf rs coming → length done + length coming ≤ 64
-    → Apart (labels coming) → New done coming → (m : ℕ) → readFrom (m + 1) p (thens rs end) ≡ accepted (farmOf (done ++ coming))
+    → Apart (labelsOf coming) → New done coming → (m : ℕ) → readFrom (m + 1) p (thens rs end) ≡ accepted (farmOf (done ++ coming))
 unfolding readFrom
 herds-through done r ls Stand.none room d new m = finish r ∙ ap (λ (x : List Herd). accepted (farmOf x)) (sym (append-nil done))
 herds-through done {p} r ls (Stand.more {rs = rs} {rest = rest} {h = h} {hs = hs} x s) room (Apart.next a d) (more n ns) m =

@@ -18,8 +18,8 @@ use Rattle.rules.specs.Rules.{Record, GoodLabel, Names, IsStandard, Valu
 
 -- ---- a record's fields; one that is not there is empty
 
-abbrev pub labelIn : Record → List ℕ
-labelIn cs = getD cs 0 []
+abbrev pub labelText : Record → List ℕ
+labelText cs = getD cs 0 []
 
 abbrev pub valueIn : Record → List ℕ
 valueIn cs = getD cs 3 []
@@ -30,7 +30,7 @@ NamesInput cs input = Names (getD cs 1 []) (getD cs 2 []) input
 
 -- two records have one label
 abbrev pub SameLabel : Record → Record → Type 0
-SameLabel r cs = labelIn r ≡ labelIn cs
+SameLabel r cs = labelText r ≡ labelText cs
 
 -- ---- 3 to 11, of the record cs that stands behind these
 
@@ -43,11 +43,11 @@ pub record ManyLabels (rs : List Record) : Type 0 where
   pub labels : List (List ℕ)
   pub many : length labels ≡ herdsMost
   pub apart : Apart labels
-  pub each : Each (λ label. Some (λ r. labelIn r ≡ label) rs) labels
+  pub each : Each (λ label. Some (λ r. labelText r ≡ label) rs) labels
 
 pub data Applies (before : List Record) (cs : Record) : Fault → Type 0 where
   not-four-fields : (length cs ≡ 4 → ⊥) → Applies before cs NotFourFields
-  bad-label : (GoodLabel (labelIn cs) → ⊥) → Applies before cs BadLabel
+  bad-label : (GoodLabel (labelText cs) → ⊥) → Applies before cs BadLabel
   not-in-the-list : ((input : ℕ) → NamesInput cs input → ⊥) → Applies before cs NotInTheList
   standard-forbidden : {input : ℕ} → NamesInput cs input → Forbids (formAt input) → IsStandard (valueIn cs) → Applies before cs StandardForbidden
   bad-value : {input : ℕ} → NamesInput cs input → ((given : Given) → ValueIs (formAt input) (valueIn cs) given → ⊥) → Applies before cs BadValue

@@ -3,7 +3,7 @@
 -- reader accepts exactly the files that keep these rules, each as the farm that its records say.
 use Prim.Native.Nat.{ℕ, _+_, _-_, _<_, _≤_}
 use mathlib.Core.Path.{_≡_}
-use mathlib.Core.List.{List, [], _∷_, _++_, map}
+use mathlib.Core.List.{List, [], _∷_, _++_}
 use lib.ListN.{length, getD, replicate}
 use Rattle.base.specs.Text.{bytes}
 use Rattle.base.specs.Part.{lowered}
@@ -13,7 +13,7 @@ use Rattle.decimal.specs.Numbers.{IsNumber}
 use Rattle.inputs.specs.declared.Form.{Form}
 use Rattle.inputs.specs.declared.Form.the-variants.{Number, OrStandard, NoStandard, OneOf}
 use Rattle.inputs.specs.Inputs.{rows, noRow, namesOf, countOf, firstOf, kindAt, formAt}
-use Rattle.farm.specs.declared.Label.{Label}
+use Rattle.farm.specs.Checks.{labelsOf}
 use Rattle.farm.specs.declared.Given.{Given}
 use Rattle.farm.specs.declared.Given.the-variants.{Standard, Value}
 use Rattle.farm.specs.declared.Herd.{Herd}
@@ -110,15 +110,12 @@ herdsMost = 64
 abbrev pub farmOf : List Herd → Farm
 farmOf hs = record { herds = hs ++ replicate (herdsMost - length hs) noHerd; count = length hs }
 
-abbrev pub labels : List Herd → List Label
-labels hs = map (λ h. h .label) hs
-
 -- records say a farm: its herds, at most 64 and no two with one label
 pub record FarmOf (rs : List Record) (f : Farm) : Type 0 where
   pub herds : List Herd
   pub stand : Stand HerdOf rs herds
   pub most : length herds ≤ herdsMost
-  pub apart : Apart (labels herds)
+  pub apart : Apart (labelsOf herds)
   pub is : f ≡ farmOf herds
 
 -- ---- a file

@@ -1,4 +1,4 @@
--- The tests are the definition's lines, in their order. Assumes nothing.
+-- The tests are the definition's, in their order. Assumes nothing.
 use borrow.Author.Needs.{needs}
 use Rattle.farm.proofs.HerdSteps.{flags}
 use Rattle.farm.proofs.checks.check_after.Statement.{statement}

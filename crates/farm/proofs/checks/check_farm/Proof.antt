@@ -1,11 +1,11 @@
--- The loop keeps that the lines of the herds from i on, after the first i labels, give what the whole check gives. Assumes nothing.
+-- The loop keeps that the tests of the herds from i on, after the first i labels, give what the whole check gives. Assumes nothing.
 use Prim.Native.Nat.{_-_, _≤_}
 use mathlib.Core.Path.{_≡_}
 use lib.ListN.{length, take, drop}
 use borrow.Author.Needs.{needs}
 use Rattle.base.specs.First.{first}
 use Rattle.farm.specs.declared.Checked.the-variants.{Accepted}
-use Rattle.farm.specs.Checks.{herdsLines, herdsOf, checkFarm}
+use Rattle.farm.specs.Checks.{herdsTests, herdsOf, checkFarm}
 use Rattle.farm.proofs.Left.{length-mapped}
 use Rattle.farm.proofs.LabelsSoFar.{no-labels-long}
 use Rattle.farm.proofs.HerdSteps.{farm-steps}
@@ -13,7 +13,7 @@ use Rattle.farm.proofs.checks.check_farm.Statement.{statement}
 use Rattle.farm.proofs.checks.check_farm.Tie as tie
 
 abbrev Inv-loop : tie.InvT-loop
-Inv-loop farm count labels₀ i₀ labels i = (i ≤ count) × (length (farm .herds) ≡ 64) × (length (labels .of) ≡ 64) × (first (herdsLines (take i (labels .of)) (drop i (herdsOf farm))) Accepted ≡ checkFarm farm)
+Inv-loop farm count labels₀ i₀ labels i = (i ≤ count) × (length (farm .herds) ≡ 64) × (length (labels .of) ≡ 64) × (first (herdsTests (take i (labels .of)) (drop i (herdsOf farm))) Accepted ≡ checkFarm farm)
 
 abbrev μ-loop : tie.MeasureT-loop
 μ-loop farm count labels₀ i₀ labels i = count - i

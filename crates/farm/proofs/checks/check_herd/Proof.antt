@@ -1,4 +1,4 @@
--- The tests are the definition's lines, in their order; no herd is earlier. Assumes nothing.
+-- The tests are the definition's, in their order; no herd is earlier. Assumes nothing.
 use borrow.Author.Needs.{needs}
 use Rattle.farm.specs.Checks.{checkHerd}
 use Rattle.farm.proofs.HerdSteps.{flags}
