@@ -1,12 +1,11 @@
 -- A label as a field: the search for a comma, and what is written in either case.
 -- Assumes nothing.
 use Prim.Native.Nat.{ℕ, _+_, _≤_, _<_}
-use mathlib.Core.Path.{_≡_, refl, sym, ap, _∙_}
+use mathlib.Core.Path.{_≡_, sym, _∙_}
 use mathlib.Core.Bool.{Bool, true, false}
 use mathlib.Core.List.{List, [], _∷_, _++_}
-use native.Mathlib.Omega.{arith}
 use borrow.Author.Tests.{eq-eqb, ne-eqb}
-use lib.ListN.{length, getD, drop, length-append}
+use lib.ListN.{length, getD, drop}
 use Rattle.base.proofs.Rest.{rest-at, rest-end}
 use Rattle.listing.specs.Listing.{hasComma, labelField}
 
@@ -35,16 +34,3 @@ module _ (s : List ℕ) (b : Bool) (e : b ≡ hasComma s) where
   pub bare : b ≡ false → s ≡ labelField s
   unfolding labelField
   bare t = rw (sym e ∙ t)
-
-  pub quoted-length : b ≡ true → length s + 2 ≡ length (labelField s)
-  quoted-length t = rw (← quoted t) (simp length-append (omega arith))
-
-  pub bare-length : b ≡ false → length s ≡ length (labelField s)
-  bare-length t = ap length (bare t)
-
-short : (s : List ℕ) (b : Bool) → b ≡ hasComma s → length (labelField s) ≤ length s + 2
-short s true e = omega (arith, quoted-length s true e refl)
-short s false e = omega (arith, bare-length s false e refl)
-
-pub label-short : (s : List ℕ) → length (labelField s) ≤ length s + 2
-label-short s = short s (hasComma s) refl

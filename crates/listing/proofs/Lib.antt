@@ -1,5 +1,5 @@
 pub mod Signed
-pub mod Stretches
+pub mod ByNumber
 pub mod LabelField
 pub mod Going
 pub mod Halves

@@ -1,12 +1,10 @@
--- The lists of the code are 01's: the lines that it writes by number are the lines of the definition.
+-- The lists of the code are 01's: the lines that it writes by number, with a label's field, are the lines of the definition.
 -- Assumes nothing.
-use Prim.Native.Nat.{ℕ, _≤_}
+use Prim.Native.Nat.{ℕ}
 use mathlib.Core.Path.{_≡_, refl, sym, ap, _∙_}
-use mathlib.Core.List.{List, [], _∷_}
-use native.Mathlib.Omega.{arith}
-use lib.Dec.{lit≤}
-use lib.ListN.{length}
-use lib.IntN.{ℤ}
+use mathlib.Core.List.{List, [], _∷_, _++_}
+use lib.ListN.{getD}
+use lib.IntN.{ℤ, pos}
 use Rattle.base.specs.Text.{bytes}
 use Rattle.base.specs.Wrote.{Wrote}
 use Rattle.base.proofs.Writes.{said}
@@ -16,8 +14,9 @@ use Rattle.model.specs.declared.Figures.{Figures}
 use Rattle.model.specs.declared.Totals.{Totals}
 use Rattle.listing.specs.HerdLines.{pathOf}
 use Rattle.listing.specs.TotalLines.{totalPath}
-use Rattle.listing.specs.Listing.{herdLines, totalsListing}
-use Rattle.listing.specs.Numbered.{nameAt, sectionAt, gramsOf, totalGramsOf, numbered, Known}
+use Rattle.listing.specs.Listing.{hasComma, labelField, lineOf, each, herdLines, totalsListing}
+use Rattle.listing.specs.Numbered.{nameAt, sectionAt, gramsOf, totalGramsOf, numbered}
+use Rattle.listing.proofs.Halves.{line-is}
 
 -- the sections of the names in a herd's listing, and in that of the totals
 abbrev pub herdSections : List ℕ
@@ -35,36 +34,29 @@ numbersOf Pigs = 0 ∷ 1 ∷ 7 ∷ 8 ∷ 9 ∷ 10 ∷ 11 ∷ 12 ∷ 13 ∷ 14 �
 abbrev pub totalNumbers : List ℕ
 totalNumbers = 0 ∷ 1 ∷ 15 ∷ 16 ∷ 2 ∷ 3 ∷ 7 ∷ 8 ∷ 17 ∷ 4 ∷ 9 ∷ 20 ∷ 21 ∷ 10 ∷ 11 ∷ 12 ∷ 13 ∷ 14 ∷ []
 
+-- lines with a label's field are lines of the label
+run-is : (label path under : List ℕ) (grams : List ℤ) (lines : List ℕ)
+    → numbered (labelField label) path under grams lines ≡ each (λ (n : ℕ). lineOf label (path ++ sectionAt (getD under n 0)) (nameAt n) (getD grams n (pos 0))) lines
+unfolding numbered
+run-is label path under grams [] = refl
+run-is label path under grams (n ∷ lines) = rw (line-is, run-is label path under grams lines)
+
 -- ---- a herd
 
 -- what the code writes in the arm of a kind
 abbrev pub armOf : Kind → List ℕ → List ℤ → List ℕ
-armOf k label grams = numbered label (bytes (pathOf k)) herdSections grams (numbersOf k)
+armOf k field grams = numbered field (bytes (pathOf k)) herdSections grams (numbersOf k)
 
-by-number : (label : List ℕ) (f : Figures) (k : Kind) → armOf k label (gramsOf f) ≡ herdLines label k f
-unfolding numbered herdLines nameAt sectionAt
-by-number label f Roughage = refl
-by-number label f Cattle = refl
-by-number label f Pigs = refl
+by-number : (label : List ℕ) (f : Figures) (k : Kind) → armOf k (labelField label) (gramsOf f) ≡ herdLines label k f
+unfolding herdLines nameAt sectionAt
+by-number label f Roughage = run-is label (bytes (pathOf Roughage)) herdSections (gramsOf f) (numbersOf Roughage)
+by-number label f Cattle = run-is label (bytes (pathOf Cattle)) herdSections (gramsOf f) (numbersOf Cattle)
+by-number label f Pigs = run-is label (bytes (pathOf Pigs)) herdSections (gramsOf f) (numbersOf Pigs)
 
-pub herd-known : (k : Kind) → Known herdSections (numbersOf k)
-herd-known Roughage = record { for-each = refl; are-sections = refl; are-names = refl; few = lit≤ tt }
-herd-known Cattle = record { for-each = refl; are-sections = refl; are-names = refl; few = lit≤ tt }
-herd-known Pigs = record { for-each = refl; are-sections = refl; are-names = refl; few = lit≤ tt }
-
--- in the arm of the kind k: the herd's kind is k, and `of_figures` gave these grams
-module _ (k : Kind) (label : List ℕ) (kind : Kind) (f : Figures) (grams : List ℤ) (is : kind ≡ k) (e : grams ≡ gramsOf f) where
-  herd-same : armOf k label grams ≡ herdLines label kind f
-  herd-same = ap (armOf k label) e ∙ by-number label f k ∙ ap (λ (j : Kind). herdLines label j f) (sym is)
-
-  pub herd-room : {room : ℕ} → length (herdLines label kind f) ≤ room → length (armOf k label grams) ≤ room
-  herd-room h = omega (arith, ap length herd-same)
-
-  pub herd-wrote : {old new : List ℕ} {next : ℕ} → Wrote old 0 (armOf k label grams) new next → Wrote old 0 (herdLines label kind f) new next
-  herd-wrote w = said herd-same w
-
-  pub herd-length : {n : ℕ} → n ≡ length (armOf k label grams) → n ≡ length (herdLines label kind f)
-  herd-length h = h ∙ ap length herd-same
+-- in the arm of the kind k: the herd's kind is k, `of_figures` gave these grams, and this is the label's field
+module _ (k : Kind) {kind : Kind} (is : kind ≡ k) {f : Figures} {grams : List ℤ} (e : grams ≡ gramsOf f) (label : List ℕ) {field : List ℕ} (d : field ≡ labelField label) where
+  pub herd-wrote : {old new : List ℕ} {next : ℕ} → Wrote old 0 (armOf k field grams) new next → Wrote old 0 (herdLines label kind f) new next
+  herd-wrote w = said (ap (λ (t : List ℕ). armOf k t grams) d ∙ ap (armOf k (labelField label)) e ∙ by-number label f k ∙ ap (λ (j : Kind). herdLines label j f) (sym is)) w
 
 -- ---- the totals
 
@@ -72,21 +64,8 @@ abbrev pub totalRun : List ℤ → List ℕ
 totalRun grams = numbered [] (bytes totalPath) totalSections grams totalNumbers
 
 totals-by-number : (t : Totals) → totalRun (totalGramsOf t) ≡ totalsListing t
-unfolding numbered totalsListing nameAt sectionAt
-totals-by-number t = refl
+unfolding totalsListing nameAt sectionAt labelField hasComma
+totals-by-number t = run-is [] (bytes totalPath) totalSections (totalGramsOf t) totalNumbers
 
-pub totals-known : Known totalSections totalNumbers
-totals-known = record { for-each = refl; are-sections = refl; are-names = refl; few = lit≤ tt }
-
-module _ (t : Totals) (grams : List ℤ) (e : grams ≡ totalGramsOf t) where
-  totals-same : totalRun grams ≡ totalsListing t
-  totals-same = ap totalRun e ∙ totals-by-number t
-
-  pub totals-room : {room : ℕ} → length (totalsListing t) ≤ room → length (totalRun grams) ≤ room
-  totals-room h = omega (arith, ap length totals-same)
-
-  pub totals-wrote : {old new : List ℕ} {next : ℕ} → Wrote old 0 (totalRun grams) new next → Wrote old 0 (totalsListing t) new next
-  totals-wrote w = said totals-same w
-
-  pub totals-length : {n : ℕ} → n ≡ length (totalRun grams) → n ≡ length (totalsListing t)
-  totals-length h = h ∙ ap length totals-same
+pub totals-wrote : {t : Totals} {grams : List ℤ} → grams ≡ totalGramsOf t → {old new : List ℕ} {next : ℕ} → Wrote old 0 (totalRun grams) new next → Wrote old 0 (totalsListing t) new next
+totals-wrote {t} e w = said (ap totalRun e ∙ totals-by-number t) w

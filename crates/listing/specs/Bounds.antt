@@ -1,5 +1,5 @@
--- Grams that fit the signed numbers that kilograms are written from.
-use Prim.Native.Nat.{_^_, _<_}
+-- Grams that fit the signed numbers that kilograms are written from, and how long a listing can be.
+use Prim.Native.Nat.{ℕ, _+_, _*_, _^_, _<_}
 use lib.IntN.{natAbs}
 use Rattle.model.specs.declared.Totals.{Totals}
 
@@ -23,3 +23,39 @@ pub record TotalsFit (t : Totals) : Type 0 where
   pub n2o-ngrazing : t .«n2o_ngrazing» < 2 ^ 63
   pub n-remain-grazing : t .«n_remain_grazing» < 2 ^ 63
   pub tan-remain-grazing : natAbs (t .«tan_remain_grazing») < 2 ^ 63
+
+-- how long the texts of a line can be; the label's field has two quotes more
+abbrev pub longestLabel : ℕ
+longestLabel = 16
+
+abbrev pub longestField : ℕ
+longestField = longestLabel + 2
+
+abbrev pub longestPath : ℕ
+longestPath = 32
+
+abbrev pub longestSection : ℕ
+longestSection = 11
+
+abbrev pub longestName : ℕ
+longestName = 21
+
+abbrev pub longestKilograms : ℕ
+longestKilograms = 21
+
+-- whose line it is and what it says, with the commas and CRLF
+abbrev pub longestOwner : ℕ
+longestOwner = longestField + 1 + longestPath + longestSection
+
+abbrev pub longestValue : ℕ
+longestValue = 1 + longestName + 1 + longestKilograms + 2
+
+abbrev pub longestLine : ℕ
+longestLine = longestOwner + longestValue
+
+-- a listing, and how many lines it has
+abbrev pub mostLines : ℕ
+mostLines = 18
+
+abbrev pub longest : ℕ
+longest = mostLines * longestLine

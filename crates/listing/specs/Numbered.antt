@@ -13,7 +13,8 @@ use Rattle.model.specs.declared.Figures.{Figures}
 use Rattle.model.specs.declared.Totals.{Totals}
 use Rattle.model.specs.Names.{Name, figure}
 use Rattle.listing.specs.HerdLines.{excretion, yard, grazing, intoHousing, roughageHousing, textOf}
-use Rattle.listing.specs.Listing.{labelField, lineOf, each}
+use Rattle.listing.specs.Bounds.{longestField, longestPath, mostLines}
+use Rattle.listing.specs.Listing.{each}
 
 -- a herd's names in the order of their numbers
 abbrev pub herdNames : List Name
@@ -64,19 +65,19 @@ totalGramsOf t =
     ∷ pos (t .«nh3_nlivestock»)
     ∷ []
 
--- the line of a name, under the path and the name's section
-abbrev pub numberedLine : List ℕ → List ℕ → List ℕ → List ℤ → ℕ → List ℕ
-numberedLine label path under grams n = lineOf label (path ++ sectionAt (getD under n 0)) (nameAt n) (getD grams n (pos 0))
-
-unfoldable pub numbered : List ℕ → List ℕ → List ℕ → List ℤ → List ℕ → List ℕ
-numbered label path under grams lines = each (numberedLine label path under grams) lines
-
--- a line's two halves
+-- a line's two halves: whose it is, by the label's field, the path and the section; and what it says
 unfoldable pub ownerOf : List ℕ → List ℕ → ℕ → List ℕ
-ownerOf label path section = labelField label ++ bytes "," ++ path ++ sectionAt section
+ownerOf field path section = field ++ bytes "," ++ path ++ sectionAt section
 
 unfoldable pub valueOf : ℕ → ℤ → List ℕ
 valueOf name grams = bytes "," ++ nameAt name ++ bytes "," ++ kilogramsOf grams ++ bytes "\r\n"
+
+-- the line of a name, under the path and the name's section
+abbrev pub numberedLine : List ℕ → List ℕ → List ℕ → List ℤ → ℕ → List ℕ
+numberedLine field path under grams n = ownerOf field path (getD under n 0) ++ valueOf n (getD grams n (pos 0))
+
+unfoldable pub numbered : List ℕ → List ℕ → List ℕ → List ℤ → List ℕ → List ℕ
+numbered field path under grams lines = each (numberedLine field path under grams) lines
 
 -- every number is below k
 abbrev pub below : ℕ → List ℕ → Bool
@@ -88,9 +89,9 @@ pub record Known (under lines : List ℕ) : Type 0 where
   pub for-each : length under ≡ length names
   pub are-sections : below (length sections) under ≡ true
   pub are-names : below (length names) lines ≡ true
-  pub few : length lines ≤ 32
+  pub few : length lines ≤ mostLines
 
--- label and path are short, so that no length of a listing passes what a usize holds
-pub record Short (label path : List ℕ) : Type 0 where
-  pub label-short : length label ≤ 16
-  pub path-short : length path ≤ 32
+-- the label's field and the path are short
+pub record Short (field path : List ℕ) : Type 0 where
+  pub field-short : length field ≤ longestField
+  pub path-short : length path ≤ longestPath

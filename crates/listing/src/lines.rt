@@ -1,12 +1,13 @@
-// A line of the listing, and lines one after the other: how long they are, and written.
+// A label's field, a line of the listing, and lines one after the other.
 use crate::texts;
 ghost use mathlib.Core.Path.{_≡_};
 ghost use mathlib.Core.List.{_++_};
 ghost use Prim.Native.Nat.{_+_, _≤_, _<_};
 ghost use lib.ListN.{length};
 ghost use Rattle.base.specs.Wrote.{Wrote};
-ghost use Rattle.listing.specs.Listing.{hasComma, labelField, lineOf};
-ghost use Rattle.listing.specs.Numbered.{Short, Known, names, nameAt, sections, sectionAt, ownerOf, valueOf, numbered};
+ghost use Rattle.listing.specs.Bounds.{longestLabel, longestField, longestOwner, longestValue, longestLine, longest};
+ghost use Rattle.listing.specs.Listing.{hasComma, labelField};
+ghost use Rattle.listing.specs.Numbered.{Short, Known, names, sections, ownerOf, valueOf, numbered};
 
 fn has_comma(label: &[u8]) -> bool
     ensures { λ r. ⌜ r ≡ hasComma (now (label .entry)) ⌝ }
@@ -21,35 +22,25 @@ fn has_comma(label: &[u8]) -> bool
     false
 }
 
-// The label, in quotes where it has a comma.
-fn put_label(out: &mut [u8], at: usize, label: &[u8]) -> usize
-    requires { ⌜ at + length (labelField (now label)) ≤ length (now out) ⌝ }
-    ensures { λ r. ⌜ Wrote (now (out .entry)) at (labelField (now (label .entry))) (now (out .exit)) r ⌝ }
+// The label, in quotes where it has a comma, from the front of the buffer on.
+pub fn put_label(out: &mut [u8], label: &[u8]) -> usize
+    requires { ⌜ (length (now label) ≤ longestLabel) × (longestField ≤ length (now out)) ⌝ }
+    ensures { λ r. ⌜ Wrote (now (out .entry)) 0 (labelField (now (label .entry))) (now (out .exit)) r × (r ≤ longestField) ⌝ }
 {
     if has_comma(label) {
-        let a = base::put_byte(out, at, b'"');
+        let a = base::put_byte(out, 0, b'"');
         let b = base::put(out, a, label);
         return base::put_byte(out, b, b'"');
     }
-    base::put(out, at, label)
+    base::put(out, 0, label)
 }
 
-fn label_len(label: &[u8]) -> usize
-    requires { ⌜ length (now label) ≤ 16 ⌝ }
-    ensures { λ r. ⌜ (r ≡ length (labelField (now (label .entry)))) × (r ≤ 18) ⌝ }
+// Whose line it is: the label's field and the module.
+fn put_owner(out: &mut [u8], at: usize, field: &[u8], path: &[u8], section: usize) -> usize
+    requires { ⌜ (section < length sections) × Short (now field) (now path) × (at + longestOwner ≤ length (now out)) ⌝ }
+    ensures { λ r. ⌜ Wrote (now (out .entry)) at (ownerOf (now (field .entry)) (now (path .entry)) section) (now (out .exit)) r × (r ≤ at + longestOwner) ⌝ }
 {
-    if has_comma(label) {
-        return label.len() + 2;
-    }
-    label.len()
-}
-
-// Whose line it is: label and module.
-fn put_owner(out: &mut [u8], at: usize, label: &[u8], path: &[u8], section: usize) -> usize
-    requires { ⌜ (section < length sections) × (at + length (ownerOf (now label) (now path) section) ≤ length (now out)) ⌝ }
-    ensures { λ r. ⌜ Wrote (now (out .entry)) at (ownerOf (now (label .entry)) (now (path .entry)) section) (now (out .exit)) r ⌝ }
-{
-    let a = put_label(out, at, label);
+    let a = base::put(out, at, field);
     let b = base::put_byte(out, a, b',');
     let c = base::put(out, b, path);
     texts::put_section(out, c, section)
@@ -57,8 +48,8 @@ fn put_owner(out: &mut [u8], at: usize, label: &[u8], path: &[u8], section: usiz
 
 // What it says: output name and kilograms.
 fn put_value(out: &mut [u8], at: usize, name: usize, grams: i64) -> usize
-    requires { ⌜ (name < length names) × (at + length (valueOf name grams) ≤ length (now out)) ⌝ }
-    ensures { λ r. ⌜ Wrote (now (out .entry)) at (valueOf name grams) (now (out .exit)) r ⌝ }
+    requires { ⌜ (name < length names) × (at + longestValue ≤ length (now out)) ⌝ }
+    ensures { λ r. ⌜ Wrote (now (out .entry)) at (valueOf name grams) (now (out .exit)) r × (r ≤ at + longestValue) ⌝ }
 {
     let a = base::put_byte(out, at, b',');
     let b = texts::put_name(out, a, name);
@@ -70,39 +61,30 @@ fn put_value(out: &mut [u8], at: usize, name: usize, grams: i64) -> usize
 fn put_line(
     out: &mut [u8],
     at: usize,
-    label: &[u8],
+    field: &[u8],
     path: &[u8],
     section: usize,
     name: usize,
     grams: i64,
 ) -> usize
-    requires { ⌜ (section < length sections) × (name < length names) × (at + length (lineOf (now label) (now path ++ sectionAt section) (nameAt name) grams) ≤ length (now out)) ⌝ }
-    ensures { λ r. ⌜ Wrote (now (out .entry)) at (lineOf (now (label .entry)) (now (path .entry) ++ sectionAt section) (nameAt name) grams) (now (out .exit)) r ⌝ }
+    requires { ⌜ (section < length sections) × (name < length names) × Short (now field) (now path) × (at + longestLine ≤ length (now out)) ⌝ }
+    ensures { λ r. ⌜ Wrote (now (out .entry)) at (ownerOf (now (field .entry)) (now (path .entry)) section ++ valueOf name grams) (now (out .exit)) r × (r ≤ at + longestLine) ⌝ }
 {
-    let a = put_owner(out, at, label, path, section);
+    let a = put_owner(out, at, field, path, section);
     put_value(out, a, name, grams)
-}
-
-fn line_len(label: &[u8], path: &[u8], section: usize, name: usize, grams: i64) -> usize
-    requires { ⌜ (section < length sections) × (name < length names) × Short (now label) (now path) ⌝ }
-    ensures { λ r. ⌜ (r ≡ length (lineOf (now (label .entry)) (now (path .entry) ++ sectionAt section) (nameAt name) grams)) × (r ≤ 128) ⌝ }
-{
-    let owner = label_len(label) + 1 + path.len() + texts::section_len(section);
-    let value = 1 + texts::name_len(name) + 1 + decimal::kilograms_len(grams);
-    owner + value + 2
 }
 
 // The lines of these names, from the front of the buffer on; the end of the last.
 pub fn put_lines(
     out: &mut [u8],
-    label: &[u8],
+    field: &[u8],
     path: &[u8],
     under: &[usize; texts::NAMES_IN_ALL],
     lines: &[usize],
     grams: &[i64; texts::NAMES_IN_ALL],
 ) -> usize
-    requires { ⌜ Known (now under) (now lines) × (length (numbered (now label) (now path) (now under) (now grams) (now lines)) ≤ length (now out)) ⌝ }
-    ensures { λ r. ⌜ Wrote (now (out .entry)) 0 (numbered (now (label .entry)) (now (path .entry)) (now (under .entry)) (now (grams .entry)) (now (lines .entry))) (now (out .exit)) r ⌝ }
+    requires { ⌜ Known (now under) (now lines) × Short (now field) (now path) × (longest ≤ length (now out)) ⌝ }
+    ensures { λ r. ⌜ Wrote (now (out .entry)) 0 (numbered (now (field .entry)) (now (path .entry)) (now (under .entry)) (now (grams .entry)) (now (lines .entry))) (now (out .exit)) r × (r ≤ longest) ⌝ }
 {
     let mut at = 0;
     let mut k = 0;
@@ -110,30 +92,8 @@ pub fn put_lines(
         let name = lines[k];
         let section = under[name];
         let g = grams[name];
-        at = put_line(out, at, label, path, section, name, g);
+        at = put_line(out, at, field, path, section, name, g);
         k += 1;
     }
     at
-}
-
-pub fn lines_len(
-    label: &[u8],
-    path: &[u8],
-    under: &[usize; texts::NAMES_IN_ALL],
-    lines: &[usize],
-    grams: &[i64; texts::NAMES_IN_ALL],
-) -> usize
-    requires { ⌜ Known (now under) (now lines) × Short (now label) (now path) ⌝ }
-    ensures { λ r. ⌜ r ≡ length (numbered (now (label .entry)) (now (path .entry)) (now (under .entry)) (now (grams .entry)) (now (lines .entry))) ⌝ }
-{
-    let mut n = 0;
-    let mut i = 0;
-    while i < lines.len() {
-        let name = lines[i];
-        let section = under[name];
-        let g = grams[name];
-        n += line_len(label, path, section, name, g);
-        i += 1;
-    }
-    n
 }

@@ -1,43 +1,12 @@
-// The line list of 01, The listing, once as data: the output names, the section that each stands in, and the lines of each listing in their
-// order. A new line of a kind is a number in its list here and a name in its list in specs/HerdLines.antt.
-ghost use mathlib.Core.Path.{_≡_};
+// The line list of 01, The listing, once: the output names and the sections by number, the section that each name stands in, and the lines of
+// each listing in their order. A new line of a kind is a number in its list here and a name in its list in specs/HerdLines.antt.
 ghost use Prim.Native.Nat.{_+_, _≤_, _<_};
 ghost use lib.ListN.{length};
 ghost use Rattle.base.specs.Wrote.{Wrote};
-ghost use Rattle.inputs.specs.Pieces.{pieceAt};
+ghost use Rattle.listing.specs.Bounds.{longestName, longestSection};
 ghost use Rattle.listing.specs.Numbered.{names, nameAt, sections, sectionAt};
 
-// The names, one after the other, and where each starts; the last start is the text's end.
-const NAMES: [u8; 304] =
-    *b"n_excretiontan_excretionn_into_yardtan_into_yardnh3_nyardn_outyard_liquidtan_outyard_liquidn_into_grazingtan_into_grazingnh3_ngrazingn2_ngrazingno_ngrazingn2o_ngrazingn_remain_grazingtan_remain_grazingn_into_housingtan_into_housingnh3_nhousingn_outhousingtan_outhousingnh3_nhousing_and_yardnh3_nlivestock";
-
-const NAME_STARTS: [usize; 23] = [
-    0,
-    11,
-    24,
-    35,
-    48,
-    57,
-    73,
-    91,
-    105,
-    121,
-    133,
-    144,
-    155,
-    167,
-    183,
-    201,
-    215,
-    231,
-    243,
-    255,
-    269,
-    290,
-    304,
-];
-
-// Their numbers.
+// The names by number.
 pub const N_EXCRETION: usize = 0;
 
 pub const TAN_EXCRETION: usize = 1;
@@ -84,11 +53,7 @@ pub const NH3_NLIVESTOCK: usize = 21;
 
 pub const NAMES_IN_ALL: usize = 22;
 
-// The sections in the same way; the totals stand in none.
-const SECTIONS: [u8; 35] = *b"::Excretion::Yard::Grazing::Housing";
-
-const SECTION_STARTS: [usize; 6] = [0, 11, 17, 26, 35, 35];
-
+// The sections by number; the totals stand in none.
 const EXCRETION: usize = 0;
 
 const YARD: usize = 1;
@@ -211,51 +176,47 @@ pub const TOTAL_LINES: [usize; 18] = [
     TAN_REMAIN_GRAZING,
 ];
 
-// Writes the text's stretch between the k-th start and the next.
-fn put_piece(out: &mut [u8], at: usize, text: &[u8], starts: &[usize], k: usize) -> usize
-    requires { ⌜ (k + 1 < length (now starts)) × (at + length (pieceAt (now text) (now starts) k) ≤ length (now out)) ⌝ }
-    ensures { λ r. ⌜ Wrote (now (out .entry)) at (pieceAt (now (text .entry)) (now (starts .entry)) k) (now (out .exit)) r ⌝ }
-{
-    let from = starts[k];
-    let to = starts[k + 1];
-    base::put(out, at, base::part_of(text, from, to))
-}
-
-fn piece_len(text: &[u8], starts: &[usize], k: usize) -> usize
-    requires { ⌜ k + 1 < length (now starts) ⌝ }
-    ensures { λ r. ⌜ r ≡ length (pieceAt (now (text .entry)) (now (starts .entry)) k) ⌝ }
-{
-    let from = starts[k];
-    let to = starts[k + 1];
-    base::part_of(text, from, to).len()
-}
-
-// The name of this number, and its length.
+// The name of this number.
 pub fn put_name(out: &mut [u8], at: usize, name: usize) -> usize
-    requires { ⌜ (name < length names) × (at + length (nameAt name) ≤ length (now out)) ⌝ }
-    ensures { λ r. ⌜ Wrote (now (out .entry)) at (nameAt name) (now (out .exit)) r ⌝ }
+    requires { ⌜ (name < length names) × (at + longestName ≤ length (now out)) ⌝ }
+    ensures { λ r. ⌜ Wrote (now (out .entry)) at (nameAt name) (now (out .exit)) r × (r ≤ at + longestName) ⌝ }
 {
-    put_piece(out, at, &NAMES, &NAME_STARTS, name)
-}
-
-pub fn name_len(name: usize) -> usize
-    requires { ⌜ name < length names ⌝ }
-    ensures { λ r. ⌜ (r ≡ length (nameAt name)) × (r ≤ 21) ⌝ }
-{
-    piece_len(&NAMES, &NAME_STARTS, name)
+    match name {
+        N_EXCRETION => base::put(out, at, b"n_excretion"),
+        TAN_EXCRETION => base::put(out, at, b"tan_excretion"),
+        N_INTO_YARD => base::put(out, at, b"n_into_yard"),
+        TAN_INTO_YARD => base::put(out, at, b"tan_into_yard"),
+        NH3_NYARD => base::put(out, at, b"nh3_nyard"),
+        N_OUTYARD_LIQUID => base::put(out, at, b"n_outyard_liquid"),
+        TAN_OUTYARD_LIQUID => base::put(out, at, b"tan_outyard_liquid"),
+        N_INTO_GRAZING => base::put(out, at, b"n_into_grazing"),
+        TAN_INTO_GRAZING => base::put(out, at, b"tan_into_grazing"),
+        NH3_NGRAZING => base::put(out, at, b"nh3_ngrazing"),
+        N2_NGRAZING => base::put(out, at, b"n2_ngrazing"),
+        NO_NGRAZING => base::put(out, at, b"no_ngrazing"),
+        N2O_NGRAZING => base::put(out, at, b"n2o_ngrazing"),
+        N_REMAIN_GRAZING => base::put(out, at, b"n_remain_grazing"),
+        TAN_REMAIN_GRAZING => base::put(out, at, b"tan_remain_grazing"),
+        N_INTO_HOUSING => base::put(out, at, b"n_into_housing"),
+        TAN_INTO_HOUSING => base::put(out, at, b"tan_into_housing"),
+        NH3_NHOUSING => base::put(out, at, b"nh3_nhousing"),
+        N_OUTHOUSING => base::put(out, at, b"n_outhousing"),
+        TAN_OUTHOUSING => base::put(out, at, b"tan_outhousing"),
+        NH3_NHOUSING_AND_YARD => base::put(out, at, b"nh3_nhousing_and_yard"),
+        _ => base::put(out, at, b"nh3_nlivestock"),
+    }
 }
 
 // The same of a section.
 pub fn put_section(out: &mut [u8], at: usize, section: usize) -> usize
-    requires { ⌜ (section < length sections) × (at + length (sectionAt section) ≤ length (now out)) ⌝ }
-    ensures { λ r. ⌜ Wrote (now (out .entry)) at (sectionAt section) (now (out .exit)) r ⌝ }
+    requires { ⌜ (section < length sections) × (at + longestSection ≤ length (now out)) ⌝ }
+    ensures { λ r. ⌜ Wrote (now (out .entry)) at (sectionAt section) (now (out .exit)) r × (r ≤ at + longestSection) ⌝ }
 {
-    put_piece(out, at, &SECTIONS, &SECTION_STARTS, section)
-}
-
-pub fn section_len(section: usize) -> usize
-    requires { ⌜ section < length sections ⌝ }
-    ensures { λ r. ⌜ (r ≡ length (sectionAt section)) × (r ≤ 11) ⌝ }
-{
-    piece_len(&SECTIONS, &SECTION_STARTS, section)
+    match section {
+        EXCRETION => base::put(out, at, b"::Excretion"),
+        YARD => base::put(out, at, b"::Yard"),
+        GRAZING => base::put(out, at, b"::Grazing"),
+        HOUSING => base::put(out, at, b"::Housing"),
+        _ => at,
+    }
 }

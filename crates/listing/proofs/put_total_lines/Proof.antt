@@ -1,5 +1,5 @@
 -- `listing::put_total_lines` meets its contract: the lines by number are the totals' lines. Assumes nothing.
-use Rattle.listing.proofs.Same.{totals-known, totals-room, totals-wrote}
+use Rattle.listing.proofs.Same.{totals-wrote}
 use borrow.Author.Needs.{needs}
 use Rattle.listing.proofs.put_total_lines.Statement.{statement}
 use Rattle.listing.proofs.put_total_lines.Tie as tie
@@ -17,9 +17,7 @@ slice-aggregate-put-lines-3 : tie.Need-slice-aggregate-put-lines-3
 slice-aggregate-put-lines-3 c = search needs
 
 put-lines-requires : tie.Need-put-lines-requires
-put-lines-requires c κs =
-    let o = c .before .before .before .before .before .before in
-    (totals-known, totals-room _ _ (o .of-totals .ensures) (o .before .before .pre .1))
+put-lines-requires c κs = search needs
 
 same-length : tie.Need-same-length
 same-length c = search needs
@@ -27,7 +25,7 @@ same-length c = search needs
 returns : tie.Need-returns
 returns c =
     let d = c .before .before in
-    totals-wrote _ _ (d .before .before .before .before .before .before .before .of-totals .ensures) (d .put-lines .ensures)
+    (totals-wrote (d .before .before .before .before .before .before .before .of-totals .ensures) (d .put-lines .ensures .0), search needs)
 
 pub put-total-lines-spec : {M : Type 1} → statement M
 put-total-lines-spec =

@@ -1,30 +1,21 @@
 -- `listing::lines::put_label` meets its contract: a quote, the label and a quote where there is a comma, else the label. Assumes nothing.
-use mathlib.Core.Path.{_≡_}
-use Prim.Native.Nat.{_+_}
-use native.Mathlib.Omega.{arith}
-use denote.Ref.{now}
-use lib.ListN.{length}
 use Rattle.base.proofs.Writes.{said, joined}
-use Rattle.listing.specs.Listing.{labelField}
-use Rattle.listing.proofs.LabelField.{quoted, bare, quoted-length, bare-length}
+use Rattle.listing.proofs.LabelField.{quoted, bare}
 use borrow.Author.Needs.{needs}
 use Rattle.listing.proofs.lines.put_label.Statement.{statement}
 use Rattle.listing.proofs.lines.put_label.Tie as tie
-
-room : (c : tie.Then1) → let l = now (c .before .before .before .before .args .label) in length l + 2 ≡ length (labelField l)
-room c = quoted-length _ _ (c .before .has-comma .ensures) (c .if1 .taken)
 
 has-comma-requires : tie.Need-has-comma-requires
 has-comma-requires c κs = search needs
 
 put-byte-requires : tie.Need-put-byte-requires
-put-byte-requires c κs = omega (arith, room (c .before))
+put-byte-requires c κs = search needs
 
 put-requires : tie.Need-put-requires
-put-requires c κs = omega (arith, room (c .before .before .before .before .before))
+put-requires c κs = search needs
 
 put-byte-requires-2 : tie.Need-put-byte-requires-2
-put-byte-requires-2 c κs = omega (arith, room (c .before .before .before .before .before .before .before .before .before))
+put-byte-requires-2 c κs = search needs
 
 same-length : tie.Need-same-length
 same-length c = search needs
@@ -35,16 +26,16 @@ returns c =
     let b = d .before .before .before .before in
     let a = b .before .before .before .before in
     let t = a .before .before in
-    said (quoted _ _ (t .before .has-comma .ensures) (t .if1 .taken)) (joined (joined (a .put-byte .ensures) (b .put .ensures)) (d .put-byte2 .ensures))
+    (said (quoted _ _ (t .before .has-comma .ensures) (t .if1 .taken)) (joined (joined (a .put-byte .ensures) (b .put .ensures)) (d .put-byte2 .ensures)), search needs)
 
 put-requires-2 : tie.Need-put-requires-2
-put-requires-2 c κs = omega (arith, bare-length _ _ (c .before .before .has-comma .ensures) (c .before .if1 .left))
+put-requires-2 c κs = search needs
 
 same-length-2 : tie.Need-same-length-2
 same-length-2 c = search needs
 
 returns-2 : tie.Need-returns-2
-returns-2 c = let d = c .before .before in let t = d .before .before in said (bare _ _ (t .before .has-comma .ensures) (t .if1 .left)) (d .put2 .ensures)
+returns-2 c = let d = c .before .before in let t = d .before .before in (said (bare _ _ (t .before .has-comma .ensures) (t .if1 .left)) (d .put2 .ensures), search needs)
 
 pub put-label-spec : {M : Type 1} → statement M
 put-label-spec =

@@ -1,22 +1,18 @@
 -- `listing::lines::put_line` meets its contract, half by half. A callee sees a signed argument as what is read back of its bits.
 -- Assumes nothing.
 use mathlib.Core.Path.{ap}
-use native.Mathlib.Omega.{arith}
-use denote.Ref.{now}
-use lib.ListN.{length}
 use mir.Facts.{toZ-ofZ}
 use Rattle.base.proofs.Writes.{said, joined}
 use Rattle.listing.specs.Numbered.{valueOf}
-use Rattle.listing.proofs.Halves.{line-is, line-length}
 use borrow.Author.Needs.{needs}
 use Rattle.listing.proofs.lines.put_line.Statement.{statement}
 use Rattle.listing.proofs.lines.put_line.Tie as tie
 
 put-owner-requires : tie.Need-put-owner-requires
-put-owner-requires c κs = let s = c .before .before .before .before in (search needs, omega (arith, line-length (now (s .args .label)) (now (s .args .path)) (s .args .section) (s .args .name) (s .args .grams)))
+put-owner-requires c κs = search needs
 
 put-value-requires : tie.Need-put-value-requires
-put-value-requires c κs = let s = c .before .before .before .before .before .before .before .before in (search needs, omega (arith, line-length (now (s .args .label)) (now (s .args .path)) (s .args .section) (s .args .name) (s .args .grams), ap (λ z. length (valueOf (s .args .name) z)) (toZ-ofZ (s .fits .grams))))
+put-value-requires c κs = search needs
 
 same-length : tie.Need-same-length
 same-length c = search needs
@@ -26,7 +22,7 @@ returns c =
     let b = c .before .before in
     let a = b .before .before .before .before in
     let s = a .before .before .before .before .before in
-    said (line-is _ _ _ _ _) (joined (a .put-owner .ensures) (said (ap (valueOf (s .args .name)) (toZ-ofZ (s .fits .grams))) (b .put-value .ensures)))
+    (joined (a .put-owner .ensures .0) (said (ap (valueOf (s .args .name)) (toZ-ofZ (s .fits .grams))) (b .put-value .ensures .0)), search needs)
 
 pub put-line-spec : {M : Type 1} → statement M
 put-line-spec = tie.close (tie.spec put-owner-requires put-value-requires same-length returns)

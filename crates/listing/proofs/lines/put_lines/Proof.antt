@@ -1,23 +1,26 @@
--- `listing::lines::put_lines` meets its contract: what is still to be written is the lines of the names that are left. Assumes nothing.
-use Prim.Native.Nat.{_≤_, _-_}
+-- `listing::lines::put_lines` meets its contract: what is still to be written is the lines of the names that are left, and each line takes
+-- at most its room. Assumes nothing.
+use Prim.Native.Nat.{_≤_, _-_, _*_}
+use native.Mathlib.Omega.{arith}
 use lib.ListN.{length, drop}
+use Rattle.listing.specs.Bounds.{longestLine}
 use Rattle.listing.specs.Numbered.{numbered}
 use Rattle.listing.proofs.Going.{Going, begun}
-use Rattle.listing.proofs.Runs.{knowns, name-known, section-known, line-room, line-put, all-put}
+use Rattle.listing.proofs.Runs.{knowns, name-known, section-known, line-put, all-put}
 use borrow.Author.Needs.{needs, sfits-of}
 use mir.Facts.{toZ-ofZ}
 use Rattle.listing.proofs.lines.put_lines.Statement.{statement}
 use Rattle.listing.proofs.lines.put_lines.Tie as tie
 
 abbrev Inv-loop : tie.InvT-loop
-Inv-loop out₀ label path under lines grams at₀ k₀ out at k =
-    (k ≤ length lines) × Going out₀ (numbered label path under grams lines) out (numbered label path under grams (drop k lines)) at
+Inv-loop out₀ field path under lines grams at₀ k₀ out at k =
+    (k ≤ length lines) × Going out₀ (numbered field path under grams lines) out (numbered field path under grams (drop k lines)) at × (at ≤ k * longestLine)
 
 abbrev μ-loop : tie.MeasureT-loop
-μ-loop out₀ label path under lines grams at₀ k₀ out at k = length lines - k
+μ-loop out₀ field path under lines grams at₀ k₀ out at k = length lines - k
 
 loop-holds : tie.Need-loop-holds Inv-loop μ-loop
-loop-holds c = (search needs, begun)
+loop-holds c = (search needs, begun, search needs)
 
 mul-name : tie.Need-mul-name Inv-loop μ-loop
 mul-name c = search needs
@@ -39,13 +42,13 @@ element-copy-out-g c = search (needs, knowns)
 
 put-line-requires : tie.Need-put-line-requires Inv-loop μ-loop
 put-line-requires c κs =
-    let a = c .before in
-    let t = a .before .before .before in
+    let t = c .before .before .before .before in
     let s = t .before .before .before .before .before .before in
     let n = name-known _ _ (s .pre .0) _ (t .loop-test .taken) in (
       section-known _ _ (s .pre .0) _ n,
       n,
-      line-room _ _ _ _ _ _ (t .loop-test .taken) _ (toZ-ofZ (sfits-of (a .g .given))) _ _ _ _ (t .before .loop .inv .1) (s .pre .1),
+      s .pre .1,
+      omega (arith, s .pre .0 .few, s .pre .2, t .before .loop .inv .1 .same, t .before .loop .inv .2),
     )
 
 add-k : tie.Need-add-k Inv-loop μ-loop
@@ -60,14 +63,15 @@ loop-again c =
     let a = b .before .before in
     let t = a .before .before .before in (
       search needs,
-      line-put _ _ _ _ _ _ (t .loop-test .taken) _ (toZ-ofZ (sfits-of (a .g .given))) _ _ _ _ _ _ (t .before .loop .inv .1) (b .put-line .ensures),
+      line-put _ _ _ _ _ _ (t .loop-test .taken) _ (toZ-ofZ (sfits-of (a .g .given))) _ _ _ _ _ _ (t .before .loop .inv .1) (b .put-line .ensures .0),
+      omega (arith, t .before .loop .inv .2, b .put-line .ensures .1),
     )
 
 same-length : tie.Need-same-length Inv-loop μ-loop
 same-length c = c .before .loop .inv .1 .same
 
 returns : tie.Need-returns Inv-loop μ-loop
-returns c = search (needs, all-put)
+returns c = (search (needs, all-put), omega (arith, c .before .before .before .before .before .before .pre .0 .few))
 
 pub put-lines-spec : {M : Type 1} → statement M
 put-lines-spec =

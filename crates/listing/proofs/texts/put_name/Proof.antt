@@ -1,31 +1,109 @@
--- `listing::texts::put_name` meets its contract: the stretch that it writes is the definition's. Assumes nothing.
-use Rattle.base.proofs.Writes.{said}
-use Rattle.listing.proofs.Stretches.{is-room, name-piece}
-use borrow.Author.Needs.{needs}
+-- `listing::texts::put_name` meets its contract, arm by arm: what an arm writes is the name of its number. Assumes nothing.
+use mathlib.Core.Path.{refl}
+use native.Mathlib.Omega.{arith}
+use Rattle.base.proofs.Writes.{kept}
+use Rattle.listing.proofs.ByNumber.{name-put, last-is}
 use Rattle.listing.proofs.texts.put_name.Statement.{statement}
 use Rattle.listing.proofs.texts.put_name.Tie as tie
 
-slice-aggregate-put-piece : tie.Need-slice-aggregate-put-piece
-slice-aggregate-put-piece c = search needs
+-- the last arm: a name's number that is none of the others
+returns-22 : tie.Need-returns-22
+returns-22 c =
+    let d = c .before .before in
+    let m = d .before .before .before in
+    let s = m .before .before in
+    (name-put 21 (last-is 21 (s .args .name) (m .match .rest) (s .pre .0)) (d .put22 .ensures), omega arith)
 
-slice-aggregate-put-piece-2 : tie.Need-slice-aggregate-put-piece-2
-slice-aggregate-put-piece-2 c = search needs
-
-put-piece-requires : tie.Need-put-piece-requires
-put-piece-requires c κs = let s = c .before .before .before .before in (search needs, is-room _ _ (name-piece (s .args .name) (s .pre .0)) _ _ (s .pre .1))
-
-same-length : tie.Need-same-length
-same-length c = search needs
-
-returns : tie.Need-returns
-returns c = let d = c .before .before in let s = d .before .before .before .before .before in said (name-piece (s .args .name) (s .pre .0)) (d .put-piece .ensures)
-
+-- for each arm the text that it lends and the room for it, then the buffer's length and what was written
 pub put-name-spec : {M : Type 1} → statement M
 put-name-spec =
     tie.close
     (tie.spec
-    slice-aggregate-put-piece
-    slice-aggregate-put-piece-2
-    put-piece-requires
-    same-length
-    returns)
+    (λ c. refl)
+    (λ c κs. omega arith)
+    (λ c. refl)
+    (λ c κs. omega arith)
+    (λ c. refl)
+    (λ c κs. omega arith)
+    (λ c. refl)
+    (λ c κs. omega arith)
+    (λ c. refl)
+    (λ c κs. omega arith)
+    (λ c. refl)
+    (λ c κs. omega arith)
+    (λ c. refl)
+    (λ c κs. omega arith)
+    (λ c. refl)
+    (λ c κs. omega arith)
+    (λ c. refl)
+    (λ c κs. omega arith)
+    (λ c. refl)
+    (λ c κs. omega arith)
+    (λ c. refl)
+    (λ c κs. omega arith)
+    (λ c. refl)
+    (λ c κs. omega arith)
+    (λ c. refl)
+    (λ c κs. omega arith)
+    (λ c. refl)
+    (λ c κs. omega arith)
+    (λ c. refl)
+    (λ c κs. omega arith)
+    (λ c. refl)
+    (λ c κs. omega arith)
+    (λ c. refl)
+    (λ c κs. omega arith)
+    (λ c. refl)
+    (λ c κs. omega arith)
+    (λ c. refl)
+    (λ c κs. omega arith)
+    (λ c. refl)
+    (λ c κs. omega arith)
+    (λ c. refl)
+    (λ c κs. omega arith)
+    (λ c. refl)
+    (λ c κs. omega arith)
+    (λ c. kept (c .before .before .put .ensures))
+    (λ c. (name-put 0 (c .before .before .before .before .before .match .keys1) (c .before .before .put .ensures), omega arith))
+    (λ c. kept (c .before .before .put2 .ensures))
+    (λ c. (name-put 1 (c .before .before .before .before .before .match .keys2) (c .before .before .put2 .ensures), omega arith))
+    (λ c. kept (c .before .before .put3 .ensures))
+    (λ c. (name-put 2 (c .before .before .before .before .before .match .keys3) (c .before .before .put3 .ensures), omega arith))
+    (λ c. kept (c .before .before .put4 .ensures))
+    (λ c. (name-put 3 (c .before .before .before .before .before .match .keys4) (c .before .before .put4 .ensures), omega arith))
+    (λ c. kept (c .before .before .put5 .ensures))
+    (λ c. (name-put 4 (c .before .before .before .before .before .match .keys5) (c .before .before .put5 .ensures), omega arith))
+    (λ c. kept (c .before .before .put6 .ensures))
+    (λ c. (name-put 5 (c .before .before .before .before .before .match .keys6) (c .before .before .put6 .ensures), omega arith))
+    (λ c. kept (c .before .before .put7 .ensures))
+    (λ c. (name-put 6 (c .before .before .before .before .before .match .keys7) (c .before .before .put7 .ensures), omega arith))
+    (λ c. kept (c .before .before .put8 .ensures))
+    (λ c. (name-put 7 (c .before .before .before .before .before .match .keys8) (c .before .before .put8 .ensures), omega arith))
+    (λ c. kept (c .before .before .put9 .ensures))
+    (λ c. (name-put 8 (c .before .before .before .before .before .match .keys9) (c .before .before .put9 .ensures), omega arith))
+    (λ c. kept (c .before .before .put10 .ensures))
+    (λ c. (name-put 9 (c .before .before .before .before .before .match .keys10) (c .before .before .put10 .ensures), omega arith))
+    (λ c. kept (c .before .before .put11 .ensures))
+    (λ c. (name-put 10 (c .before .before .before .before .before .match .keys11) (c .before .before .put11 .ensures), omega arith))
+    (λ c. kept (c .before .before .put12 .ensures))
+    (λ c. (name-put 11 (c .before .before .before .before .before .match .keys12) (c .before .before .put12 .ensures), omega arith))
+    (λ c. kept (c .before .before .put13 .ensures))
+    (λ c. (name-put 12 (c .before .before .before .before .before .match .keys13) (c .before .before .put13 .ensures), omega arith))
+    (λ c. kept (c .before .before .put14 .ensures))
+    (λ c. (name-put 13 (c .before .before .before .before .before .match .keys14) (c .before .before .put14 .ensures), omega arith))
+    (λ c. kept (c .before .before .put15 .ensures))
+    (λ c. (name-put 14 (c .before .before .before .before .before .match .keys15) (c .before .before .put15 .ensures), omega arith))
+    (λ c. kept (c .before .before .put16 .ensures))
+    (λ c. (name-put 15 (c .before .before .before .before .before .match .keys16) (c .before .before .put16 .ensures), omega arith))
+    (λ c. kept (c .before .before .put17 .ensures))
+    (λ c. (name-put 16 (c .before .before .before .before .before .match .keys17) (c .before .before .put17 .ensures), omega arith))
+    (λ c. kept (c .before .before .put18 .ensures))
+    (λ c. (name-put 17 (c .before .before .before .before .before .match .keys18) (c .before .before .put18 .ensures), omega arith))
+    (λ c. kept (c .before .before .put19 .ensures))
+    (λ c. (name-put 18 (c .before .before .before .before .before .match .keys19) (c .before .before .put19 .ensures), omega arith))
+    (λ c. kept (c .before .before .put20 .ensures))
+    (λ c. (name-put 19 (c .before .before .before .before .before .match .keys20) (c .before .before .put20 .ensures), omega arith))
+    (λ c. kept (c .before .before .put21 .ensures))
+    (λ c. (name-put 20 (c .before .before .before .before .before .match .keys21) (c .before .before .put21 .ensures), omega arith))
+    (λ c. kept (c .before .before .put22 .ensures))
+    returns-22)
