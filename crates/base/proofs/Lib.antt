@@ -4,3 +4,4 @@ pub mod Parts
 pub mod Writes
 pub mod Table
 pub mod Clash
+pub mod Holds

@@ -1,22 +1,17 @@
 -- Two labels of at most 16 bytes are one exactly where their bytes in use are the same; and a good label is not the one that says nothing.
 -- Assumes nothing.
-use Prim.Native.Nat.{ℕ, _≤_}
+use Prim.Native.Nat.{_≤_}
 use mathlib.Core.Path.{_≡_, refl, ap, sym, _∙_}
 use mathlib.Core.Bool.{Bool, true, false, _&&_}
-use mathlib.Core.List.{List, [], _∷_}
 use native.Mathlib.Omega.{arith}
 use lib.Dec.{leb, eqb}
 use lib.ListN.{length}
 use lib.Seq.{length-take-le}
 use borrow.Author.Tests.{eq-eqb, ne-eqb, leb-true, le-leb}
 use Rattle.base.specs.Part.{sameBytes}
-use Rattle.inputs.proofs.Founds.{same-eq}
+use Rattle.base.proofs.Holds.{both-true, same-eq, same-self}
 use Rattle.farm.specs.declared.Label.{Label}
 use Rattle.farm.specs.Labels.{allOk, text, labelOk, sameLabel, noLabel}
-
-second : (a b : Bool) → (a && b) ≡ true → b ≡ true
-second true b e = e
-second false b e = cc
 
 -- a good label has a byte
 pub no-label : (l : Label) → labelOk l ≡ true → sameLabel noLabel l ≡ false
@@ -30,12 +25,8 @@ no-label l e = go (leb 1 (l .len)) refl e
 pub same-text : (a b : Label) → sameLabel a b ≡ true → text a ≡ text b
 unfolding sameLabel
 same-text a b e =
-    same-eq (text a) (text b) (second (leb (a .len) 16) (sameBytes (text a) (text b)) (second (eqb (a .len) (b .len)) (leb (a .len) 16 && sameBytes (text a) (text b)) e))
-
-same-self : (s : List ℕ) → sameBytes s s ≡ true
-unfolding sameBytes
-same-self [] = refl
-same-self (x ∷ s) = rw (eq-eqb x x refl) (same-self s)
+    let h = both-true (eqb (a .len) (b .len)) (leb (a .len) 16 && sameBytes (text a) (text b)) e .1 in
+    same-eq (text a) (text b) (both-true (leb (a .len) 16) (sameBytes (text a) (text b)) h .1)
 
 module _ (a b : Label) (long : length (a .bytes) ≡ 16) (long′ : length (b .bytes) ≡ 16) (room : a .len ≤ 16) (room′ : b .len ≤ 16) where
   pub text-same : text a ≡ text b → sameLabel a b ≡ true

@@ -5,32 +5,17 @@ use mathlib.Core.Path.{_≡_, refl, sym, subst}
 use mathlib.Core.Bool.{Bool, true, false}
 use mathlib.Core.List.{List, [], _∷_, map}
 use native.Mathlib.Omega.{arith}
-use lib.Dec.{eqb}
-use lib.ListN.{length, getD, drop, length-take}
-use borrow.Author.Tests.{eqb-true}
+use lib.ListN.{length, getD}
 use Rattle.base.specs.Pick.{pick}
 use Rattle.base.specs.Text.{bytes}
 use Rattle.base.specs.Part.{sameBytes}
 use Rattle.base.proofs.Clash.{clash}
+use Rattle.base.proofs.Holds.{both-true, same-eq}
 use Rattle.inputs.specs.declared.Form.{Form}
-use Rattle.inputs.specs.declared.Form.the-variants.{OneOf}
 use Rattle.inputs.specs.declared.Found.the-variants.{At}
-use Rattle.inputs.specs.Inputs.{Row, rows, noRow, valueNames, namesOf, formAt}
+use Rattle.inputs.specs.Inputs.{Row, rows, noRow, namesOf, formAt}
 use Rattle.inputs.specs.Find.{firstFrom, isRow, findInput, isName, findName}
-use Rattle.inputs.proofs.Tables.{entry, entry-at, places, both-true}
-
--- ---- bytes compared
-
-pub same-eq : (a b : List ℕ) → sameBytes a b ≡ true → a ≡ b
-unfolding sameBytes
-same-eq [] [] e = refl
-same-eq [] (y ∷ b) e = cc
-same-eq (x ∷ a) [] e = cc
-same-eq (x ∷ a) (y ∷ b) e = go (eqb x y) refl e (same-eq a b)
-  where
-    go : (t : Bool) → eqb x y ≡ t → pick t (sameBytes a b) false ≡ true → (sameBytes a b ≡ true → a ≡ b) → x ∷ a ≡ y ∷ b
-    go true h s more = let p : x ≡ y = eqb-true x y h in let q : a ≡ b = more s in cc
-    go false h s more = cc
+use Rattle.inputs.proofs.Tables.{entry, entry-at, places}
 
 -- ---- what a search found
 
@@ -96,9 +81,6 @@ unfolding findName isName
 find-name-at form s j e =
     let r = seen-at (isName s) (namesOf form) "" j e in
     record { inside = r .0; name = same-eq s (bytes (getD (namesOf form) j "")) (r .1) }
-
-pub find-name-below : (first count : ℕ) (s : List ℕ) (j : ℕ) → findName (OneOf first count) s ≡ At j → j < count
-find-name-below first count s j e = omega (arith, find-name-at (OneOf first count) s j e .inside, length-take count (drop first valueNames))
 
 -- the one computed test: no list of names has a name twice
 all-named : map (λ (row : Row). map At (places 0 (namesOf (row .form)))) rows ≡ map (λ (row : Row). map (λ (name : String). findName (row .form) (bytes name)) (namesOf (row .form))) rows

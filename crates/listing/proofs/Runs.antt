@@ -14,8 +14,8 @@ use mir.Syntax.{w64}
 use mir.Val.{Fits}
 use Rattle.base.specs.Wrote.{Wrote}
 use Rattle.base.proofs.Rest.{rest-at, rest-end}
-use Rattle.inputs.proofs.Tables.{both-true}
-use Rattle.listing.specs.Numbered.{below, names, sections, ownerOf, valueOf, numbered, Known}
+use Rattle.base.proofs.Holds.{both-true}
+use Rattle.listing.specs.Numbered.{below, names, sections, ownerOf, amountOf, numbered, Known}
 use Rattle.listing.proofs.Going.{Going, gone-on, ended}
 
 -- an entry is below what all entries are below
@@ -44,7 +44,7 @@ module _ (field path under lines : List ℕ) (grams : List ℤ) (k : ℕ) where
   left i = numbered field path under grams (drop i lines)
 
   abbrev here : ℤ → List ℕ
-  here g = ownerOf field path (getD under (getD lines k 0) 0) ++ valueOf (getD lines k 0) g
+  here g = ownerOf field path (getD under (getD lines k 0) 0) ++ amountOf (getD lines k 0) g
 
   module _ (h : k < length lines) (g : ℤ) (e : g ≡ getD grams (getD lines k 0) (pos 0)) where
     line-first : left k ≡ here g ++ left (k + 1)

@@ -11,11 +11,11 @@ use lib.IntN.{ℤ, pos, negsuc, natAbs}
 use Rattle.base.specs.Pick.{pick}
 use Rattle.base.specs.Text.{bytes}
 use Rattle.base.proofs.Clash.{clash}
+use Rattle.base.proofs.Holds.{both-true}
 use Rattle.csv.specs.Grammar.{comma, quote, cr, lf, Text, Plain, Inside, FieldOf, RecordOf, FileOf}
 use Rattle.decimal.specs.Writing.{lowest, width, wholeOf, thousandthsOf, sign, kilogramsOf}
 use Rattle.inputs.specs.declared.Kind.{Kind}
 use Rattle.inputs.specs.declared.Kind.the-variants.{Roughage, Cattle, Pigs}
-use Rattle.inputs.proofs.Tables.{both-true}
 use Rattle.farm.specs.declared.Label.{Label}
 use Rattle.farm.specs.Labels.{byteOk, allOk, text, labelOk}
 use Rattle.model.specs.declared.Figures.{Figures}

@@ -69,12 +69,12 @@ totalGramsOf t =
 unfoldable pub ownerOf : List ℕ → List ℕ → ℕ → List ℕ
 ownerOf field path section = field ++ bytes "," ++ path ++ sectionAt section
 
-unfoldable pub valueOf : ℕ → ℤ → List ℕ
-valueOf name grams = bytes "," ++ nameAt name ++ bytes "," ++ kilogramsOf grams ++ bytes "\r\n"
+unfoldable pub amountOf : ℕ → ℤ → List ℕ
+amountOf name grams = bytes "," ++ nameAt name ++ bytes "," ++ kilogramsOf grams ++ bytes "\r\n"
 
 -- the line of a name, under the path and the name's section
 abbrev pub numberedLine : List ℕ → List ℕ → List ℕ → List ℤ → ℕ → List ℕ
-numberedLine field path under grams n = ownerOf field path (getD under n 0) ++ valueOf n (getD grams n (pos 0))
+numberedLine field path under grams n = ownerOf field path (getD under n 0) ++ amountOf n (getD grams n (pos 0))
 
 unfoldable pub numbered : List ℕ → List ℕ → List ℕ → List ℤ → List ℕ → List ℕ
 numbered field path under grams lines = each (numberedLine field path under grams) lines

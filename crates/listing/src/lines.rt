@@ -7,7 +7,7 @@ ghost use lib.ListN.{length};
 ghost use Rattle.base.specs.Wrote.{Wrote};
 ghost use Rattle.listing.specs.Bounds.{longestLabel, longestField, longestOwner, longestValue, longestLine, longest};
 ghost use Rattle.listing.specs.Listing.{hasComma, labelField};
-ghost use Rattle.listing.specs.Numbered.{Short, Known, names, sections, ownerOf, valueOf, numbered};
+ghost use Rattle.listing.specs.Numbered.{Short, Known, names, sections, ownerOf, amountOf, numbered};
 
 fn has_comma(label: &[u8]) -> bool
     ensures { λ r. ⌜ r ≡ hasComma (now (label .entry)) ⌝ }
@@ -49,7 +49,7 @@ fn put_owner(out: &mut [u8], at: usize, field: &[u8], path: &[u8], section: usiz
 // What it says: output name and kilograms.
 fn put_value(out: &mut [u8], at: usize, name: usize, grams: i64) -> usize
     requires { ⌜ (name < length names) × (at + longestValue ≤ length (now out)) ⌝ }
-    ensures { λ r. ⌜ Wrote (now (out .entry)) at (valueOf name grams) (now (out .exit)) r × (r ≤ at + longestValue) ⌝ }
+    ensures { λ r. ⌜ Wrote (now (out .entry)) at (amountOf name grams) (now (out .exit)) r × (r ≤ at + longestValue) ⌝ }
 {
     let a = base::put_byte(out, at, b',');
     let b = texts::put_name(out, a, name);
@@ -68,7 +68,7 @@ fn put_line(
     grams: i64,
 ) -> usize
     requires { ⌜ (section < length sections) × (name < length names) × Short (now field) (now path) × (at + longestLine ≤ length (now out)) ⌝ }
-    ensures { λ r. ⌜ Wrote (now (out .entry)) at (ownerOf (now (field .entry)) (now (path .entry)) section ++ valueOf name grams) (now (out .exit)) r × (r ≤ at + longestLine) ⌝ }
+    ensures { λ r. ⌜ Wrote (now (out .entry)) at (ownerOf (now (field .entry)) (now (path .entry)) section ++ amountOf name grams) (now (out .exit)) r × (r ≤ at + longestLine) ⌝ }
 {
     let a = put_owner(out, at, field, path, section);
     put_value(out, a, name, grams)

@@ -10,6 +10,7 @@ use Rattle.base.specs.Pick.{pick}
 use Rattle.base.specs.Text.{bytes}
 use Rattle.base.specs.Part.{sameBytes, lower, lowered}
 use Rattle.base.proofs.Clash.{clash}
+use Rattle.base.proofs.Holds.{same-eq}
 use Rattle.decimal.specs.declared.Number.{Number}
 use Rattle.decimal.specs.declared.Number.the-variants as numbers
 use Rattle.decimal.specs.Numbers.{Digit, Whole, IsNumber}
@@ -21,7 +22,7 @@ use Rattle.inputs.specs.declared.Found.{Found}
 use Rattle.inputs.specs.declared.Found.the-variants.{At, Nowhere}
 use Rattle.inputs.specs.Inputs.{rows, formAt}
 use Rattle.inputs.specs.Find.{findName}
-use Rattle.inputs.proofs.Founds.{same-eq, IsNamed, find-name-at, find-name-of}
+use Rattle.inputs.proofs.Founds.{IsNamed, find-name-at, find-name-of}
 use Rattle.farm.specs.declared.Given.{Given}
 use Rattle.farm.specs.declared.Given.the-variants.{Standard, Value}
 use Rattle.reader.specs.declared.Said.the-variants.{Is, Forbidden}

@@ -3,7 +3,7 @@
 use mathlib.Core.Path.{ap}
 use mir.Facts.{toZ-ofZ}
 use Rattle.base.proofs.Writes.{said, joined}
-use Rattle.listing.specs.Numbered.{valueOf}
+use Rattle.listing.specs.Numbered.{amountOf}
 use borrow.Author.Needs.{needs}
 use Rattle.listing.proofs.lines.put_line.Statement.{statement}
 use Rattle.listing.proofs.lines.put_line.Tie as tie
@@ -22,7 +22,7 @@ returns c =
     let b = c .before .before in
     let a = b .before .before .before .before in
     let s = a .before .before .before .before .before in
-    (joined (a .put-owner .ensures .0) (said (ap (valueOf (s .args .name)) (toZ-ofZ (s .fits .grams))) (b .put-value .ensures .0)), search needs)
+    (joined (a .put-owner .ensures .0) (said (ap (amountOf (s .args .name)) (toZ-ofZ (s .fits .grams))) (b .put-value .ensures .0)), search needs)
 
 pub put-line-spec : {M : Type 1} → statement M
 put-line-spec = tie.close (tie.spec put-owner-requires put-value-requires same-length returns)
