@@ -1,8 +1,8 @@
 // Lent buffers of all lengths: 13 below the listing's length, and nothing written; from it on the listing, and every byte past it as it was.
 use crate::records;
-use crate::tell;
 use farm::faults;
 use listing::Written;
+use printing::tell;
 ghost use Prim.Native.Nat.{_≤_};
 
 // What fills a buffer before a call; no listing here has it.
@@ -30,12 +30,16 @@ enum Call {
     FileTotals,
 }
 
+fn write_of_file(herd: usize, out: &mut [u8]) -> Written {
+    calls::file_herd_listing(&PIGS, herd, out)
+}
+
 fn write_by(which: Call, out: &mut [u8]) -> Written {
     match which {
         Call::Herd => calls::herd_listing(records::pigs(), out),
-        Call::FileHerd => calls::file_herd_listing(&PIGS, 0, out),
-        Call::PastLast => calls::file_herd_listing(&PIGS, 1, out),
-        Call::FarPastLast => calls::file_herd_listing(&PIGS, usize::MAX, out),
+        Call::FileHerd => write_of_file(0, out),
+        Call::PastLast => write_of_file(1, out),
+        Call::FarPastLast => write_of_file(usize::MAX, out),
         Call::OfNoHerds => calls::file_herd_listing(b"", 0, out),
         Call::Totals => calls::totals_listing(records::farm_of(records::pigs(), 1), out),
         Call::FileTotals => calls::file_totals_listing(&PIGS, out),
@@ -101,12 +105,13 @@ fn show(which: Call, size: usize, length: usize) {
     tell::line(base::part_of(&out, 0, length));
 }
 
-// All sizes below the listing's length, the length, and a longer one.
+// All sizes below the listing's length, the length, a longer one, and one that any listing fits.
 fn sizes(name: &[u8], which: Call, length: usize, longer: usize) {
     tell::line(name);
     tell::number(refused_sizes(which, length) as u64);
     show(which, length, length);
     show(which, longer, length);
+    show(which, ROOM, length);
 }
 
 pub fn run() {

@@ -1,10 +1,10 @@
 // Records that are handed in, good and bad: 01's refusals in their order, always with record 0, and 13 only after them. The writing calls get
 // a buffer that no listing fits, so that a good record's answer is 13.
 use crate::records;
-use crate::tell;
 use farm::Farm;
 use farm::Given;
 use farm::Herd;
+use printing::tell;
 
 const SHORT: usize = 8;
 
@@ -50,11 +50,15 @@ fn herd_case(name: &[u8], h: Herd) {
     farm_case(b"alone on a farm", records::farm_of(h, 1));
 }
 
-fn label_cases() {
+fn label_length_cases() {
     let pigs = records::pigs();
     herd_case(b"label of no bytes", records::with_label_len(pigs, 0));
     herd_case(b"label of 16 bytes", records::with_label_len(pigs, 16));
     herd_case(b"label of 17 bytes", records::with_label_len(pigs, 17));
+}
+
+fn low_byte_cases() {
+    let pigs = records::pigs();
     herd_case(
         b"byte 31 in the label",
         records::with_label_byte(pigs, 1, 31),
@@ -67,6 +71,10 @@ fn label_cases() {
         b"byte 34 in the label",
         records::with_label_byte(pigs, 1, 34),
     );
+}
+
+fn high_byte_cases() {
+    let pigs = records::pigs();
     herd_case(
         b"byte 126 in the label",
         records::with_label_byte(pigs, 1, 126),
@@ -81,12 +89,8 @@ fn label_cases() {
     );
 }
 
-fn input_cases() {
+fn range_cases() {
     let pigs = records::pigs();
-    herd_case(
-        b"no housing type",
-        records::with_given(pigs, records::HOUSING_TYPE, Given::Missing),
-    );
     herd_case(
         b"10000 animals",
         records::with_value(pigs, records::ANIMALS, 10000),
@@ -102,6 +106,14 @@ fn input_cases() {
     herd_case(
         b"100.01 percent",
         records::with_value(pigs, records::TAN_FRACTION, 10001),
+    );
+}
+
+fn choice_cases() {
+    let pigs = records::pigs();
+    herd_case(
+        b"no housing type",
+        records::with_given(pigs, records::HOUSING_TYPE, Given::Missing),
     );
     herd_case(
         b"a sixth housing type",
@@ -130,8 +142,11 @@ fn order_cases() {
 }
 
 pub fn herds() {
-    label_cases();
-    input_cases();
+    label_length_cases();
+    low_byte_cases();
+    high_byte_cases();
+    range_cases();
+    choice_cases();
     order_cases();
 }
 
@@ -150,12 +165,9 @@ fn count_cases() {
     );
 }
 
-// Herd by herd: 4, 8, 12, 7.
 fn second_herd_cases() {
     let pigs = records::pigs();
     let other = records::with_label_byte(pigs, 1, b'2');
-    let unfit = records::with_value(pigs, records::ANIMALS, 10001);
-    let lacking = records::with_given(pigs, records::HOUSING_TYPE, Given::Missing);
     let bad = records::with_label_len(pigs, 0);
     farm_case(
         b"a second herd",
@@ -165,6 +177,18 @@ fn second_herd_cases() {
         b"a second herd with a bad label",
         records::with_herd(records::farm_of(pigs, 2), 1, bad),
     );
+    farm_case(
+        b"a bad herd past the count",
+        records::with_herd(records::farm_of(pigs, 1), 1, bad),
+    );
+}
+
+// Herd by herd: 4, 8, 12, 7.
+fn herd_order_cases() {
+    let pigs = records::pigs();
+    let unfit = records::with_value(pigs, records::ANIMALS, 10001);
+    let lacking = records::with_given(pigs, records::HOUSING_TYPE, Given::Missing);
+    let bad = records::with_label_len(pigs, 0);
     farm_case(
         b"a second herd of the same label, lacking an input",
         records::with_herd(records::farm_of(pigs, 2), 1, lacking),
@@ -177,13 +201,10 @@ fn second_herd_cases() {
         b"a first herd lacking an input, a second of the same label",
         records::farm_of(lacking, 2),
     );
-    farm_case(
-        b"a bad herd past the count",
-        records::with_herd(records::farm_of(pigs, 1), 1, bad),
-    );
 }
 
 pub fn farms() {
     count_cases();
     second_herd_cases();
+    herd_order_cases();
 }

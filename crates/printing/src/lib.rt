@@ -1,5 +1,7 @@
 // A file's answer on standard output: each herd's listing and then the totals', or the line of the refusal. Nothing is printed before the
 // whole file is accepted.
+pub mod tell; // answers of other calls, a line each
+
 use farm::Checked;
 use farm::Farm;
 use farm::Fault;

@@ -1,5 +1,5 @@
 // 01, Herds on both sides of an edge: the rows that are run and not proved.
-use crate::tell;
+use printing::tell;
 
 const FILE_MOST: usize = 65536;
 
@@ -79,7 +79,7 @@ fn limits() {
     read_herds(b'0' + 65);
 }
 
-pub fn run() {
+fn main() {
     printing::print_file(&ALWAYS_OUT);
     limits();
 }

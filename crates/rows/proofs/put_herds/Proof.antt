@@ -1,11 +1,11 @@
--- `edges::rows::put_herds` is safe and ends. The buffer keeps its length; the measure is the number of labels left.
+-- `rows::put_herds` is safe and ends. The buffer keeps its length; the measure is the number of labels left.
 -- Assumes nothing.
 use mathlib.Core.Path.{_≡_}
 use Prim.Native.Nat.{_-_}
 use lib.ListN.{length}
 use borrow.Author.Needs.{needs}
-use Rattle.edges.proofs.rows.put_herds.Statement.{statement}
-use Rattle.edges.proofs.rows.put_herds.Tie as tie
+use Rattle.rows.proofs.put_herds.Statement.{statement}
+use Rattle.rows.proofs.put_herds.Tie as tie
 
 abbrev Inv-loop : tie.InvT-loop
 Inv-loop out₀ end at₀ label₀ out at label = length out ≡ length out₀

@@ -20,7 +20,7 @@ pub fn number(n: u64) {
 pub fn checked_line(checked: Checked) {
     match checked {
         Checked::Accepted => line(b"accepted"),
-        Checked::Refused(fault, record) => printing::print_refusal(fault, record),
+        Checked::Refused(fault, record) => crate::print_refusal(fault, record),
     }
 }
 
@@ -30,6 +30,6 @@ pub fn written_line(written: Written) {
             say(b"length,");
             number(n as u64);
         }
-        Written::Refused(fault, record) => printing::print_refusal(fault, record),
+        Written::Refused(fault, record) => crate::print_refusal(fault, record),
     }
 }
