@@ -1,4 +1,4 @@
--- Where a record's fields stand in a file: what the reader hands back. The same reading as in `Reading`, with positions for contents;
+-- 01, The farm file: where a record's fields stand in it, which is what the reader hands back. The same reading as in `Reading`, with positions for contents;
 -- `proofs/Steps.antt` shows that the bytes at these places are the contents, and that reading goes on where the record has ended.
 use Prim.Native.Nat.{ℕ, zero, suc, _+_, _-_}
 use mathlib.Core.List.{List, [], _∷_}

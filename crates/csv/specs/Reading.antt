@@ -1,4 +1,4 @@
--- What a file says, worked out byte by byte from the front. A reader stands at a field's start, in an unquoted field, inside quotes,
+-- 01, The farm file: what a file says, worked out byte by byte from the front. A reader stands at a field's start, in an unquoted field, inside quotes,
 -- past a quote there (which closes the field or is the first of two), or past a CR that ends a record. It knows no positions: it
 -- gives contents. `proofs/Agrees.antt` shows that it reads just what the grammar says.
 use Prim.Native.Nat.{ℕ, zero, suc}

@@ -1,4 +1,4 @@
--- What the checks of a record accept, said without tests and their order (01, The farm file): a good label, every input of the kind given a
+-- What the checks of a record accept, said without the order of the tests (01, The farm file): a good label, every input of the kind given a
 -- value of its form; at most 64 such herds, no two with one label. proofs/Accepts.antt shows that the checks accept exactly these.
 use Prim.Native.Nat.{_≤_}
 use mathlib.Core.Path.{_≡_}

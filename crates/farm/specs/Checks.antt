@@ -76,10 +76,11 @@ labelsOf hs = map (λ h. h .label) hs
 unfoldable pub earlierLabel : List Herd → Label → Bool
 earlierLabel hs l = hasLabel (labelsOf hs) l
 
--- the tests of a herd's inputs, and of a herd that stands after those with these labels, in their order
+-- the tests of a herd's inputs, in their order
 abbrev pub inputTests : Herd → List (Test Checked)
 inputTests h = Refused InputMissing 0 when lacks h ∷ Refused BadValue 0 when unfit h ∷ []
 
+-- of a herd that stands after those with these labels
 abbrev pub herdTests : List Label → Herd → List (Test Checked)
 herdTests earlier h =
     Refused BadLabel 0 when not (labelOk (h .label)) ∷ Refused EarlierLabel 0 when hasLabel earlier (h .label) ∷ inputTests h

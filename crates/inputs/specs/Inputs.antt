@@ -146,7 +146,7 @@ firstOf Pigs = countOf Roughage + countOf Cattle
 abbrev pub kindAt : ℕ → Kind
 kindAt input = pick (ltb input (firstOf Cattle)) Roughage (pick (ltb input (firstOf Pigs)) Cattle Pigs)
 
--- stands for a row past the end, whose value nothing is
+-- stands for a row past the end: no text is a value of it
 abbrev pub noRow : Row
 noRow = "" has "" reads OneOf 0 0
 

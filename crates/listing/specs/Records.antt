@@ -1,4 +1,4 @@
--- What a listing says: its records, each of four fields.
+-- 01, The listing: what it says as a file, its records, each of four fields.
 use Prim.Native.Nat.{ℕ}
 use mathlib.Core.List.{List, [], _∷_, map}
 use lib.IntN.{ℤ}

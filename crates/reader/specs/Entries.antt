@@ -64,7 +64,7 @@ givenBy Unfit = Missing
 abbrev pub givenIn : Parts → Given
 givenIn x = givenBy (saidIn x)
 
--- 3 to 7, in that order, whatever a refusal is said as
+-- 3 to 7, in that order; `refuse` makes the answer of a fault
 abbrev pub entryTests : {A : Type 0} → (Fault → A) → Parts → List (Test A)
 entryTests refuse x =
     refuse NotFourFields when not (eqb (x .count) 4)
