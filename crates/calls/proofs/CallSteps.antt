@@ -5,7 +5,8 @@ use mathlib.Core.Path.{_≡_, refl, sym, _∙_}
 use mathlib.Core.List.{List, [], _∷_}
 use native.Mathlib.Omega.{arith}
 use lib.ListN.{length, length-take}
-use Rattle.cut.specs.Total.{addUp, Each, none, more}
+use Rattle.base.specs.Each.{Each, none, more}
+use Rattle.cut.specs.Total.{addUp}
 use Rattle.farm.specs.declared.Herd.{Herd}
 use Rattle.farm.specs.declared.Farm.{Farm}
 use Rattle.farm.specs.declared.Fault.{Fault}

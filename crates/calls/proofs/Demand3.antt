@@ -6,8 +6,8 @@ use mathlib.Core.Path.{_≡_, refl, sym, ap, _∙_}
 use mathlib.Core.List.{List, [], _∷_, map}
 use lib.ListN.{length, length-map}
 use Rattle.cut.specs.Frac.{Within}
-use Rattle.cut.specs.Total.{Each, none, more}
-use Rattle.cut.proofs.Totals.{each-map}
+use Rattle.base.specs.Each.{Each, none, more}
+use Rattle.base.proofs.Each.{each-map}
 use Rattle.farm.specs.declared.Herd.{Herd}
 use Rattle.farm.specs.declared.Farm.{Farm}
 use Rattle.farm.specs.declared.Checked.the-variants.{Accepted}

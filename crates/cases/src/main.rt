@@ -5,7 +5,7 @@ use libc::STDIN_FILENO;
 ghost use Prim.Native.Nat.{_≤_};
 
 // Longer than any file of the vectors.
-const FILE_MOST: usize = 66000;
+const CASE_MOST: usize = 66000;
 
 const LENGTH_BYTES: usize = 4;
 
@@ -39,7 +39,7 @@ fn run_one(file: &mut [u8]) -> bool {
 }
 
 fn main() {
-    let mut file = [0u8; FILE_MOST];
+    let mut file = [0u8; CASE_MOST];
     let mut turns = u64::MAX;
     while turns > 0 && run_one(&mut file) {
         turns -= 1;

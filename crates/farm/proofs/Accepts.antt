@@ -8,8 +8,8 @@ use borrow.Author.Tests.{ltb-false, le-ltb, not-false}
 use Rattle.base.specs.Pick.{pick}
 use Rattle.base.specs.First.{Test, _when_, first}
 use Rattle.base.proofs.Clash.{clash}
-use Rattle.cut.specs.Total.{Each, none, more}
-use Rattle.cut.proofs.Totals.{each-of, each-map}
+use Rattle.base.specs.Each.{Each, none, more}
+use Rattle.base.proofs.Each.{each-of, each-map}
 use Rattle.inputs.specs.Inputs.{Row, rowsOf}
 use Rattle.farm.specs.declared.Label.{Label}
 use Rattle.farm.specs.declared.Slot.{Slot}

@@ -10,7 +10,7 @@ use borrow.Author.Tests.{lt-ltb, le-ltb}
 use Rattle.base.specs.Pick.{pick}
 use Rattle.base.specs.First.{first}
 use Rattle.base.proofs.Picks.{flag-true, flag-false}
-use Rattle.cut.specs.Total.{Each, none, more}
+use Rattle.base.specs.Each.{Each, none, more}
 use Rattle.farm.specs.declared.Label.{Label}
 use Rattle.farm.specs.declared.Herd.{Herd}
 use Rattle.farm.specs.declared.Farm.{Farm}

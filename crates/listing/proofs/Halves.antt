@@ -12,9 +12,9 @@ pub owner-is : (field path : List ℕ) (section : ℕ) → field ++ (44 ∷ []) 
 unfolding ownerOf
 owner-is field path section = refl
 
-pub value-is : (name : ℕ) (grams : ℤ) → (44 ∷ []) ++ nameAt name ++ (44 ∷ []) ++ kilogramsOf grams ++ (13 ∷ 10 ∷ []) ≡ amountOf name grams
+pub amount-is : (name : ℕ) (grams : ℤ) → (44 ∷ []) ++ nameAt name ++ (44 ∷ []) ++ kilogramsOf grams ++ (13 ∷ 10 ∷ []) ≡ amountOf name grams
 unfolding amountOf
-value-is name grams = refl
+amount-is name grams = refl
 
 pub line-is : (label path : List ℕ) (section name : ℕ) (grams : ℤ) → ownerOf (labelField label) path section ++ amountOf name grams ≡ lineOf label (path ++ sectionAt section) (nameAt name) grams
 unfolding ownerOf amountOf lineOf

@@ -47,11 +47,11 @@ longestKilograms = 21
 abbrev pub longestOwner : ℕ
 longestOwner = longestField + 1 + longestPath + longestSection
 
-abbrev pub longestValue : ℕ
-longestValue = 1 + longestName + 1 + longestKilograms + 2
+abbrev pub longestAmount : ℕ
+longestAmount = 1 + longestName + 1 + longestKilograms + 2
 
 abbrev pub longestLine : ℕ
-longestLine = longestOwner + longestValue
+longestLine = longestOwner + longestAmount
 
 -- a listing, and how many lines it has
 abbrev pub mostLines : ℕ

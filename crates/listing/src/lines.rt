@@ -5,7 +5,7 @@ ghost use mathlib.Core.List.{_++_};
 ghost use Prim.Native.Nat.{_+_, _≤_, _<_};
 ghost use lib.ListN.{length};
 ghost use Rattle.base.specs.Wrote.{Wrote};
-ghost use Rattle.listing.specs.Bounds.{longestLabel, longestField, longestOwner, longestValue, longestLine, longest};
+ghost use Rattle.listing.specs.Bounds.{longestLabel, longestField, longestOwner, longestAmount, longestLine, longest};
 ghost use Rattle.listing.specs.Listing.{hasComma, labelField};
 ghost use Rattle.listing.specs.Numbered.{Short, Known, names, sections, ownerOf, amountOf, numbered};
 
@@ -47,9 +47,9 @@ fn put_owner(out: &mut [u8], at: usize, field: &[u8], path: &[u8], section: usiz
 }
 
 // What it says: output name and kilograms.
-fn put_value(out: &mut [u8], at: usize, name: usize, grams: i64) -> usize
-    requires { ⌜ (name < length names) × (at + longestValue ≤ length (now out)) ⌝ }
-    ensures { λ r. ⌜ Wrote (now (out .entry)) at (amountOf name grams) (now (out .exit)) r × (r ≤ at + longestValue) ⌝ }
+fn put_amount(out: &mut [u8], at: usize, name: usize, grams: i64) -> usize
+    requires { ⌜ (name < length names) × (at + longestAmount ≤ length (now out)) ⌝ }
+    ensures { λ r. ⌜ Wrote (now (out .entry)) at (amountOf name grams) (now (out .exit)) r × (r ≤ at + longestAmount) ⌝ }
 {
     let a = base::put_byte(out, at, b',');
     let b = texts::put_name(out, a, name);
@@ -71,7 +71,7 @@ fn put_line(
     ensures { λ r. ⌜ Wrote (now (out .entry)) at (ownerOf (now (field .entry)) (now (path .entry)) section ++ amountOf name grams) (now (out .exit)) r × (r ≤ at + longestLine) ⌝ }
 {
     let a = put_owner(out, at, field, path, section);
-    put_value(out, a, name, grams)
+    put_amount(out, a, name, grams)
 }
 
 // The lines of these names, from the front of the buffer on; the end of the last.

@@ -7,7 +7,7 @@ use native.Mathlib.Omega.{arith}
 use lib.ListN.{length, getD, drop, length-take}
 use lib.Seq.{getD-take}
 use Rattle.cut.specs.Total.{addUp}
-use Rattle.cut.proofs.Totals.{each-getD}
+use Rattle.base.proofs.Each.{each-getD}
 use Rattle.farm.specs.declared.Herd.{Herd}
 use Rattle.farm.specs.declared.Farm.{Farm}
 use Rattle.farm.specs.declared.Fault.{Fault}

@@ -6,7 +6,7 @@ use mathlib.Core.Bool.{Bool, true, false}
 use mathlib.Core.List.{List, [], _∷_}
 use Prim.Native.Nat.{ℕ}
 use lib.IntN.{ℤ, pos, negsuc}
-use Rattle.cut.specs.Total.{Each, none, more}
+use Rattle.base.specs.Each.{Each, none, more}
 use Rattle.tables.specs.Standards.{standardOf, _kg}
 use Rattle.tables.specs.Growth.{kOf, withinDay, kAt, nearest, growthNum, growthDen, expNum, expDen}
 use Rattle.flows.specs.declared.Entered.{Entered}

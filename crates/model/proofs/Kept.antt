@@ -6,8 +6,9 @@ use mathlib.Core.Path.{_≡_, refl, sym, ap, _∙_}
 use mathlib.Core.List.{List, [], _∷_}
 use native.Mathlib.Omega.{arith}
 use lib.IntN.{ℤ, pos, _+ℤ_, +ℤ-assoc, +ℤ-comm}
-use Rattle.cut.specs.Total.{addUp, Each, none, more}
-use Rattle.cut.proofs.Totals.{each-map}
+use Rattle.base.specs.Each.{Each, none, more}
+use Rattle.cut.specs.Total.{addUp}
+use Rattle.base.proofs.Each.{each-map}
 use Rattle.farm.specs.declared.Herd.{Herd}
 use Rattle.farm.specs.declared.Farm.{Farm}
 use Rattle.farm.specs.declared.Checked.the-variants.{Accepted}

@@ -9,9 +9,9 @@ use lib.IntN.{ℤ, pos, negsuc, _-ℤ_, _*ℤ_, natAbs}
 use Rattle.cut.specs.Cut.{_cutBy_}
 use Rattle.cut.specs.Frac as F
 use Rattle.cut.specs.Frac.{Frac, whole, per, _⊗_, Within}
-use Rattle.cut.specs.Total.{Each, none, more}
+use Rattle.base.specs.Each.{Each, none, more}
 use Rattle.cut.proofs.Signed.{dn}
-use Rattle.cut.proofs.Totals.{each-map}
+use Rattle.base.proofs.Each.{each-map}
 use Rattle.tables.specs.Standards.{_kg}
 use Rattle.tables.specs.Growth.{expNum, expDen, growthNum, growthDen, kOf, withinDay, kAt, nearest}
 use Rattle.flows.specs.declared.Entered.the-variants.{Number}

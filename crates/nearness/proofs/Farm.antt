@@ -6,8 +6,10 @@ use Prim.Native.Nat.{ℕ, _*_}
 use lib.ListN.{length}
 use lib.IntN.{ℤ, pos, _+ℤ_}
 use Rattle.cut.specs.Frac.{Frac, whole, _⊕_, Within}
-use Rattle.cut.specs.Total.{addUp, total, signedTotal, Each}
-use Rattle.cut.proofs.Totals.{each-of, each-map, pos-total, TotalNear, near-signed-total, near-total-add, total-within}
+use Rattle.base.specs.Each.{Each}
+use Rattle.cut.specs.Total.{addUp, total, signedTotal}
+use Rattle.base.proofs.Each.{each-of, each-map}
+use Rattle.cut.proofs.Totals.{pos-total, TotalNear, near-signed-total, near-total-add, total-within}
 use Rattle.flows.specs.declared.Inputs.{Inputs}
 use Rattle.flows.specs.Sound.{Sound}
 use Rattle.model.specs.declared.Figures.{Figures}

@@ -10,7 +10,7 @@ use Rattle.model.specs.Herd.{figuresOf}
 use Rattle.model.specs.Names.{Name, figure}
 use Rattle.nearness.specs.Errors.{promised, errorsOf}
 use Rattle.nearness.proofs.Laws.{NearBy}
-use Rattle.nearness.proofs.Table.{kept}
+use Rattle.nearness.proofs.Table.{promise-kept}
 use Rattle.nearness.proofs.Excretion.{near-excreted}
 use Rattle.nearness.proofs.Roughage.{near-roughage}
 use Rattle.nearness.proofs.Cattle.{near-cattle}
@@ -26,4 +26,4 @@ near-herd (kinds.Cattle c) (cattle s) = near-cattle c s _ _ (near-excreted _ _ _
 near-herd (kinds.Pigs p) (pigs s) = near-pigs (p .«housing_type») _ _ (near-excreted _ _ _ (s .animals) (s .grams) (s .fraction))
 
 pub within-herd : (i : Inputs) → Sound i → (n : Name) → Within promised (figure n (figuresOf i)) (exactFigure n (exactOf i))
-within-herd i s n = near-within promised (kept i n .kept-below) (kept i n .kept-above) (near-herd i s n)
+within-herd i s n = near-within promised (promise-kept i n .kept-below) (promise-kept i n .kept-above) (near-herd i s n)

@@ -38,32 +38,32 @@ every-name P h «n_outhousing» = h .18
 every-name P h «tan_outhousing» = h .19
 
 -- every entry of the table keeps the promise
-pub kept : (i : Inputs) (n : Name) → Kept promised (errorsOf i n)
-kept (kinds.Roughage r) = every-name (λ n. Kept promised (roughageErrors n)) (omega arith)
-kept (kinds.Cattle c) = every-name (λ n. Kept promised (cattleErrors n)) (omega arith)
-kept (kinds.Pigs p) = every-name (λ n. Kept promised (pigErrors n)) (omega arith)
+pub promise-kept : (i : Inputs) (n : Name) → Kept promised (errorsOf i n)
+promise-kept (kinds.Roughage r) = every-name (λ n. Kept promised (roughageErrors n)) (omega arith)
+promise-kept (kinds.Cattle c) = every-name (λ n. Kept promised (cattleErrors n)) (omega arith)
+promise-kept (kinds.Pigs p) = every-name (λ n. Kept promised (pigErrors n)) (omega arith)
 
 -- what a herd brings into a total keeps the promise
 pub kept-total : (i : Inputs) (t : TotalName) → Kept promised (totalErrors i t)
-kept-total i totals.«n_excretion» = kept i «n_excretion»
-kept-total i totals.«tan_excretion» = kept i «tan_excretion»
-kept-total i totals.«n_into_housing» = kept i «n_into_housing»
-kept-total i totals.«tan_into_housing» = kept i «tan_into_housing»
-kept-total i totals.«n_into_yard» = kept i «n_into_yard»
-kept-total i totals.«tan_into_yard» = kept i «tan_into_yard»
-kept-total i totals.«n_into_grazing» = kept i «n_into_grazing»
-kept-total i totals.«tan_into_grazing» = kept i «tan_into_grazing»
-kept-total i totals.«nh3_nhousing» = kept i «nh3_nhousing»
-kept-total i totals.«nh3_nyard» = kept i «nh3_nyard»
-kept-total i totals.«nh3_ngrazing» = kept i «nh3_ngrazing»
+kept-total i totals.«n_excretion» = promise-kept i «n_excretion»
+kept-total i totals.«tan_excretion» = promise-kept i «tan_excretion»
+kept-total i totals.«n_into_housing» = promise-kept i «n_into_housing»
+kept-total i totals.«tan_into_housing» = promise-kept i «tan_into_housing»
+kept-total i totals.«n_into_yard» = promise-kept i «n_into_yard»
+kept-total i totals.«tan_into_yard» = promise-kept i «tan_into_yard»
+kept-total i totals.«n_into_grazing» = promise-kept i «n_into_grazing»
+kept-total i totals.«tan_into_grazing» = promise-kept i «tan_into_grazing»
+kept-total i totals.«nh3_nhousing» = promise-kept i «nh3_nhousing»
+kept-total i totals.«nh3_nyard» = promise-kept i «nh3_nyard»
+kept-total i totals.«nh3_ngrazing» = promise-kept i «nh3_ngrazing»
 kept-total (kinds.Roughage r) totals.«nh3_nhousing_and_yard» = omega arith
 kept-total (kinds.Cattle c) totals.«nh3_nhousing_and_yard» = omega arith
 kept-total (kinds.Pigs p) totals.«nh3_nhousing_and_yard» = omega arith
 kept-total (kinds.Roughage r) totals.«nh3_nlivestock» = omega arith
 kept-total (kinds.Cattle c) totals.«nh3_nlivestock» = omega arith
 kept-total (kinds.Pigs p) totals.«nh3_nlivestock» = omega arith
-kept-total i totals.«n2_ngrazing» = kept i «n2_ngrazing»
-kept-total i totals.«no_ngrazing» = kept i «no_ngrazing»
-kept-total i totals.«n2o_ngrazing» = kept i «n2o_ngrazing»
-kept-total i totals.«n_remain_grazing» = kept i «n_remain_grazing»
-kept-total i totals.«tan_remain_grazing» = kept i «tan_remain_grazing»
+kept-total i totals.«n2_ngrazing» = promise-kept i «n2_ngrazing»
+kept-total i totals.«no_ngrazing» = promise-kept i «no_ngrazing»
+kept-total i totals.«n2o_ngrazing» = promise-kept i «n2o_ngrazing»
+kept-total i totals.«n_remain_grazing» = promise-kept i «n_remain_grazing»
+kept-total i totals.«tan_remain_grazing» = promise-kept i «tan_remain_grazing»

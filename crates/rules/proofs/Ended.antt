@@ -8,8 +8,8 @@ use lib.Dec.{eqb}
 use lib.ListN.{length, length-append}
 use borrow.Author.Tests.{ne-eqb}
 use Rattle.base.specs.First.{_when_, first}
-use Rattle.cut.specs.Total.{Each, none, more}
-use Rattle.cut.proofs.Totals.{each-map}
+use Rattle.base.specs.Each.{Each, none, more}
+use Rattle.base.proofs.Each.{each-map}
 use Rattle.inputs.specs.Inputs.{countOf, firstOf, kindAt}
 use Rattle.inputs.proofs.Places.{within-kind, place-inside, kind-of-place}
 use Rattle.farm.specs.declared.Herd.{Herd}

@@ -11,7 +11,7 @@ use borrow.Author.Tests.{ne-eqb}
 use Rattle.base.specs.Pick.{pick}
 use Rattle.base.specs.First.{Test, _when_, first}
 use Rattle.base.proofs.Clash.{clash}
-use Rattle.cut.specs.Total.{Each, none, more}
+use Rattle.base.specs.Each.{Each, none, more}
 use Rattle.csv.specs.Reading.{partsOf}
 use Rattle.inputs.specs.Inputs.{kindAt}
 use Rattle.farm.specs.declared.Label.{Label}

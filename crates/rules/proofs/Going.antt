@@ -12,7 +12,7 @@ use borrow.Author.Tests.{ne-eqb, leb-true, leb-false, not-false}
 use Rattle.base.specs.Pick.{pick}
 use Rattle.base.specs.First.{first}
 use Rattle.base.proofs.Clash.{clash}
-use Rattle.cut.specs.Total.{Each, none, more}
+use Rattle.base.specs.Each.{Each, none, more}
 use Rattle.csv.specs.Reading.{partsOf}
 use Rattle.inputs.specs.Inputs.{kindAt}
 use Rattle.farm.specs.declared.Given.{Given}

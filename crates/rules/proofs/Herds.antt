@@ -11,8 +11,8 @@ use lib.ListN.{length, getD, set, replicate, length-set, length-append}
 use lib.Seq.{getD-set-same, getD-set-other, ext-getD}
 use borrow.Author.Tests.{eqb-true, eqb-false, not-false}
 use Rattle.base.proofs.Clash.{clash}
-use Rattle.cut.specs.Total.{Each, none, more}
-use Rattle.cut.proofs.Totals.{each-map}
+use Rattle.base.specs.Each.{Each, none, more}
+use Rattle.base.proofs.Each.{each-map}
 use Rattle.inputs.specs.declared.Kind.{Kind}
 use Rattle.inputs.specs.declared.Kind.the-variants.{Roughage, Cattle, Pigs}
 use Rattle.inputs.specs.declared.Form.{Form}

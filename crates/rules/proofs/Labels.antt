@@ -8,7 +8,7 @@ use lib.Dec.{leb, eqb}
 use lib.ListN.{length, replicate, length-append, length-replicate}
 use lib.Seq.{take-take, take-append-seam, length-take-le}
 use borrow.Author.Tests.{leb-true, le-leb, not-true, eqb-false, ne-eqb}
-use Rattle.cut.specs.Total.{Each, none, more}
+use Rattle.base.specs.Each.{Each, none, more}
 use Rattle.farm.specs.Labels.{byteOk, allOk, text, labelOk, sameLabel, noLabel, labelOf}
 use Rattle.farm.proofs.LabelTexts.{same-text, text-same}
 use Rattle.rules.specs.Rules.{LabelByte, GoodLabel}

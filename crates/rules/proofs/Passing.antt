@@ -6,7 +6,7 @@ use mathlib.Core.List.{List, [], _∷_}
 use native.Mathlib.Omega.{arith}
 use lib.ListN.{length, getD, drop, length-take}
 use borrow.Author.Tests.{le-leb, lt-ltb}
-use Rattle.cut.specs.Total.{Each, none, more}
+use Rattle.base.specs.Each.{Each, none, more}
 use Rattle.inputs.specs.declared.Form.{Form}
 use Rattle.inputs.specs.Inputs.{Row, noRow, rowsOf, countOf, formAt, valueNames}
 use Rattle.inputs.proofs.Places.{count-most, form-of-place}

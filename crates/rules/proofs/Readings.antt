@@ -5,7 +5,7 @@ use mathlib.Core.List.{List, [], _∷_, _++_}
 use native.Mathlib.Omega.{arith}
 use lib.ListN.{length}
 use Rattle.base.proofs.Clash.{clash}
-use Rattle.cut.specs.Total.{Each, more}
+use Rattle.base.specs.Each.{Each, more}
 use Rattle.csv.specs.Grammar.{Front, Before}
 use Rattle.csv.specs.Reading.{Reading, _then_, end, broken, whole, brokenAfter, readingOf}
 use Rattle.csv.proofs.Files.{reading-none, reading-front, begun}

@@ -5,8 +5,8 @@ use mathlib.Core.Logic.{⊎-elim}
 use mathlib.Core.List.{List, [], _∷_, map}
 use native.Mathlib.Omega.{arith}
 use lib.ListN.{length, length-map}
-use Rattle.cut.specs.Total.{Each, none, more}
-use Rattle.cut.proofs.Totals.{each-map}
+use Rattle.base.specs.Each.{Each, none, more}
+use Rattle.base.proofs.Each.{each-map}
 use Rattle.inputs.specs.Inputs.{kindAt}
 use Rattle.farm.specs.Checks.{labelsOf}
 use Rattle.farm.specs.declared.Herd.{Herd}

@@ -10,7 +10,7 @@ use lib.Dec.{ltb}
 use lib.ListN.{length, length-append}
 use borrow.Author.Tests.{ltb-true, ltb-false}
 use Rattle.base.proofs.Clash.{clash}
-use Rattle.cut.specs.Total.{Each}
+use Rattle.base.specs.Each.{Each}
 use Rattle.csv.specs.Grammar.{FileOf, Breaks}
 use Rattle.csv.specs.Reading.{Reading, _then_, end, broken, readingOf}
 use Rattle.csv.proofs.Files.{file-read, read-file, breaks-read, read-breaks}

@@ -7,7 +7,7 @@ use native.Mathlib.Omega.{arith}
 use lib.Dec.{ltb}
 use lib.ListN.{length, length-append}
 use borrow.Author.Tests.{ltb-true, ltb-false}
-use Rattle.cut.specs.Total.{Each}
+use Rattle.base.specs.Each.{Each}
 use Rattle.csv.specs.Reading.{Reading, _then_, end, broken, readingOf, partsOf}
 use Rattle.farm.specs.declared.Farm.{Farm}
 use Rattle.farm.specs.declared.Fault.{Fault}

@@ -8,8 +8,8 @@ use lib.ListN.{length, length-append}
 use lib.Dec.{leb}
 use borrow.Author.Tests.{lt-leb}
 use Rattle.base.specs.First.{first}
-use Rattle.cut.specs.Total.{Each, none, more}
-use Rattle.cut.proofs.Totals.{each-map}
+use Rattle.base.specs.Each.{Each, none, more}
+use Rattle.base.proofs.Each.{each-map}
 use Rattle.csv.specs.Reading.{Reading, _then_, end, whole, partsOf}
 use Rattle.inputs.specs.declared.Kind.{Kind}
 use Rattle.inputs.specs.Inputs.{kindAt}

@@ -2,7 +2,7 @@
 -- agree entry by entry.
 use mathlib.Core.Path.{_≡_}
 use mathlib.Core.List.{List, [], _∷_}
-use Rattle.cut.specs.Total.{Each}
+use Rattle.base.specs.Each.{Each}
 
 -- P holds of one of the list
 pub data Some {A : Type 0} (P : A → Type 0) : List A → Type 0 where

@@ -4,7 +4,7 @@ use Prim.Native.Nat.{ℕ, _+_, _<_}
 use mathlib.Core.Path.{_≡_}
 use mathlib.Core.List.{List, [], _∷_, _++_}
 use lib.ListN.{length, getD}
-use Rattle.cut.specs.Total.{Each}
+use Rattle.base.specs.Each.{Each}
 use Rattle.csv.specs.Grammar.{FileOf, Front, Before, Breaks}
 use Rattle.inputs.specs.declared.Form.{Form}
 use Rattle.inputs.specs.declared.Form.the-variants.{NoStandard}

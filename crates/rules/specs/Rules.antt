@@ -7,7 +7,7 @@ use mathlib.Core.List.{List, [], _∷_, _++_}
 use lib.ListN.{length, getD, replicate}
 use Rattle.base.specs.Text.{bytes}
 use Rattle.base.specs.Part.{lowered}
-use Rattle.cut.specs.Total.{Each}
+use Rattle.base.specs.Each.{Each}
 use Rattle.csv.specs.Grammar.{FileOf}
 use Rattle.decimal.specs.Numbers.{IsNumber}
 use Rattle.inputs.specs.declared.Form.{Form}

@@ -11,8 +11,8 @@ use Rattle.listing.proofs.lines.put_line.Tie as tie
 put-owner-requires : tie.Need-put-owner-requires
 put-owner-requires c κs = search needs
 
-put-value-requires : tie.Need-put-value-requires
-put-value-requires c κs = search needs
+put-amount-requires : tie.Need-put-amount-requires
+put-amount-requires c κs = search needs
 
 same-length : tie.Need-same-length
 same-length c = search needs
@@ -22,7 +22,7 @@ returns c =
     let b = c .before .before in
     let a = b .before .before .before .before in
     let s = a .before .before .before .before .before in
-    (joined (a .put-owner .ensures .0) (said (ap (amountOf (s .args .name)) (toZ-ofZ (s .fits .grams))) (b .put-value .ensures .0)), search needs)
+    (joined (a .put-owner .ensures .0) (said (ap (amountOf (s .args .name)) (toZ-ofZ (s .fits .grams))) (b .put-amount .ensures .0)), search needs)
 
 pub put-line-spec : {M : Type 1} → statement M
-put-line-spec = tie.close (tie.spec put-owner-requires put-value-requires same-length returns)
+put-line-spec = tie.close (tie.spec put-owner-requires put-amount-requires same-length returns)

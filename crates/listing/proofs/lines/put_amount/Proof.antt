@@ -1,4 +1,4 @@
--- `listing::lines::put_value` meets its contract, by its calls, one after the other. A callee sees a signed argument as what is read back of
+-- `listing::lines::put_amount` meets its contract, by its calls, one after the other. A callee sees a signed argument as what is read back of
 -- its bits. Assumes nothing.
 use Prim.Native.Nat.{_≤_}
 use mathlib.Core.Path.{ap}
@@ -11,10 +11,10 @@ use Rattle.base.proofs.Writes.{said, joined}
 use Rattle.decimal.specs.Writing.{kilogramsOf}
 use Rattle.decimal.proofs.Kilograms.{kilograms-short}
 use Rattle.listing.specs.Bounds.{longestKilograms}
-use Rattle.listing.proofs.Halves.{value-is}
+use Rattle.listing.proofs.Halves.{amount-is}
 use borrow.Author.Needs.{needs}
-use Rattle.listing.proofs.lines.put_value.Statement.{statement}
-use Rattle.listing.proofs.lines.put_value.Tie as tie
+use Rattle.listing.proofs.lines.put_amount.Statement.{statement}
+use Rattle.listing.proofs.lines.put_amount.Tie as tie
 
 short : (s : tie.Start) → length (kilogramsOf (toZ w64 (ofZ w64 (s .args .grams)))) ≤ longestKilograms
 short s = omega (arith, kilograms-short (s .args .grams) (s .fits .grams), ap (λ z. length (kilogramsOf z)) (toZ-ofZ (s .fits .grams)))
@@ -49,12 +49,12 @@ returns c =
     let a = b .before .before .before .before in
     let s = a .before .before .before in
     let k = said (ap kilogramsOf (toZ-ofZ (s .fits .grams))) (d .put-kilograms .ensures) in (
-      said (value-is (s .args .name) (s .args .grams)) (joined (joined (joined (joined (a .put-byte .ensures) (b .put-name .ensures .0)) (n .put-byte2 .ensures)) k) (e .put .ensures)),
+      said (amount-is (s .args .name) (s .args .grams)) (joined (joined (joined (joined (a .put-byte .ensures) (b .put-name .ensures .0)) (n .put-byte2 .ensures)) k) (e .put .ensures)),
       omega (arith, short s),
     )
 
-pub put-value-spec : {M : Type 1} → statement M
-put-value-spec =
+pub put-amount-spec : {M : Type 1} → statement M
+put-amount-spec =
     tie.close
     (tie.spec
     put-byte-requires
