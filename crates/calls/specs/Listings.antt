@@ -12,8 +12,8 @@ use Rattle.farm.specs.declared.Farm.{Farm}
 use Rattle.farm.specs.declared.Checked.{Checked}
 use Rattle.farm.specs.declared.Checked.the-variants as checks
 use Rattle.farm.specs.Checks.{checkHerd, checkFarm}
-use Rattle.model.specs.Answers.{herdFigures, farmAnswer}
 use Rattle.farm.specs.Herds.{noHerd}
+use Rattle.model.specs.Answers.{herdFigures, farmAnswer}
 use Rattle.reader.specs.Files.{readOf}
 use Rattle.listing.specs.declared.Written.{Written}
 use Rattle.listing.specs.declared.Written.the-variants.{Refused}

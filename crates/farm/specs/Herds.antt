@@ -1,4 +1,5 @@
--- A herd by its slots, one for each input of its kind (01, The list of inputs): the slot of an input, and a slot and a herd that say nothing.
+-- A herd by its slots, one for each input of its kind (01, The farm file: "Inputs per kind"): the slot of an input, and a slot and a herd that say
+-- nothing.
 use Prim.Native.Nat.{ℕ, _-_}
 use lib.ListN.{replicate}
 use Rattle.inputs.specs.declared.Kind.the-variants.{Roughage}

@@ -21,6 +21,7 @@ use Rattle.farm.specs.declared.Herd.{Herd}
 use Rattle.farm.specs.declared.Checked.the-variants.{Accepted}
 use Rattle.farm.specs.Checks.{fits, checkHerd}
 use Rattle.farm.specs.Accepts.{Passes}
+use Rattle.farm.specs.Herds.{noSlot}
 use Rattle.farm.proofs.Accepts.{passes}
 use Rattle.flows.specs.declared.Roughage.{Roughage}
 use Rattle.flows.specs.declared.Cattle.{Cattle}
@@ -32,7 +33,6 @@ use Rattle.flows.specs.Excretion.{ExcretionIn, «n_excretion_animal», tanFract
 use Rattle.flows.specs.Sound.{EnteredTo, standard, number, SoundRoughage, SoundCattle, Sound, roughage, cattle, pigs}
 use Rattle.flows.proofs.Excreted.{excreted-modest, roughage-grams-le, roughage-fraction-le}
 use Rattle.model.specs.Herd.{FiguresIn, roughageOn, ofRoughage, cattleOn, pigsOn, figuresIn}
-use Rattle.farm.specs.Herds.{noSlot}
 use Rattle.model.specs.Typed.{numberIn, enteredIn, givenAt, numberAt, enteredAt, roughageOf, cattleOf, pigsOf, typedAs, typedOf}
 
 -- ---- a slot

@@ -3,7 +3,7 @@ use farm::Checked;
 use libc::STDOUT_FILENO;
 use listing::Written;
 
-pub fn say(text: &[u8]) {
+fn say(text: &[u8]) {
     io::write_all(STDOUT_FILENO, text);
 }
 

@@ -13,9 +13,9 @@ use Rattle.farm.specs.declared.Fault.{Fault}
 use Rattle.farm.specs.declared.Fault.the-variants.{EarlierLabel, NoRoomForHerd, InputMissing}
 use Rattle.farm.specs.declared.Checked.the-variants.{Accepted, Refused}
 use Rattle.farm.specs.Checks.{lacks, hasLabel}
+use Rattle.farm.specs.Herds.{noHerd}
 use Rattle.reader.specs.declared.Current.{Current}
 use Rattle.reader.specs.declared.FileAnswer.{FileAnswer}
-use Rattle.farm.specs.Herds.{noHerd}
 use Rattle.reader.specs.Files.{Progress, noFarm, nothingRead, refused, accepted, lackingWith, lackingNow, closed, finished}
 use Rattle.reader.specs.Turns.{progress, nothingCurrent, followedBy, counted, admitted, Underway}
 

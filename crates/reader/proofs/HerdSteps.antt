@@ -16,11 +16,11 @@ use Rattle.farm.specs.declared.Fault.{Fault}
 use Rattle.farm.specs.declared.Fault.the-variants.{OtherKind, GivenAlready}
 use Rattle.farm.specs.Labels.{sameLabel}
 use Rattle.farm.specs.Checks.{isMissing}
+use Rattle.farm.specs.Herds.{noSlot, slotOf}
 use Rattle.reader.specs.declared.Told.the-variants as tolds
 use Rattle.reader.specs.declared.Entry.{Entry}
 use Rattle.reader.specs.declared.Turn.the-variants.{Adds, Wrong, Begins}
 use Rattle.reader.specs.declared.Turned.{Turned}
-use Rattle.farm.specs.Herds.{noSlot, slotOf}
 use Rattle.reader.specs.Herds.{kindNumber, withInput, newHerd, hasInput}
 use Rattle.reader.specs.Turns.{turned, addingTo, turnOf, Listed}
 

@@ -22,13 +22,13 @@ use Rattle.farm.specs.declared.Checked.{Checked}
 use Rattle.farm.specs.declared.Checked.the-variants.{Accepted, Refused}
 use Rattle.farm.specs.Labels.{noLabels}
 use Rattle.farm.specs.Checks.{labelsOf, herdsOf}
+use Rattle.farm.specs.Herds.{noHerd}
 use Rattle.farm.proofs.LabelsSoFar.{labels-stored}
 use Rattle.reader.specs.declared.Turn.{Turn}
 use Rattle.reader.specs.declared.Turn.the-variants.{Adds, Wrong, Begins, Ends}
 use Rattle.reader.specs.declared.Current.{Current}
 use Rattle.reader.specs.declared.Met.{Met}
 use Rattle.reader.specs.declared.FileAnswer.{FileAnswer}
-use Rattle.farm.specs.Herds.{noHerd}
 use Rattle.reader.specs.Files.{Progress, noFarm, refused, nothingRead, recordTests, taken, closed, finished, readFrom}
 use Rattle.reader.specs.Turns.{progress, nothingCurrent, followedBy, metBy, metAt, counted, admitted, Underway}
 use Rattle.reader.proofs.TurnSays.{newTests, beginning, withCurrent, TurnSays, turn-says, Admits, admits}

@@ -1,5 +1,6 @@
 -- The code looks at 3 to 7, then at the label: where it is that of the herd being read at 10 and 11, else at 8 and 9. That gives the first that
--- applies of 3 to 11 as they are listed, since 8 and 9 are of another label and 10 and 11 of the herd's own. Assumes nothing.
+-- applies of 3 to 11 as they are listed, since 8 and 9 are of another label and 10 and 11 of the herd's own. And what is met at a place, by what
+-- the reader found there. Assumes nothing.
 use Prim.Native.Nat.{ℕ, _<_}
 use mathlib.Core.Path.{_≡_, refl, sym, ap, _∙_, subst}
 use mathlib.Core.Bool.{Bool, true, false, true≢false, not, _&&_}
@@ -30,6 +31,7 @@ use Rattle.farm.specs.declared.Checked.the-variants.{Accepted, Refused}
 use Rattle.farm.proofs.LabelTexts.{no-label}
 use Rattle.farm.specs.Labels.{labelOk}
 use Rattle.farm.specs.Checks.{hasLabel, labelsOf, earlierLabel, herdsOf}
+use Rattle.farm.specs.Herds.{noHerd}
 use Rattle.reader.specs.declared.Told.{Told}
 use Rattle.reader.specs.declared.Told.the-variants as tolds
 use Rattle.reader.specs.declared.Entry.{Entry}
@@ -39,7 +41,6 @@ use Rattle.reader.specs.declared.Turned.{Turned}
 use Rattle.reader.specs.declared.FileAnswer.{FileAnswer}
 use Rattle.reader.specs.Values.{valueOf}
 use Rattle.reader.specs.Entries.{labelIn, isNowhere, placeIn, foundIn, inputIn, isForbidden, isUnfit, givenBy, givenIn, entryTests, toldIn, entryOf}
-use Rattle.farm.specs.Herds.{noHerd}
 use Rattle.reader.specs.Herds.{sameKind, withInput, newHerd, hasInput}
 use Rattle.reader.specs.Files.{Progress, refused, closed, isCurrent, recordTests, taken}
 use Rattle.reader.specs.Turns.{Listed, turned, addingTo, turnTo, turnOf, metBy, metAt, admitted}

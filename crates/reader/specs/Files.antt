@@ -17,9 +17,9 @@ use Rattle.farm.specs.declared.Fault.the-variants.{FileTooLong, RecordBroken, E
 use Rattle.farm.specs.declared.Checked.the-variants.{Accepted, Refused}
 use Rattle.farm.specs.Labels.{sameLabel}
 use Rattle.farm.specs.Checks.{lacks, earlierLabel, herdsOf}
+use Rattle.farm.specs.Herds.{noHerd}
 use Rattle.reader.specs.declared.FileAnswer.{FileAnswer}
 use Rattle.reader.specs.Entries.{entryTests, labelIn, inputIn, givenIn}
-use Rattle.farm.specs.Herds.{noHerd}
 use Rattle.reader.specs.Herds.{sameKind, withInput, newHerd, hasInput}
 
 -- a farm of no herds

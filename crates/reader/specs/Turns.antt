@@ -1,6 +1,6 @@
 -- In what steps the code takes a record: 3 to 7 by the record alone, then its label, which is that of the herd being read (10, 11, or one input
--- more) or another (8, 9, or another herd is begun). That these steps give the first that applies of 3 to 11 as specs/Files lists them is shown
--- in proofs/TurnSays.antt.
+-- more) or another (8, 9, or another herd is begun). How far the file is read is in two parts, the farm and the herd being read. That these steps
+-- give the first that applies of 3 to 11 as specs/Files lists them is shown in proofs/TurnSays.antt.
 use Prim.Native.Nat.{ℕ, _+_, _<_}
 use mathlib.Core.Bool.{not}
 use mathlib.Core.Path.{_≡_}
@@ -24,6 +24,7 @@ use Rattle.farm.specs.declared.Checked.{Checked}
 use Rattle.farm.specs.declared.Checked.the-variants.{Accepted, Refused}
 use Rattle.farm.specs.Labels.{sameLabel}
 use Rattle.farm.specs.Checks.{hasLabel}
+use Rattle.farm.specs.Herds.{noHerd}
 use Rattle.reader.specs.declared.Told.{Told}
 use Rattle.reader.specs.declared.Told.the-variants as tolds
 use Rattle.reader.specs.declared.Entry.{Entry}
@@ -33,7 +34,6 @@ use Rattle.reader.specs.declared.Turned.{Turned}
 use Rattle.reader.specs.declared.Current.{Current}
 use Rattle.reader.specs.declared.Met.{Met}
 use Rattle.reader.specs.Entries.{entryOf}
-use Rattle.farm.specs.Herds.{noHerd}
 use Rattle.reader.specs.Herds.{sameKind, withInput, newHerd, hasInput}
 use Rattle.reader.specs.Files.{Progress, nothingRead, lackingWith}
 

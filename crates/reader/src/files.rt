@@ -161,13 +161,14 @@ fn read_records(s: &[u8]) -> FileAnswer
         let m = met_at(s, place, c.herd);
         let turn = m.turn;
         let herd = m.herd;
+        let after = number + 1;
         match turn {
             Turn::Ends => return finished(farm, c),
             Turn::Wrong(fault) => return refused(number, fault),
             Turn::Adds => {
                 c.herd = herd;
                 place = m.next;
-                number += 1;
+                number = after;
                 continue;
             }
             Turn::Begins => {
@@ -183,7 +184,7 @@ fn read_records(s: &[u8]) -> FileAnswer
                 labels.of[count] = label;
                 c = followed_by(c, herd, number);
                 place = m.next;
-                number += 1;
+                number = after;
                 continue;
             }
         }

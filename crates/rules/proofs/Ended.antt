@@ -16,8 +16,8 @@ use Rattle.farm.specs.declared.Herd.{Herd}
 use Rattle.farm.specs.declared.Farm.{Farm}
 use Rattle.farm.specs.declared.Fault.the-variants.{InputMissing}
 use Rattle.farm.specs.Checks.{labelsOf, lacks}
-use Rattle.reader.specs.declared.FileAnswer.{FileAnswer}
 use Rattle.farm.specs.Herds.{slotOf}
+use Rattle.reader.specs.declared.FileAnswer.{FileAnswer}
 use Rattle.reader.specs.Files.{Progress, refused, accepted, closed, finished}
 use Rattle.rules.specs.Lists.{Some, here, there, Apart}
 use Rattle.rules.specs.Rules.{Record, Gives, PartOf, HerdOf, Stand, farmOf, FarmOf}

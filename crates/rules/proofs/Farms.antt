@@ -21,9 +21,9 @@ use Rattle.farm.specs.declared.Farm.{Farm}
 use Rattle.farm.specs.declared.Fault.the-variants.{EarlierLabel, NoRoomForHerd, OtherKind, GivenAlready}
 use Rattle.farm.specs.Labels.{sameLabel, labelOf}
 use Rattle.farm.specs.Checks.{labelsOf, earlierLabel, herdsOf}
+use Rattle.farm.specs.Herds.{noHerd}
 use Rattle.reader.specs.declared.FileAnswer.{FileAnswer}
 use Rattle.reader.specs.Entries.{inputIn, givenIn}
-use Rattle.farm.specs.Herds.{noHerd}
 use Rattle.reader.specs.Herds.{sameKind, withInput, newHerd, hasInput}
 use Rattle.reader.specs.Files.{Progress, refused, withHerd, lackingWith, closed, recordTests, taken}
 use Rattle.rules.specs.Lists.{Some, here, there, Apart, Pairs}

@@ -24,8 +24,8 @@ use Rattle.farm.specs.declared.Fault.the-variants.{EarlierLabel, NoRoomForHerd,
 use Rattle.farm.specs.Labels.{sameLabel, labelOf}
 use Rattle.farm.specs.Refusals.{number}
 use Rattle.farm.specs.Checks.{labelsOf, isMissing, lacks, earlierLabel}
-use Rattle.reader.specs.declared.FileAnswer.{FileAnswer}
 use Rattle.farm.specs.Herds.{slotOf}
+use Rattle.reader.specs.declared.FileAnswer.{FileAnswer}
 use Rattle.reader.specs.Herds.{sameKind, newHerd, withInput, hasInput}
 use Rattle.reader.specs.Files.{Progress, refused, nothingRead, lackingWith, closed, recordTests, taken}
 use Rattle.rules.specs.Lists.{Some, Last, Apart}

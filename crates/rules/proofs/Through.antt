@@ -19,8 +19,8 @@ use Rattle.farm.specs.declared.Herd.{Herd}
 use Rattle.farm.specs.declared.Farm.{Farm}
 use Rattle.farm.specs.Labels.{sameLabel, labelOf}
 use Rattle.farm.specs.Checks.{labelsOf, lacks, earlierLabel, herdsOf}
-use Rattle.reader.specs.declared.FileAnswer.{FileAnswer}
 use Rattle.farm.specs.Herds.{slotOf}
+use Rattle.reader.specs.declared.FileAnswer.{FileAnswer}
 use Rattle.reader.specs.Herds.{sameKind, withInput, newHerd, hasInput}
 use Rattle.reader.specs.Files.{Progress, accepted, nothingRead, closed, taken, finished, readFrom}
 use Rattle.rules.specs.Lists.{Apart, Pairs}

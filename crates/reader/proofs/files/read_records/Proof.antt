@@ -31,6 +31,9 @@ loop-holds c = search (needs, read-steps)
 met-at-requires : tie.Need-met-at-requires Inv-loop μ-loop
 met-at-requires c κs = search needs
 
+add-after : tie.Need-add-after Inv-loop μ-loop
+add-after c = search needs
+
 enum-told : tie.Need-enum-told Inv-loop μ-loop
 enum-told c = search needs
 
@@ -51,9 +54,6 @@ returns-2 c = search (needs, read-steps)
 
 enum-told-2 : tie.Need-enum-told-2 Inv-loop μ-loop
 enum-told-2 c = search needs
-
-add-number : tie.Need-add-number Inv-loop μ-loop
-add-number c = search needs
 
 loop-less : tie.Need-loop-less Inv-loop μ-loop
 loop-less c = search (needs, read-steps)
@@ -97,11 +97,6 @@ element-set-from-label c = search needs
 followed-by-requires : tie.Need-followed-by-requires Inv-loop μ-loop
 followed-by-requires c κs = search needs
 
-add-number-2 : tie.Need-add-number-2 Inv-loop μ-loop
-add-number-2 c =
-    let reached = c .before .before .before .before .before .before .before .before .before .before .before .before .before .before .before .before .before in
-    search needs
-
 loop-less-2 : tie.Need-loop-less-2 Inv-loop μ-loop
 loop-less-2 c = search (needs, read-steps)
 
@@ -120,6 +115,7 @@ read-records-spec =
     nothing-read-requires
     loop-holds
     met-at-requires
+    add-after
     enum-told
     finished-requires
     returns
@@ -127,7 +123,6 @@ read-records-spec =
     refused-requires
     returns-2
     enum-told-2
-    add-number
     loop-less
     loop-again
     enum-told-3
@@ -142,6 +137,5 @@ read-records-spec =
     mul-label
     element-set-from-label
     followed-by-requires
-    add-number-2
     loop-less-2
     loop-again-2)
