@@ -1,5 +1,5 @@
 -- What the animals excrete: the N of the largest herd fits, and the TAN is no more than the N. Assumes nothing.
-use mathlib.Core.Path.{_≡_, refl}
+use mathlib.Core.Path.{_≡_, refl, ap}
 use Prim.Native.Nat.{ℕ, _*_, _≤_}
 use native.Mathlib.Omega.{arith}
 use mir.Syntax.{w64}
@@ -9,11 +9,12 @@ use Rattle.cut.proofs.Shares.{part-le}
 use Rattle.tables.proofs.Standards.{standard-most}
 use Rattle.flows.specs.declared.Entered.{Entered}
 use Rattle.flows.specs.declared.Roughage.{Roughage}
+use Rattle.flows.specs.declared.Excretion.{Excretion}
 use Rattle.flows.specs.Units.{tenThousandths}
 use Rattle.flows.specs.Sound.{mostAnimals, mostGrams, EnteredTo, standard, number, SoundRoughage}
 use Rattle.flows.specs.Arithmetic.{cutting}
 use Rattle.flows.specs.Bounds.{Fit, PortionOf, Modest}
-use Rattle.flows.specs.Excretion.{«n_excretion_animal», tanFraction, excreted, excretionOf}
+use Rattle.flows.specs.Excretion.{«n_excretion_animal», tanFraction, ExcretionIn, excreted, ofExcretion}
 
 -- ---- what a roughage herd enters, or leaves to the standard
 
@@ -41,9 +42,9 @@ module _ (animals grams fraction : ℕ) (ha : animals ≤ mostAnimals) (hg : gra
   pub excreted-modest : Modest (excreted cutting animals grams fraction .«n_excretion») (excreted cutting animals grams fraction .«tan_excretion»)
   excreted-modest = record { n-most = n-le; tan-most = part-le (animals * grams) fraction tenThousandths hf }
 
-  pub excretion-modest : Modest (excretionOf animals grams fraction .«n_excretion») (excretionOf animals grams fraction .«tan_excretion»)
-  unfolding excretionOf
-  excretion-modest = excreted-modest
+  -- so is what the code's struct holds
+  pub excretion-modest : (e : Excretion) → ofExcretion e ≡ excreted cutting animals grams fraction → Modest (e .«n_excretion») (e .«tan_excretion»)
+  excretion-modest e is = rw (ap (λ x. x .«n_excretion») is, ap (λ x. x .«tan_excretion») is) excreted-modest
 
   -- the code's steps
   pub n-fits : Fits w64 (animals * grams)
@@ -53,8 +54,7 @@ module _ (animals grams fraction : ℕ) (ha : animals ≤ mostAnimals) (hg : gra
   fraction-fit = record { amount-most = omega (arith, n-le); of-most = omega arith; above = omega arith; within = hf }
 
   pub is-excretion : (tan : ℕ) → PortionOf (animals * grams) fraction tenThousandths tan
-      → record { «n_excretion» = animals * grams; «tan_excretion» = tan } ≡ excretionOf animals grams fraction
-  unfolding excretionOf
+      → _≡_ {A = ExcretionIn cutting} (record { «n_excretion» = animals * grams; «tan_excretion» = tan }) (excreted cutting animals grams fraction)
   is-excretion tan p = rw (p .is) refl
 
 pub ruleset excretion-steps = (n-fits, fraction-fit, is-excretion)

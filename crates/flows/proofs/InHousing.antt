@@ -16,7 +16,7 @@ use Rattle.flows.specs.declared.Roughage.{Roughage}
 use Rattle.flows.specs.Units.{percent, thousandths, billionths, year, day}
 use Rattle.flows.specs.Arithmetic.{cutting}
 use Rattle.flows.specs.Portion.{portion}
-use Rattle.flows.specs.Housing.{«er_housing», «c_grazing», «ef_nh3_nhousing», nh3InHousing, throughHousing, inHousing, housingInGrams}
+use Rattle.flows.specs.Housing.{«er_housing», «c_grazing», «ef_nh3_nhousing», nh3InHousing, throughHousing, inHousing}
 use Rattle.flows.specs.Bounds.{PortionOf, Modest, Factor, mostGrowth}
 
 -- ---- 2.87, c_grazing
@@ -93,5 +93,5 @@ module _ (r : Roughage) (n tan : ℕ) where
 
   -- the code's step
   pub is-housing : (factor nh3 : ℕ) → Factor billionths («ef_nh3_nhousing» cutting r) factor → PortionOf tan factor billionths nh3
-      → housingInGrams (throughHousing cutting n tan nh3) ≡ housingInGrams (inHousing cutting r n tan)
+      → throughHousing cutting n tan nh3 ≡ inHousing cutting r n tan
   is-housing factor nh3 f p = rw (p .is, f .is) refl

@@ -17,7 +17,7 @@ use Rattle.flows.specs.Units.{tenths, year, day}
 use Rattle.flows.specs.Sound.{SoundCattle, SoundRoughage}
 use Rattle.flows.specs.Arithmetic.{cutting}
 use Rattle.flows.specs.Yard.{yardTime, intoYard}
-use Rattle.flows.specs.Grazing.{cattleRates, pigRates, roughageRates, cattleGrazingTime, roughageGrazingTime, cattleIntoGrazing, roughageIntoGrazing, pigsIntoGrazing, onPasture, cattleGrazing, roughageGrazing, pigGrazing, grazingInGrams}
+use Rattle.flows.specs.Grazing.{cattleRates, pigRates, roughageRates, cattleGrazingTime, roughageGrazingTime, cattleIntoGrazing, roughageIntoGrazing, pigsIntoGrazing, onPasture, cattleGrazing, roughageGrazing, pigGrazing, ofGrazing}
 use Rattle.flows.specs.Bounds.{PortionOf, Modest, ModestRates}
 use Rattle.flows.proofs.Amounts.{modest-share, modest-portion, modest-rest}
 use Rattle.flows.proofs.Times.{cattle-grazing-time-le, times-le, roughage-grazing-time-le}
@@ -95,21 +95,21 @@ roughage-grazing-time-within hours days hh hd = mul-to 240 365 tt hh hd
 pub modest-pigs-portion : (t : HousingType) (n tan a b : ℕ) → Modest n tan → a ≡ pigsIntoGrazing cutting t n → b ≡ pigsIntoGrazing cutting t tan → Modest a b
 modest-pigs-portion t n tan a b m ea eb = rw (ea, eb) (pig-pasture-modest t n tan m)
 
-module _ (r : Rates) (n tan nInto tanInto : ℕ) (g : Grazing) (eg : g ≡ grazingInGrams (onPasture cutting r nInto tanInto)) where
+module _ (r : Rates) (n tan nInto tanInto : ℕ) (g : Grazing) (eg : ofGrazing g ≡ onPasture cutting r nInto tanInto) where
   pub is-cattle-grazing : (c : Cattle) (time : ℕ) → r ≡ cattleRates → time ≡ cattleGrazingTime c
       → PortionOf n time (day * (tenths * year)) nInto → PortionOf tan time (day * (tenths * year)) tanInto
-      → g ≡ grazingInGrams (cattleGrazing cutting c n tan)
+      → ofGrazing g ≡ cattleGrazing cutting c n tan
   is-cattle-grazing c time er et p q = eg ∙ rw (er, p .is, q .is, et) refl
 
   pub is-roughage-grazing : (h : Roughage) → r ≡ roughageRates
       → PortionOf n (h .«grazing_hours» * h .«grazing_days») (day * year) nInto
       → PortionOf tan (h .«grazing_hours» * h .«grazing_days») (day * year) tanInto
-      → g ≡ grazingInGrams (roughageGrazing cutting h n tan)
+      → ofGrazing g ≡ roughageGrazing cutting h n tan
   unfolding roughageGrazingTime
   is-roughage-grazing h er p q = eg ∙ rw (er, p .is, q .is) refl
 
   pub is-pig-grazing : (t : HousingType) → r ≡ pigRates → nInto ≡ pigsIntoGrazing cutting t n → tanInto ≡ pigsIntoGrazing cutting t tan
-      → g ≡ grazingInGrams (pigGrazing cutting t n tan)
+      → ofGrazing g ≡ pigGrazing cutting t n tan
   is-pig-grazing t er p q = eg ∙ rw (er, p, q) refl
 
 pub ruleset cattle-steps = (cattle-grazing-time-within, modest-cattle, modest-portion, is-cattle-grazing)

@@ -12,7 +12,7 @@ use Rattle.flows.specs.declared.Rates.{Rates}
 use Rattle.flows.specs.declared.Gases.{Gases}
 use Rattle.flows.specs.Units.{tenThousandths}
 use Rattle.flows.specs.Arithmetic.{cutting}
-use Rattle.flows.specs.Grazing.{gas, onPasture, grazingInGrams}
+use Rattle.flows.specs.Grazing.{GrazingIn, gas, onPasture}
 use Rattle.flows.specs.Bounds.{PortionOf, Modest, ModestRates, Emitted}
 
 -- ---- what is taken together is taken one by one
@@ -61,7 +61,7 @@ module _ (r : Rates) (n tan : ℕ) where
       record { is = cc (p .is, q .is, s .is, t .is); together = omega (arith, gases-le h m, p .is, q .is, s .is, t .is) }
 
   pub remains : (g : Gases) (left : ℤ) → Emitted r n tan g → mag left < 2 ^ 63 → left ≡ pos tan -ℤ pos (g .nh3 + g .n2 + g .no + g .n2o)
-      → record {
+      → _≡_ {A = GrazingIn cutting} (record {
         «n_into_grazing» = n;
         «tan_into_grazing» = tan;
         «nh3_ngrazing» = g .nh3;
@@ -70,7 +70,7 @@ module _ (r : Rates) (n tan : ℕ) where
         «n2o_ngrazing» = g .n2o;
         «n_remain_grazing» = n - (g .nh3 + g .n2 + g .no + g .n2o);
         «tan_remain_grazing» = toZ w64 (ofZ w64 left);
-      }
-      ≡ grazingInGrams (onPasture cutting r n tan)
+      })
+      (onPasture cutting r n tan)
   remains g left e fits el =
       rw (kept left fits, el, less-all (pos tan) (g .nh3) (g .n2) (g .no) (g .n2o), rest-all n (g .nh3) (g .n2) (g .no) (g .n2o), e .is) refl

@@ -9,7 +9,7 @@ use Rattle.flows.specs.Units.{tenths, percent, tenThousandths, year}
 use Rattle.flows.specs.Sound.{SoundCattle}
 use Rattle.flows.specs.Arithmetic.{cutting}
 use Rattle.flows.specs.Bounds.{PortionOf, Modest}
-use Rattle.flows.specs.Yard.{yardTime, «ef_nh3_nyard», intoYard, nh3OnYard, throughYard, onYard, yardInGrams}
+use Rattle.flows.specs.Yard.{yardTime, «ef_nh3_nyard», intoYard, nh3OnYard, throughYard, onYard}
 use Rattle.flows.proofs.Amounts.{modest-share, modest-portion}
 use Rattle.flows.proofs.Times.{yard-time-le}
 
@@ -46,7 +46,7 @@ module _ (c : Cattle) (n tan time nInto tanInto rate nh3 : ℕ) (p : PortionOf n
   nh3-in-n m = omega (arith, modest-portion n tan time (tenths * year) m nInto tanInto p q .tan-most)
 
   pub is-yard : time ≡ yardTime c → rate ≡ «ef_nh3_nyard» c
-      → yardInGrams (throughYard cutting nInto tanInto nh3) ≡ yardInGrams (onYard cutting c n tan)
+      → throughYard cutting nInto tanInto nh3 ≡ onYard cutting c n tan
   is-yard et er = rw (g .is, p .is, q .is, et, er) refl
 
 pub ruleset yard-parts = (yard-time-within, yard-rate-within, nh3-in-n, is-yard)

@@ -33,9 +33,6 @@ module _ (A : Arithmetic) where
         «tan_excretion» = portion A (whole (animals * grams)) fraction tenThousandths;
       }
 
--- on whole grams
-abbrev pub excretionInGrams : ExcretionIn cutting → Excretion
-excretionInGrams e = record { «n_excretion» = e .«n_excretion»; «tan_excretion» = e .«tan_excretion» }
-
-unfoldable pub excretionOf : ℕ → ℕ → ℕ → Excretion
-excretionOf animals grams fraction = excretionInGrams (excreted cutting animals grams fraction)
+-- the code's struct, on whole grams
+abbrev pub ofExcretion : Excretion → ExcretionIn cutting
+ofExcretion e = record { «n_excretion» = e .«n_excretion»; «tan_excretion» = e .«tan_excretion» }

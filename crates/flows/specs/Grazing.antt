@@ -100,10 +100,10 @@ module _ (A : Arithmetic) where
   abbrev pub pigGrazing : HousingType → Amount → Amount → GrazingIn A
   pigGrazing t n tan = onPasture pigRates (pigsIntoGrazing t n) (pigsIntoGrazing t tan)
 
--- ---- on whole grams
+-- ---- the code's struct, on whole grams
 
-abbrev pub grazingInGrams : GrazingIn cutting → Grazing
-grazingInGrams g =
+abbrev pub ofGrazing : Grazing → GrazingIn cutting
+ofGrazing g =
     record {
       «n_into_grazing» = g .«n_into_grazing»;
       «tan_into_grazing» = g .«tan_into_grazing»;

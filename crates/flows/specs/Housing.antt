@@ -76,9 +76,9 @@ module _ (A : Arithmetic) where
         «tan_outhousing» = whole 0;
       }
 
--- on whole grams
-abbrev pub housingInGrams : HousingIn cutting → Housing
-housingInGrams h =
+-- the code's struct, on whole grams
+abbrev pub ofHousing : Housing → HousingIn cutting
+ofHousing h =
     record {
       «n_into_housing» = h .«n_into_housing»;
       «tan_into_housing» = h .«tan_into_housing»;

@@ -122,9 +122,9 @@ module _ (A : Arithmetic) where
   abbrev pub noYard : YardIn A
   noYard = throughYard (whole 0) (whole 0) (whole 0)
 
--- on whole grams
-abbrev pub yardInGrams : YardIn cutting → Yard
-yardInGrams y =
+-- the code's struct, on whole grams
+abbrev pub ofYard : Yard → YardIn cutting
+ofYard y =
     record {
       «n_into_yard» = y .«n_into_yard»;
       «tan_into_yard» = y .«tan_into_yard»;

@@ -6,7 +6,8 @@ ghost use mathlib.Core.Path.{_≡_};
 ghost use Prim.Native.Nat.{_≤_};
 ghost use Rattle.flows.specs.Units.{tenThousandths};
 ghost use Rattle.flows.specs.Sound.{mostAnimals, mostGrams};
-ghost use Rattle.flows.specs.Excretion.{«n_excretion_animal», tanFraction, excretionOf};
+ghost use Rattle.flows.specs.Arithmetic.{cutting};
+ghost use Rattle.flows.specs.Excretion.{«n_excretion_animal», tanFraction, excreted, ofExcretion};
 
 const TEN_THOUSANDTHS: u64 = 10000;
 
@@ -32,7 +33,7 @@ pub fn tan_fraction(entered: Entered) -> u64
 
 pub fn excretion(animals: u64, grams: u64, fraction: u64) -> Excretion
     requires { ⌜ (animals ≤ mostAnimals) × (grams ≤ mostGrams) × (fraction ≤ tenThousandths) ⌝ }
-    ensures { λ r. ⌜ r ≡ excretionOf animals grams fraction ⌝ }
+    ensures { λ r. ⌜ ofExcretion r ≡ excreted cutting animals grams fraction ⌝ }
 {
     let n = animals * grams;
     let tan = portions::portion(n, fraction, TEN_THOUSANDTHS);

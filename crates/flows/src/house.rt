@@ -8,7 +8,7 @@ ghost use Prim.Native.Nat.{_≤_};
 ghost use Rattle.flows.specs.Units.{billionths, year, day};
 ghost use Rattle.flows.specs.Sound.{SoundRoughage};
 ghost use Rattle.flows.specs.Arithmetic.{cutting};
-ghost use Rattle.flows.specs.Housing.{«c_grazing», «ef_nh3_nhousing», inHousing, throughDoor, housingInGrams};
+ghost use Rattle.flows.specs.Housing.{«c_grazing», «ef_nh3_nhousing», inHousing, throughDoor, ofHousing};
 ghost use Rattle.flows.specs.Bounds.{Modest, Factor, mostGrowth};
 
 const YEAR: u64 = 365;
@@ -56,7 +56,7 @@ fn ef_nh3_nhousing(r: Roughage) -> u64
 // The housing of a roughage herd into which so much N and TAN goes.
 pub fn in_housing(r: Roughage, n: u64, tan: u64) -> Housing
     requires { ⌜ SoundRoughage r × Modest n tan ⌝ }
-    ensures { λ h. ⌜ h ≡ housingInGrams (inHousing cutting r n tan) ⌝ }
+    ensures { λ h. ⌜ ofHousing h ≡ inHousing cutting r n tan ⌝ }
 {
     let factor = ef_nh3_nhousing(r);
     let nh3 = portions::portion(tan, factor, BILLIONTHS);
@@ -71,7 +71,7 @@ pub fn in_housing(r: Roughage, n: u64, tan: u64) -> Housing
 
 // Only the flow through the door.
 pub fn through_door(n: u64, tan: u64) -> Housing
-    ensures { λ h. ⌜ h ≡ housingInGrams (throughDoor cutting n tan) ⌝ }
+    ensures { λ h. ⌜ ofHousing h ≡ throughDoor cutting n tan ⌝ }
 {
     Housing {
         n_into_housing: n,

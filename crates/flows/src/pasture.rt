@@ -11,7 +11,7 @@ use crate::yards;
 ghost use mathlib.Core.Path.{_≡_};
 ghost use Rattle.flows.specs.Sound.{SoundCattle, SoundRoughage};
 ghost use Rattle.flows.specs.Arithmetic.{cutting};
-ghost use Rattle.flows.specs.Grazing.{rates, cattleRates, pigRates, roughageRates, cattleGrazingTime, onPasture, pigsIntoGrazing, cattleGrazing, roughageGrazing, pigGrazing, grazingInGrams};
+ghost use Rattle.flows.specs.Grazing.{rates, cattleRates, pigRates, roughageRates, cattleGrazingTime, onPasture, pigsIntoGrazing, cattleGrazing, roughageGrazing, pigGrazing, ofGrazing};
 ghost use Rattle.flows.specs.Bounds.{Modest, ModestRates, Emitted};
 
 const TENTHS: u64 = 10;
@@ -77,7 +77,7 @@ fn gases(r: Rates, n: u64, tan: u64) -> Gases
 // The pasture onto which so much N and TAN comes.
 fn on_pasture(r: Rates, n: u64, tan: u64) -> Grazing
     requires { ⌜ ModestRates r × Modest n tan ⌝ }
-    ensures { λ g. ⌜ g ≡ grazingInGrams (onPasture cutting r n tan) ⌝ }
+    ensures { λ g. ⌜ ofGrazing g ≡ onPasture cutting r n tan ⌝ }
 {
     let g = gases(r, n, tan);
     let all = g.nh3 + g.n2 + g.no + g.n2o;
@@ -96,7 +96,7 @@ fn on_pasture(r: Rates, n: u64, tan: u64) -> Grazing
 // The pasture of a cattle herd that excretes so much N and TAN.
 pub fn cattle_grazing(c: Cattle, n: u64, tan: u64) -> Grazing
     requires { ⌜ SoundCattle c × Modest n tan ⌝ }
-    ensures { λ r. ⌜ r ≡ grazingInGrams (cattleGrazing cutting c n tan) ⌝ }
+    ensures { λ r. ⌜ ofGrazing r ≡ cattleGrazing cutting c n tan ⌝ }
 {
     let time = cattle_grazing_time(c);
     let n_into = portions::portion(n, time, YEAR_OF_SHARED_HOURS);
@@ -107,7 +107,7 @@ pub fn cattle_grazing(c: Cattle, n: u64, tan: u64) -> Grazing
 // The pasture of a roughage herd.
 pub fn roughage_grazing(h: Roughage, n: u64, tan: u64) -> Grazing
     requires { ⌜ SoundRoughage h × Modest n tan ⌝ }
-    ensures { λ r. ⌜ r ≡ grazingInGrams (roughageGrazing cutting h n tan) ⌝ }
+    ensures { λ r. ⌜ ofGrazing r ≡ roughageGrazing cutting h n tan ⌝ }
 {
     let time = h.grazing_hours * h.grazing_days;
     let n_into = portions::portion(n, time, YEAR_OF_HOURS);
@@ -131,7 +131,7 @@ fn pigs_into_grazing(housing: HousingType, amount: u64) -> u64
 // The pasture of a pig herd.
 pub fn pig_grazing(housing: HousingType, n: u64, tan: u64) -> Grazing
     requires { ⌜ Modest n tan ⌝ }
-    ensures { λ r. ⌜ r ≡ grazingInGrams (pigGrazing cutting housing n tan) ⌝ }
+    ensures { λ r. ⌜ ofGrazing r ≡ pigGrazing cutting housing n tan ⌝ }
 {
     let n_into = pigs_into_grazing(housing, n);
     let tan_into = pigs_into_grazing(housing, tan);

@@ -14,7 +14,7 @@ ghost use Rattle.flows.specs.Units.{year};
 ghost use Rattle.flows.specs.Sound.{SoundCattle};
 ghost use Rattle.flows.specs.Bounds.{Modest};
 ghost use Rattle.flows.specs.Arithmetic.{cutting};
-ghost use Rattle.flows.specs.Yard.{noYard, «days_with_grazing_and_yard», «share_excretion», «share_excretion_with_grazing», «c_floor_properties_exercise_yard», «ef_nh3_nyard», yardTime, onYard, yardInGrams};
+ghost use Rattle.flows.specs.Yard.{noYard, «days_with_grazing_and_yard», «share_excretion», «share_excretion_with_grazing», «c_floor_properties_exercise_yard», «ef_nh3_nyard», yardTime, onYard, ofYard};
 
 const YEAR: u64 = 365;
 
@@ -104,7 +104,7 @@ fn ef_nh3_nyard(c: Cattle) -> u64
 // The yard of a herd that excretes so much N and TAN.
 pub fn on_yard(c: Cattle, n: u64, tan: u64) -> Yard
     requires { ⌜ SoundCattle c × Modest n tan ⌝ }
-    ensures { λ r. ⌜ r ≡ yardInGrams (onYard cutting c n tan) ⌝ }
+    ensures { λ r. ⌜ ofYard r ≡ onYard cutting c n tan ⌝ }
 {
     let time = yard_time(c);
     let n_into = portions::portion(n, time, YEAR_IN_TENTHS);
@@ -122,7 +122,7 @@ pub fn on_yard(c: Cattle, n: u64, tan: u64) -> Yard
 
 // No yard.
 pub fn no_yard() -> Yard
-    ensures { λ r. ⌜ r ≡ yardInGrams (noYard cutting) ⌝ }
+    ensures { λ r. ⌜ ofYard r ≡ noYard cutting ⌝ }
 {
     Yard {
         n_into_yard: 0,
