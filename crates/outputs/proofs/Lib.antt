@@ -1,0 +1,4 @@
+pub mod Signed
+pub mod ByNumber
+pub mod Addends
+pub mod Adding

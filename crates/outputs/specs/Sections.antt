@@ -1,0 +1,21 @@
+-- A herd's figures as the sections of 001 give them, over any arithmetic; and the structs of the code as such sections on whole grams.
+-- To be believed: a figure is a field of its section, under its name in 001.
+use Rattle.flows.specs.declared.Excretion.{Excretion}
+use Rattle.flows.specs.declared.Yard.{Yard}
+use Rattle.flows.specs.declared.Grazing.{Grazing}
+use Rattle.flows.specs.declared.Housing.{Housing}
+use Rattle.flows.specs.Arithmetic.{Arithmetic, cutting}
+use Rattle.flows.specs.Excretion.{ExcretionIn, ofExcretion}
+use Rattle.flows.specs.Yard.{YardIn, ofYard}
+use Rattle.flows.specs.Grazing.{GrazingIn, ofGrazing}
+use Rattle.flows.specs.Housing.{HousingIn, ofHousing}
+
+pub record FiguresIn (A : Arithmetic) : Type 0 where
+  pub excretion : ExcretionIn A
+  pub yard : YardIn A
+  pub grazing : GrazingIn A
+  pub housing : HousingIn A
+
+-- the code's sections
+abbrev pub together : Excretion → Yard → Grazing → Housing → FiguresIn cutting
+together e y g h = record { excretion = ofExcretion e; yard = ofYard y; grazing = ofGrazing g; housing = ofHousing h }

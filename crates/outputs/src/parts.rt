@@ -1,0 +1,39 @@
+// The sections of 001 in one array. A field meets its number here, and nowhere else in the code.
+use crate::Figures;
+use flows::Excretion;
+use flows::Grazing;
+use flows::Housing;
+use flows::Yard;
+ghost use mathlib.Core.Path.{_≡_};
+ghost use Rattle.outputs.specs.Sections.{together};
+ghost use Rattle.outputs.specs.Grams.{gramsOf, To, figureMost};
+
+pub fn by_number(e: Excretion, y: Yard, g: Grazing, h: Housing) -> Figures
+    requires { ⌜ To figureMost (gramsOf (together e y g h)) ⌝ }
+    ensures { λ r. ⌜ r .grams ≡ gramsOf (together e y g h) ⌝ }
+{
+    Figures {
+        grams: [
+            e.n_excretion as i64,
+            e.tan_excretion as i64,
+            y.n_into_yard as i64,
+            y.tan_into_yard as i64,
+            y.nh3_nyard as i64,
+            y.n_outyard_liquid as i64,
+            y.tan_outyard_liquid as i64,
+            g.n_into_grazing as i64,
+            g.tan_into_grazing as i64,
+            g.nh3_ngrazing as i64,
+            g.n2_ngrazing as i64,
+            g.no_ngrazing as i64,
+            g.n2o_ngrazing as i64,
+            g.n_remain_grazing as i64,
+            g.tan_remain_grazing,
+            h.n_into_housing as i64,
+            h.tan_into_housing as i64,
+            h.nh3_nhousing as i64,
+            h.n_outhousing as i64,
+            h.tan_outhousing as i64,
+        ],
+    }
+}
