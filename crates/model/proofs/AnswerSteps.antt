@@ -2,10 +2,12 @@
 -- figures of an accepted farm.
 -- Assumes nothing.
 use Prim.Native.Nat.{ℕ, _+_, _*_, _≤_, _<_}
-use mathlib.Core.Path.{_≡_, sym, _∙_}
+use mathlib.Core.Path.{_≡_, sym, ap, _∙_}
+use mathlib.Core.List.{List, []}
 use native.Mathlib.Omega.{arith}
 use lib.ListN.{length, getD, drop, length-take}
 use lib.Seq.{getD-take}
+use lib.IntN.{ℤ}
 use Rattle.cut.specs.Total.{addUp}
 use Rattle.base.proofs.Each.{each-getD}
 use Rattle.farm.specs.declared.Herd.{Herd}
@@ -18,17 +20,24 @@ use Rattle.farm.proofs.Accepts.{farm-count, farm-each}
 use Rattle.farm.proofs.Left.{taken-at, taken-end}
 use Rattle.flows.specs.declared.Inputs.{Inputs}
 use Rattle.flows.specs.Sound.{Sound}
-use Rattle.model.specs.declared.Figures.{Figures}
+use Rattle.outputs.specs.declared.Figures.{Figures}
+use Rattle.outputs.specs.declared.Totals.{Totals}
+use Rattle.outputs.specs.Grams.{To, figureMost, plusGrams, zeros, noFigures, summed, totalGrams, totalsOf}
+use Rattle.outputs.proofs.Adding.{plus-to, widen, zeros-to, totals-of-sum}
 use Rattle.model.specs.declared.HerdNotes.{HerdNotes}
-use Rattle.model.specs.declared.Totals.{Totals}
 use Rattle.model.specs.Typed.{typedOf}
 use Rattle.model.specs.Herd.{figuresOf}
 use Rattle.model.specs.Notes.{notesOf, noNotes}
-use Rattle.model.specs.Sums.{FiguresTo, figureMost, plusFigures, noFigures, totalsFrom}
-use Rattle.model.specs.Totals.{totalsOf}
 use Rattle.model.specs.Answers.{Added, herdFigures, herdAnswer, farmAnswer}
 use Rattle.model.proofs.Sound.{typed-sound}
-use Rattle.model.proofs.Adding.{most, plus-to, widen, none-to, figures-to, totals-of-sum}
+use Rattle.model.proofs.Bounds.{most, figures-to}
+
+-- figures of which the grams are none
+no-grams : (f : Figures) → f .grams ≡ zeros → f ≡ noFigures
+no-grams f e = ap ofGrams e
+  where
+    ofGrams : List ℤ → Figures
+    ofGrams g = record { grams = g }
 
 -- ---- a herd
 
@@ -41,10 +50,10 @@ module _ (h : Herd) (k : Checked) (q : k ≡ checkHerd h) where
   unfolding herdAnswer
   is-herd-answer i f n t e ef en = rw (← q, t, ef, en, e)
 
-  pub is-herd-refusal : (fault : Fault) (at-record : ℕ) (f : Figures) (n : HerdNotes) → k ≡ Refused fault at-record → f ≡ noFigures → n ≡ noNotes
+  pub is-herd-refusal : (fault : Fault) (at-record : ℕ) (f : Figures) (n : HerdNotes) → k ≡ Refused fault at-record → f .grams ≡ zeros → n ≡ noNotes
       → record { checked = Refused fault at-record; figures = f; notes = n } ≡ herdAnswer h
   unfolding herdAnswer
-  is-herd-refusal fault at-record f n t ef en = rw (← q, t, ef, en)
+  is-herd-refusal fault at-record f n t ef en = rw (← q, t, no-grams f ef, en)
 
 pub ruleset herd-answers = (accepted-sound, is-herd-answer, is-herd-refusal)
 
@@ -53,24 +62,24 @@ pub ruleset herd-answers = (accepted-sound, is-herd-answer, is-herd-refusal)
 pub record Adding (f : Farm) (i : ℕ) (sum : Figures) : Type 0 where
   pub room : f .count ≤ 64
   pub within : i ≤ f .count
-  pub left : addUp plusFigures herdFigures sum (drop i (herdsOf f)) ≡ addUp plusFigures herdFigures noFigures (herdsOf f)
-  pub small : FiguresTo (i * most) sum
+  pub left : addUp plusGrams (λ h. herdFigures h .grams) (sum .grams) (drop i (herdsOf f)) ≡ summed herdFigures (herdsOf f)
+  pub small : To (i * most) (sum .grams)
 
 -- the figures g of the next herd may be added, and then those of i + 1 herds were
 pub record Turned (f : Farm) (i : ℕ) (sum g : Figures) : Type 0 where
-  pub asks : FiguresTo figureMost sum × FiguresTo figureMost g
-  pub next : (r : Figures) → r ≡ plusFigures sum g → Adding f (i + 1) r
+  pub asks : To figureMost (sum .grams) × To figureMost (g .grams)
+  pub next : (r : Figures) → r .grams ≡ plusGrams (sum .grams) (g .grams) → Adding f (i + 1) r
 
 module _ (f : Farm) (accepted : checkFarm f ≡ Accepted) where
-  pub adding-starts : (sum : Figures) → sum ≡ noFigures → Adding f 0 sum
-  adding-starts sum e = record { room = farm-count f accepted; within = omega arith; left = rw e; small = rw e (none-to 0) }
+  pub adding-starts : (sum : Figures) → sum .grams ≡ zeros → Adding f 0 sum
+  adding-starts sum e = record { room = farm-count f accepted; within = omega arith; left = rw e; small = rw e (zeros-to 0) }
 
   module _ (i : ℕ) (sum : Figures) (inv : Adding f i sum) where
     pub adding-ends : f .count ≤ i → Added f sum
     adding-ends b =
         record {
           is = rw (taken-end (f .count) (f .herds) i b) at (inv .left);
-          small = widen (i * most) figureMost sum (inv .small) (omega arith);
+          small = widen (i * most) figureMost (inv .small) (omega arith);
         }
 
     module _ (long : length (f .herds) ≡ 64) (b : i < f .count) (d : Herd) (t : Inputs) (et : t ≡ typedOf (getD (f .herds) i d)) where
@@ -82,14 +91,14 @@ module _ (f : Farm) (accepted : checkFarm f ≡ Accepted) where
       pub turned : (g : Figures) → g ≡ figuresOf t → Turned f i sum g
       turned g eg =
           let j : i < length (f .herds) = omega arith in
-          let s : FiguresTo most g = rw eg (figures-to t next-sound) in
+          let s : To most (g .grams) = rw eg (figures-to t next-sound) in
           record {
-            asks = (widen (i * most) figureMost sum (inv .small) (omega arith), widen most figureMost g s (omega arith));
+            asks = (widen (i * most) figureMost (inv .small) (omega arith), widen most figureMost s (omega arith));
             next = λ r er. record {
               room = inv .room;
               within = omega arith;
               left = rw (er, eg, et) (rw (taken-at (f .count) (f .herds) i d b j) at (inv .left));
-              small = rw er (plus-to (i * most) most ((i + 1) * most) sum g (inv .small) s (omega arith));
+              small = rw er (widen (i * most + most) ((i + 1) * most) (plus-to (i * most) most (sum .grams) (g .grams) (inv .small) s) (omega arith));
             };
           }
 
@@ -101,20 +110,20 @@ module _ (f : Farm) (k : Checked) (q : k ≡ checkFarm f) where
   pub accepted-farm : k ≡ Accepted → checkFarm f ≡ Accepted
   accepted-farm t = sym q ∙ t
 
-  pub is-farm-answer : (sum : Figures) (t : Totals) → k ≡ Accepted → Added f sum → t ≡ totalsFrom sum
+  pub is-farm-answer : (sum : Figures) (t : Totals) → k ≡ Accepted → Added f sum → t .grams ≡ totalGrams (sum .grams)
       → record { checked = Accepted; totals = t } ≡ farmAnswer f
   unfolding farmAnswer
-  is-farm-answer sum t e a et = rw (← q, e, et, a .is, totals-of-sum herdFigures (herdsOf f))
+  is-farm-answer sum t e a et = rw (← q, e, totals-of-sum herdFigures (herdsOf f) t (et ∙ ap totalGrams (a .is)))
 
-  pub is-farm-refusal : (fault : Fault) (at-record : ℕ) (sum : Figures) (t : Totals) → k ≡ Refused fault at-record → sum ≡ noFigures → t ≡ totalsFrom sum
-      → record { checked = Refused fault at-record; totals = t } ≡ farmAnswer f
-  unfolding farmAnswer totalsOf
-  is-farm-refusal fault at-record sum t e es et = rw (← q, e, et, es)
+  pub is-farm-refusal : (fault : Fault) (at-record : ℕ) (sum : Figures) (t : Totals) → k ≡ Refused fault at-record → sum .grams ≡ zeros
+      → t .grams ≡ totalGrams (sum .grams) → record { checked = Refused fault at-record; totals = t } ≡ farmAnswer f
+  unfolding farmAnswer
+  is-farm-refusal fault at-record sum t e es et = rw (← q, e, totals-of-sum herdFigures [] t (et ∙ ap totalGrams es))
 
-pub added-small : (f : Farm) (sum : Figures) → Added f sum → FiguresTo figureMost sum
+pub added-small : (f : Farm) (sum : Figures) → Added f sum → To figureMost (sum .grams)
 added-small f sum a = a .small
 
-pub none-small : (sum : Figures) → sum ≡ noFigures → FiguresTo figureMost sum
-none-small sum e = rw e (none-to figureMost)
+pub zeros-small : (sum : Figures) → sum .grams ≡ zeros → To figureMost (sum .grams)
+zeros-small sum e = rw e (zeros-to figureMost)
 
-pub ruleset farm-answers = (accepted-farm, is-farm-answer, is-farm-refusal, added-small, none-small)
+pub ruleset farm-answers = (accepted-farm, is-farm-answer, is-farm-refusal, added-small, zeros-small)

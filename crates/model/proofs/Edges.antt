@@ -5,6 +5,7 @@ use mathlib.Core.Path.{_≡_, refl}
 use mathlib.Core.Bool.{Bool, true, false}
 use mathlib.Core.List.{List, [], _∷_}
 use Prim.Native.Nat.{ℕ}
+use Prim.Native.String.{String}
 use lib.IntN.{ℤ, pos, negsuc}
 use Rattle.base.specs.Each.{Each, none, more}
 use Rattle.tables.specs.Standards.{standardOf, _kg}
@@ -24,19 +25,19 @@ use Rattle.flows.specs.Grazing.{cattleGrazingTime, roughageGrazingTime}
 use Rattle.flows.specs.Housing.{«c_grazing»}
 use Rattle.model.specs.Herd.{figuresOf}
 use Rattle.model.specs.Notes.{notesOf}
-use Rattle.model.specs.Names.{Name, figure, «n_excretion», «tan_excretion», «n_into_yard», «tan_into_yard», «nh3_nyard», «n_outyard_liquid», «tan_outyard_liquid», «n_into_grazing», «tan_into_grazing», «nh3_ngrazing», «n2_ngrazing», «no_ngrazing», «n2o_ngrazing», «n_remain_grazing», «tan_remain_grazing», «n_into_housing», «tan_into_housing», «nh3_nhousing», «n_outhousing», «tan_outhousing»}
+use Rattle.outputs.specs.Grams.{figure}
 
 -- one line of the table: a herd's figure under a name, a herd's note on its share or on its N, k at so many tenths of an hour, or c at so
 -- many days and tenths of an hour
 pub data Edge : Type 0 where
-  gives : Inputs → Name → ℤ → Edge
+  gives : Inputs → String → ℤ → Edge
   lowers : Inputs → Bool → Edge
   notes-n : Inputs → Bool → Edge
   k-at : ℕ → ℕ → Edge
   c-at : ℕ → ℕ → ℕ → Edge
 
 pub data Holds : Edge → Type 0 where
-  figure-is : {i : Inputs} {n : Name} {z : ℤ} → figure n (figuresOf i) ≡ z → Holds (gives i n z)
+  figure-is : {i : Inputs} {t : String} {z : ℤ} → figure t (figuresOf i) ≡ z → Holds (gives i t z)
   lowered-is : {i : Inputs} {b : Bool} → notesOf i .«share_lowered» ≡ b → Holds (lowers i b)
   note-is : {i : Inputs} {b : Bool} → notesOf i .«n_off_standard» ≡ b → Holds (notes-n i b)
   k-is : {t k : ℕ} → kOf t ≡ k → Holds (k-at t k)
@@ -89,54 +90,54 @@ row4 = cattle 200 0 NotAvailable 365 240
 abbrev pub table : List Edge
 table =
     -- 1
-    gives (C Partly 200) «n_into_yard» (pos 146000)
-    ∷ gives (C Partly 200) «tan_into_yard» (pos 87600)
-    ∷ gives (C Partly 200) «nh3_nyard» (pos 61320)
-    ∷ gives (C Partly 200) «n_outyard_liquid» (pos 84680)
-    ∷ gives (C Partly 200) «tan_outyard_liquid» (pos 26280)
-    ∷ gives (C Partly 200) «n_into_grazing» (pos 160000)
-    ∷ gives (C Partly 200) «tan_into_grazing» (pos 96000)
-    ∷ gives (C Partly 200) «nh3_ngrazing» (pos 7968)
-    ∷ gives (C Partly 200) «no_ngrazing» (pos 880)
-    ∷ gives (C Partly 200) «n2o_ngrazing» (pos 3200)
-    ∷ gives (C Partly 200) «n_remain_grazing» (pos 147952)
-    ∷ gives (C Partly 200) «tan_remain_grazing» (pos 83952)
-    ∷ gives (C Partly 200) «n_into_housing» (pos 424000)
-    ∷ gives (C Partly 200) «tan_into_housing» (pos 254400)
+    gives (C Partly 200) "n_into_yard" (pos 146000)
+    ∷ gives (C Partly 200) "tan_into_yard" (pos 87600)
+    ∷ gives (C Partly 200) "nh3_nyard" (pos 61320)
+    ∷ gives (C Partly 200) "n_outyard_liquid" (pos 84680)
+    ∷ gives (C Partly 200) "tan_outyard_liquid" (pos 26280)
+    ∷ gives (C Partly 200) "n_into_grazing" (pos 160000)
+    ∷ gives (C Partly 200) "tan_into_grazing" (pos 96000)
+    ∷ gives (C Partly 200) "nh3_ngrazing" (pos 7968)
+    ∷ gives (C Partly 200) "no_ngrazing" (pos 880)
+    ∷ gives (C Partly 200) "n2o_ngrazing" (pos 3200)
+    ∷ gives (C Partly 200) "n_remain_grazing" (pos 147952)
+    ∷ gives (C Partly 200) "tan_remain_grazing" (pos 83952)
+    ∷ gives (C Partly 200) "n_into_housing" (pos 424000)
+    ∷ gives (C Partly 200) "tan_into_housing" (pos 254400)
     -- 2
-    ∷ gives (C Exclusively 200) «n_into_yard» (pos 278000)
-    ∷ gives (C Exclusively 200) «n_into_grazing» (pos 160000)
-    ∷ gives (C Exclusively 200) «n_into_housing» (pos 292000)
+    ∷ gives (C Exclusively 200) "n_into_yard" (pos 278000)
+    ∷ gives (C Exclusively 200) "n_into_grazing" (pos 160000)
+    ∷ gives (C Exclusively 200) "n_into_housing" (pos 292000)
     ∷ lowers (C Exclusively 200) true
     -- 3
-    ∷ gives (C Exclusively 0) «n_into_yard» (pos 438000)
+    ∷ gives (C Exclusively 0) "n_into_yard" (pos 438000)
     ∷ lowers (C Exclusively 0) false
     -- 4
-    ∷ gives row4 «tan_into_grazing» (pos 14600)
-    ∷ gives row4 «nh3_ngrazing» (pos 1211)
-    ∷ gives row4 «no_ngrazing» (pos 4015)
-    ∷ gives row4 «n2o_ngrazing» (pos 14600)
-    ∷ gives row4 «n_remain_grazing» (pos 710174)
-    ∷ gives row4 «tan_remain_grazing» (negsuc 5225)
+    ∷ gives row4 "tan_into_grazing" (pos 14600)
+    ∷ gives row4 "nh3_ngrazing" (pos 1211)
+    ∷ gives row4 "no_ngrazing" (pos 4015)
+    ∷ gives row4 "n2o_ngrazing" (pos 14600)
+    ∷ gives row4 "n_remain_grazing" (pos 710174)
+    ∷ gives row4 "tan_remain_grazing" (negsuc 5225)
     -- 5
-    ∷ gives fallowDeer «n_excretion» (pos 200000)
-    ∷ gives fallowDeer «tan_excretion» (pos 80000)
-    ∷ gives fallowDeer «nh3_nhousing» (pos 22000)
-    ∷ gives fallowDeer «n_outhousing» (pos 178000)
-    ∷ gives fallowDeer «tan_outhousing» (pos 58000)
+    ∷ gives fallowDeer "n_excretion" (pos 200000)
+    ∷ gives fallowDeer "tan_excretion" (pos 80000)
+    ∷ gives fallowDeer "nh3_nhousing" (pos 22000)
+    ∷ gives fallowDeer "n_outhousing" (pos 178000)
+    ∷ gives fallowDeer "tan_outhousing" (pos 58000)
     -- 6
-    ∷ gives outdoorPigs «n_excretion» (pos 130000)
-    ∷ gives outdoorPigs «tan_excretion» (pos 91000)
-    ∷ gives outdoorPigs «n_into_grazing» (pos 130000)
-    ∷ gives outdoorPigs «tan_into_grazing» (pos 91000)
-    ∷ gives outdoorPigs «nh3_ngrazing» (pos 18200)
-    ∷ gives outdoorPigs «n2_ngrazing» (pos 0)
-    ∷ gives outdoorPigs «no_ngrazing» (pos 715)
-    ∷ gives outdoorPigs «n2o_ngrazing» (pos 2600)
-    ∷ gives outdoorPigs «n_remain_grazing» (pos 108485)
-    ∷ gives outdoorPigs «tan_remain_grazing» (pos 69485)
-    ∷ gives outdoorPigs «n_into_housing» (pos 0)
-    ∷ gives outdoorPigs «tan_into_housing» (pos 0)
+    ∷ gives outdoorPigs "n_excretion" (pos 130000)
+    ∷ gives outdoorPigs "tan_excretion" (pos 91000)
+    ∷ gives outdoorPigs "n_into_grazing" (pos 130000)
+    ∷ gives outdoorPigs "tan_into_grazing" (pos 91000)
+    ∷ gives outdoorPigs "nh3_ngrazing" (pos 18200)
+    ∷ gives outdoorPigs "n2_ngrazing" (pos 0)
+    ∷ gives outdoorPigs "no_ngrazing" (pos 715)
+    ∷ gives outdoorPigs "n2o_ngrazing" (pos 2600)
+    ∷ gives outdoorPigs "n_remain_grazing" (pos 108485)
+    ∷ gives outdoorPigs "tan_remain_grazing" (pos 69485)
+    ∷ gives outdoorPigs "n_into_housing" (pos 0)
+    ∷ gives outdoorPigs "tan_into_housing" (pos 0)
     -- 7
     ∷ k-at 0 1000000000
     -- 8

@@ -1,8 +1,11 @@
--- The steps of a herd's figures, each in the form that a place of the code wants.
+-- The steps of a herd's figures, each in the form that a place of the code wants: what goes where is no more than there is, and the sections
+-- that the code made are those of the formulas.
 -- Assumes nothing.
 use Prim.Native.Nat.{ℕ, _+_, _-_, _≤_}
-use mathlib.Core.Path.{_≡_, subst, _∙_}
+use mathlib.Core.Path.{_≡_, ap, subst, sym, _∙_}
+use mathlib.Core.List.{List}
 use native.Mathlib.Omega.{arith}
+use lib.IntN.{ℤ}
 use Rattle.flows.specs.declared.Excretion.{Excretion}
 use Rattle.flows.specs.declared.Yard.{Yard}
 use Rattle.flows.specs.declared.Grazing.{Grazing}
@@ -15,36 +18,42 @@ use Rattle.flows.specs.declared.Inputs.the-variants as kinds
 use Rattle.flows.specs.Arithmetic.{cutting}
 use Rattle.flows.specs.Units.{tenThousandths}
 use Rattle.flows.specs.Sound.{SoundRoughage, SoundCattle, SoundPigs, Sound, roughage, cattle, pigs, mostAnimals, mostGrams}
-use Rattle.flows.specs.Excretion.{excretionOf, «n_excretion_animal», tanFraction}
-use Rattle.flows.specs.Yard.{onYard, noYard, yardInGrams}
-use Rattle.flows.specs.Grazing.{cattleGrazing, roughageGrazing, pigGrazing, grazingInGrams}
-use Rattle.flows.specs.Housing.{inHousing, throughDoor, housingInGrams}
+use Rattle.flows.specs.Excretion.{excreted, ofExcretion, «n_excretion_animal», tanFraction}
+use Rattle.flows.specs.Yard.{onYard, noYard, ofYard}
+use Rattle.flows.specs.Grazing.{cattleGrazing, roughageGrazing, pigGrazing, ofGrazing}
+use Rattle.flows.specs.Housing.{inHousing, throughDoor, ofHousing}
 use Rattle.flows.specs.Bounds.{Modest}
 use Rattle.flows.proofs.Excreted.{excretion-modest, roughage-grams-le, roughage-fraction-le}
 use Rattle.flows.proofs.Into.{cattle-into-le, roughage-into-le, roughage-housing-modest, pig-into-le}
-use Rattle.model.specs.declared.Figures.{Figures}
-use Rattle.model.specs.Herd.{figuresInGrams, ofRoughage, ofCattle, ofPigs, figuresOf}
+use Rattle.outputs.specs.declared.Figures.{Figures}
+use Rattle.outputs.specs.Sections.{FiguresIn, together}
+use Rattle.outputs.specs.Grams.{gramsOf, To, figureMost}
+use Rattle.outputs.proofs.Adding.{widen}
+use Rattle.model.specs.Herd.{ofRoughage, roughageOn, ofCattle, cattleOn, ofPigs, pigsOn, figuresIn, figuresOf}
+use Rattle.model.proofs.Bounds.{most, figures-to}
 
-abbrev figuresFrom : Excretion → Yard → Grazing → Housing → Figures
-figuresFrom e y g h = record { excretion = e; yard = y; grazing = g; housing = h }
+-- sections that are those of sound inputs are small, and give their figures
+module _ (i : Inputs) (s : Sound i) (e : Excretion) (y : Yard) (g : Grazing) (h : Housing) (is : together e y g h ≡ figuresIn cutting i) where
+  small : To figureMost (gramsOf (together e y g h))
+  unfolding figuresOf
+  small = subst (λ (f : FiguresIn cutting). To figureMost (gramsOf f)) (sym is) (widen most figureMost (figures-to i s) (omega arith))
 
--- what is excreted is modest
-pub modest-of : (animals grams fraction : ℕ) (e : Excretion) → animals ≤ mostAnimals → grams ≤ mostGrams → fraction ≤ tenThousandths
-    → e ≡ excretionOf animals grams fraction → Modest (e .«n_excretion») (e .«tan_excretion»)
-modest-of animals grams fraction e ha hg hf q = rw q (excretion-modest animals grams fraction ha hg hf)
+  are-grams : (f : Figures) → f .grams ≡ gramsOf (together e y g h) → f .grams ≡ gramsOf (figuresIn cutting i)
+  are-grams f q = q ∙ ap gramsOf is
 
 -- ---- cattle
-module _ (c : Cattle) (s : SoundCattle c) (e : Excretion) (q : e ≡ excretionOf (c .animals) (c .«inp_n_excretion») (c .«tan_fraction»)) where
+module _ (c : Cattle) (s : SoundCattle c) (e : Excretion)
+    (q : ofExcretion e ≡ excreted cutting (c .animals) (c .«inp_n_excretion») (c .«tan_fraction»)) where
   pub cattle-modest : Modest (e .«n_excretion») (e .«tan_excretion»)
-  cattle-modest = modest-of (c .animals) (c .«inp_n_excretion») (c .«tan_fraction») e (s .animals) (s .grams) (s .fraction) q
+  cattle-modest = excretion-modest (c .animals) (c .«inp_n_excretion») (c .«tan_fraction») (s .animals) (s .grams) (s .fraction) e q
 
-  module _ (y : Yard) (g : Grazing) (qy : y ≡ yardInGrams (onYard cutting c (e .«n_excretion») (e .«tan_excretion»)))
-      (qg : g ≡ grazingInGrams (cattleGrazing cutting c (e .«n_excretion») (e .«tan_excretion»))) where
-    pub cattle-n : y .«n_into_yard» + g .«n_into_grazing» ≤ e .«n_excretion»
-    cattle-n = rw (qy, qg) (cattle-into-le c s (e .«n_excretion»))
+  module _ (y : Yard) (g : Grazing) (qy : ofYard y ≡ onYard cutting c (e .«n_excretion») (e .«tan_excretion»))
+      (qg : ofGrazing g ≡ cattleGrazing cutting c (e .«n_excretion») (e .«tan_excretion»)) where
+    cattle-n : y .«n_into_yard» + g .«n_into_grazing» ≤ e .«n_excretion»
+    cattle-n = rw (ap (λ x. x .«n_into_yard») qy, ap (λ x. x .«n_into_grazing») qg) (cattle-into-le c s (e .«n_excretion»))
 
-    pub cattle-tan : y .«tan_into_yard» + g .«tan_into_grazing» ≤ e .«tan_excretion»
-    cattle-tan = rw (qy, qg) (cattle-into-le c s (e .«tan_excretion»))
+    cattle-tan : y .«tan_into_yard» + g .«tan_into_grazing» ≤ e .«tan_excretion»
+    cattle-tan = rw (ap (λ x. x .«tan_into_yard») qy, ap (λ x. x .«tan_into_grazing») qg) (cattle-into-le c s (e .«tan_excretion»))
 
     pub yard-in-n : y .«n_into_yard» ≤ e .«n_excretion»
     yard-in-n = omega (arith, cattle-n)
@@ -58,11 +67,19 @@ module _ (c : Cattle) (s : SoundCattle c) (e : Excretion) (q : e ≡ excretionOf
     pub grazing-in-tan : g .«tan_into_grazing» ≤ e .«tan_excretion» - y .«tan_into_yard»
     grazing-in-tan = omega (arith, cattle-tan)
 
-    pub is-cattle : (h : Housing)
-        → h ≡ housingInGrams (throughDoor cutting (e .«n_excretion» - y .«n_into_yard» - g .«n_into_grazing») (e .«tan_excretion» - y .«tan_into_yard» - g .«tan_into_grazing»))
-        → figuresFrom e y g h ≡ figuresInGrams (ofCattle cutting c)
-    unfolding excretionOf
-    is-cattle h qh = rw (qh, qy, qg, q)
+    module _ (h : Housing)
+        (qh : ofHousing h ≡ throughDoor cutting (e .«n_excretion» - y .«n_into_yard» - g .«n_into_grazing») (e .«tan_excretion» - y .«tan_into_yard» - g .«tan_into_grazing»)) where
+      is-cattle : together e y g h ≡ ofCattle cutting c
+      is-cattle =
+          let d : together e y g h ≡ cattleOn cutting c (ofExcretion e) =
+          cc (ap (λ x. x .«n_into_yard») qy, ap (λ x. x .«tan_into_yard») qy, ap (λ x. x .«n_into_grazing») qg, ap (λ x. x .«tan_into_grazing») qg) in
+          d ∙ ap (cattleOn cutting c) q
+
+      pub cattle-small : To figureMost (gramsOf (together e y g h))
+      cattle-small = small (kinds.Cattle c) (cattle s) e y g h is-cattle
+
+      pub cattle-grams : (f : Figures) → f .grams ≡ gramsOf (together e y g h) → f .grams ≡ gramsOf (ofCattle cutting c)
+      cattle-grams = are-grams (kinds.Cattle c) (cattle s) e y g h is-cattle
 
 -- ---- roughage-consuming animals
 module _ (r : Roughage) (s : SoundRoughage r) (grams fraction : ℕ)
@@ -73,43 +90,62 @@ module _ (r : Roughage) (s : SoundRoughage r) (grams fraction : ℕ)
   pub fraction-within : fraction ≤ tenThousandths
   fraction-within = rw qt (roughage-fraction-le r s)
 
-  module _ (e : Excretion) (q : e ≡ excretionOf (r .animals) grams fraction) where
+  module _ (e : Excretion) (q : ofExcretion e ≡ excreted cutting (r .animals) grams fraction) where
     pub roughage-modest : Modest (e .«n_excretion») (e .«tan_excretion»)
-    roughage-modest = modest-of (r .animals) grams fraction e (s .animals) grams-within fraction-within q
+    roughage-modest = excretion-modest (r .animals) grams fraction (s .animals) grams-within fraction-within e q
 
-    module _ (g : Grazing) (qg : g ≡ grazingInGrams (roughageGrazing cutting r (e .«n_excretion») (e .«tan_excretion»))) where
+    module _ (g : Grazing) (qg : ofGrazing g ≡ roughageGrazing cutting r (e .«n_excretion») (e .«tan_excretion»)) where
       pub roughage-n : g .«n_into_grazing» ≤ e .«n_excretion»
-      roughage-n = rw qg (roughage-into-le r s (e .«n_excretion»))
+      roughage-n = rw (ap (λ x. x .«n_into_grazing») qg) (roughage-into-le r s (e .«n_excretion»))
 
       pub roughage-tan : g .«tan_into_grazing» ≤ e .«tan_excretion»
-      roughage-tan = rw qg (roughage-into-le r s (e .«tan_excretion»))
+      roughage-tan = rw (ap (λ x. x .«tan_into_grazing») qg) (roughage-into-le r s (e .«tan_excretion»))
 
       pub housed-modest : Modest (e .«n_excretion» - g .«n_into_grazing») (e .«tan_excretion» - g .«tan_into_grazing»)
-      housed-modest = rw qg (roughage-housing-modest r s (e .«n_excretion») (e .«tan_excretion») roughage-modest)
+      housed-modest =
+          rw (ap (λ x. x .«n_into_grazing») qg, ap (λ x. x .«tan_into_grazing») qg)
+          (roughage-housing-modest r s (e .«n_excretion») (e .«tan_excretion») roughage-modest)
 
-      pub is-roughage : (y : Yard) (h : Housing) → y ≡ yardInGrams (noYard cutting)
-          → h ≡ housingInGrams (inHousing cutting r (e .«n_excretion» - g .«n_into_grazing») (e .«tan_excretion» - g .«tan_into_grazing»))
-          → figuresFrom e y g h ≡ figuresInGrams (ofRoughage cutting r)
-      unfolding excretionOf
-      is-roughage y h qy qh = rw (qh, qy, qg, q, qn, qt)
+      module _ (y : Yard) (h : Housing) (qy : ofYard y ≡ noYard cutting)
+          (qh : ofHousing h ≡ inHousing cutting r (e .«n_excretion» - g .«n_into_grazing») (e .«tan_excretion» - g .«tan_into_grazing»)) where
+        is-roughage : together e y g h ≡ ofRoughage cutting r
+        is-roughage =
+            let d : together e y g h ≡ roughageOn cutting r (ofExcretion e) =
+            cc (ap (λ x. x .«n_into_grazing») qg, ap (λ x. x .«tan_into_grazing») qg) in
+            d ∙ ap (roughageOn cutting r) (rw (← qn, ← qt) q)
+
+        pub roughage-small : To figureMost (gramsOf (together e y g h))
+        roughage-small = small (kinds.Roughage r) (roughage s) e y g h is-roughage
+
+        pub roughage-grams : (f : Figures) → f .grams ≡ gramsOf (together e y g h) → f .grams ≡ gramsOf (ofRoughage cutting r)
+        roughage-grams = are-grams (kinds.Roughage r) (roughage s) e y g h is-roughage
 
 -- ---- pigs
-module _ (p : Pigs) (s : SoundPigs p) (e : Excretion) (q : e ≡ excretionOf (p .animals) (p .«inp_n_excretion») (p .«tan_fraction»)) where
+module _ (p : Pigs) (s : SoundPigs p) (e : Excretion)
+    (q : ofExcretion e ≡ excreted cutting (p .animals) (p .«inp_n_excretion») (p .«tan_fraction»)) where
   pub pigs-modest : Modest (e .«n_excretion») (e .«tan_excretion»)
-  pigs-modest = modest-of (p .animals) (p .«inp_n_excretion») (p .«tan_fraction») e (s .animals) (s .grams) (s .fraction) q
+  pigs-modest = excretion-modest (p .animals) (p .«inp_n_excretion») (p .«tan_fraction») (s .animals) (s .grams) (s .fraction) e q
 
-  module _ (g : Grazing) (qg : g ≡ grazingInGrams (pigGrazing cutting (p .«housing_type») (e .«n_excretion») (e .«tan_excretion»))) where
+  module _ (g : Grazing) (qg : ofGrazing g ≡ pigGrazing cutting (p .«housing_type») (e .«n_excretion») (e .«tan_excretion»)) where
     pub pigs-n : g .«n_into_grazing» ≤ e .«n_excretion»
-    pigs-n = rw qg (pig-into-le (p .«housing_type») (e .«n_excretion»))
+    pigs-n = rw (ap (λ x. x .«n_into_grazing») qg) (pig-into-le (p .«housing_type») (e .«n_excretion»))
 
     pub pigs-tan : g .«tan_into_grazing» ≤ e .«tan_excretion»
-    pigs-tan = rw qg (pig-into-le (p .«housing_type») (e .«tan_excretion»))
+    pigs-tan = rw (ap (λ x. x .«tan_into_grazing») qg) (pig-into-le (p .«housing_type») (e .«tan_excretion»))
 
-    pub is-pigs : (y : Yard) (h : Housing) → y ≡ yardInGrams (noYard cutting)
-        → h ≡ housingInGrams (throughDoor cutting (e .«n_excretion» - g .«n_into_grazing») (e .«tan_excretion» - g .«tan_into_grazing»))
-        → figuresFrom e y g h ≡ figuresInGrams (ofPigs cutting p)
-    unfolding excretionOf
-    is-pigs y h qy qh = rw (qh, qy, qg, q)
+    module _ (y : Yard) (h : Housing) (qy : ofYard y ≡ noYard cutting)
+        (qh : ofHousing h ≡ throughDoor cutting (e .«n_excretion» - g .«n_into_grazing») (e .«tan_excretion» - g .«tan_into_grazing»)) where
+      is-pigs : together e y g h ≡ ofPigs cutting p
+      is-pigs =
+          let d : together e y g h ≡ pigsOn cutting (p .«housing_type») (ofExcretion e) =
+          cc (ap (λ x. x .«n_into_grazing») qg, ap (λ x. x .«tan_into_grazing») qg) in
+          d ∙ ap (pigsOn cutting (p .«housing_type»)) q
+
+      pub pigs-small : To figureMost (gramsOf (together e y g h))
+      pigs-small = small (kinds.Pigs p) (pigs s) e y g h is-pigs
+
+      pub pigs-grams : (f : Figures) → f .grams ≡ gramsOf (together e y g h) → f .grams ≡ gramsOf (ofPigs cutting p)
+      pigs-grams = are-grams (kinds.Pigs p) (pigs s) e y g h is-pigs
 
 -- ---- any kind
 module _ (i : Inputs) (s : Sound i) where
@@ -131,20 +167,27 @@ module _ (i : Inputs) (s : Sound i) where
       of : Sound (kinds.Pigs p) → SoundPigs p
       of (pigs h) = h
 
-module _ (f : Figures) (i : Inputs) where
-  pub figures-of-roughage : (r : Roughage) → f ≡ figuresInGrams (ofRoughage cutting r) → i ≡ kinds.Roughage r → f ≡ figuresOf i
-  unfolding figuresOf
-  figures-of-roughage r q e = q ∙ rw e
+-- figures whose grams are those of some inputs are theirs
+pub figures-are : (i j : Inputs) (f : Figures) → f .grams ≡ gramsOf (figuresIn cutting j) → i ≡ j → f ≡ figuresOf i
+unfolding figuresOf
+figures-are i j f q e = ap ofGrams q ∙ rw e
+  where
+    ofGrams : List ℤ → Figures
+    ofGrams g = record { grams = g }
 
-  pub figures-of-cattle : (c : Cattle) → f ≡ figuresInGrams (ofCattle cutting c) → i ≡ kinds.Cattle c → f ≡ figuresOf i
-  unfolding figuresOf
-  figures-of-cattle c q e = q ∙ rw e
+pub figures-of-roughage : (i : Inputs) (r : Roughage) (f : Figures) → f .grams ≡ gramsOf (ofRoughage cutting r) → i ≡ kinds.Roughage r → f ≡ figuresOf i
+figures-of-roughage i r = figures-are i (kinds.Roughage r)
 
-  pub figures-of-pigs : (p : Pigs) → f ≡ figuresInGrams (ofPigs cutting p) → i ≡ kinds.Pigs p → f ≡ figuresOf i
-  unfolding figuresOf
-  figures-of-pigs p q e = q ∙ rw e
+pub figures-of-cattle : (i : Inputs) (c : Cattle) (f : Figures) → f .grams ≡ gramsOf (ofCattle cutting c) → i ≡ kinds.Cattle c → f ≡ figuresOf i
+figures-of-cattle i c = figures-are i (kinds.Cattle c)
 
-pub ruleset herd-steps =
-    (cattle-modest, yard-in-n, yard-in-tan, grazing-in-n, grazing-in-tan, is-cattle, grams-within, fraction-within, roughage-modest, roughage-n, roughage-tan, housed-modest, is-roughage, pigs-modest, pigs-n, pigs-tan, is-pigs)
+pub figures-of-pigs : (i : Inputs) (p : Pigs) (f : Figures) → f .grams ≡ gramsOf (ofPigs cutting p) → i ≡ kinds.Pigs p → f ≡ figuresOf i
+figures-of-pigs i p = figures-are i (kinds.Pigs p)
+
+pub ruleset cattle-steps = (cattle-modest, yard-in-n, yard-in-tan, grazing-in-n, grazing-in-tan, cattle-small, cattle-grams)
+
+pub ruleset roughage-steps = (grams-within, fraction-within, roughage-modest, roughage-n, roughage-tan, housed-modest, roughage-small, roughage-grams)
+
+pub ruleset pigs-steps = (pigs-modest, pigs-n, pigs-tan, pigs-small, pigs-grams)
 
 pub ruleset kind-steps = (sound-roughage, sound-cattle, sound-pigs, figures-of-roughage, figures-of-cattle, figures-of-pigs)

@@ -4,6 +4,5 @@ pub mod Herds
 pub mod Choices
 pub mod NoteSteps
 pub mod Sound
-pub mod Adding
+pub mod Bounds
 pub mod AnswerSteps
-pub mod Kept

@@ -32,7 +32,8 @@ use Rattle.flows.specs.Bounds.{Modest}
 use Rattle.flows.specs.Excretion.{ExcretionIn, «n_excretion_animal», tanFraction}
 use Rattle.flows.specs.Sound.{EnteredTo, standard, number, SoundRoughage, SoundCattle, Sound, roughage, cattle, pigs}
 use Rattle.flows.proofs.Excreted.{excreted-modest, roughage-grams-le, roughage-fraction-le}
-use Rattle.model.specs.Herd.{FiguresIn, roughageOn, ofRoughage, cattleOn, pigsOn, figuresIn}
+use Rattle.outputs.specs.Sections.{FiguresIn}
+use Rattle.model.specs.Herd.{roughageOn, ofRoughage, cattleOn, pigsOn, figuresIn}
 use Rattle.model.specs.Typed.{numberIn, enteredIn, givenAt, numberAt, enteredAt, roughageOf, cattleOf, pigsOf, typedAs, typedOf}
 
 -- ---- a slot

@@ -2,20 +2,18 @@
 -- in place of a file checks it too".)
 use mathlib.Core.Path.{_≡_}
 use mathlib.Core.List.{[], map}
-use Rattle.cut.specs.Total.{addUp}
 use Rattle.farm.specs.declared.Herd.{Herd}
 use Rattle.farm.specs.declared.Farm.{Farm}
 use Rattle.farm.specs.declared.Checked.{Checked}
 use Rattle.farm.specs.declared.Checked.the-variants.{Accepted, Refused}
 use Rattle.farm.specs.Checks.{checkHerd, checkFarm, herdsOf}
-use Rattle.model.specs.declared.Figures.{Figures}
+use Rattle.outputs.specs.declared.Figures.{Figures}
+use Rattle.outputs.specs.Grams.{noFigures, summed, totalsOf, To, figureMost}
 use Rattle.model.specs.declared.HerdAnswer.{HerdAnswer}
 use Rattle.model.specs.declared.FarmAnswer.{FarmAnswer}
 use Rattle.model.specs.Typed.{typedOf}
 use Rattle.model.specs.Herd.{figuresOf}
 use Rattle.model.specs.Notes.{notesOf, noNotes}
-use Rattle.model.specs.Sums.{plusFigures, noFigures, FiguresTo, figureMost}
-use Rattle.model.specs.Totals.{totalsOf}
 
 -- the figures of a herd's record
 abbrev pub herdFigures : Herd → Figures
@@ -37,5 +35,5 @@ farmAnswer f = answerFarm (checkFarm f) f
 
 -- the sum of all herds' figures, and that it stays small
 pub record Added (f : Farm) (r : Figures) : Type 0 where
-  pub is : r ≡ addUp plusFigures herdFigures noFigures (herdsOf f)
-  pub small : FiguresTo figureMost r
+  pub is : r .grams ≡ summed herdFigures (herdsOf f)
+  pub small : To figureMost (r .grams)

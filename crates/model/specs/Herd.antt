@@ -1,5 +1,4 @@
--- A herd's figures, kind by kind: excretion, yard, pasture and housing. Once over any arithmetic, and then on whole grams, in the structs of
--- the code. What goes into the housing is found here, from the other parts: "Into housing is what remains." (01, Steps and cuts.)
+-- A herd's figures, kind by kind: excretion, yard, pasture and housing. Once over any arithmetic, and then on whole grams. What goes into the housing is found here, from the other parts: "Into housing is what remains." (01, Steps and cuts.)
 use Rattle.flows.specs.declared.Roughage.{Roughage}
 use Rattle.flows.specs.declared.Cattle.{Cattle}
 use Rattle.flows.specs.declared.Pigs.{Pigs}
@@ -7,18 +6,13 @@ use Rattle.flows.specs.declared.HousingType.{HousingType}
 use Rattle.flows.specs.declared.Inputs.{Inputs}
 use Rattle.flows.specs.declared.Inputs.the-variants as kinds
 use Rattle.flows.specs.Arithmetic.{Arithmetic, cutting}
-use Rattle.flows.specs.Excretion.{ExcretionIn, excreted, «n_excretion_animal», tanFraction, excretionInGrams}
-use Rattle.flows.specs.Yard.{YardIn, onYard, noYard, yardInGrams}
-use Rattle.flows.specs.Grazing.{GrazingIn, cattleGrazing, roughageGrazing, pigGrazing, grazingInGrams}
-use Rattle.flows.specs.Housing.{HousingIn, inHousing, throughDoor, housingInGrams}
-use Rattle.model.specs.declared.Figures.{Figures}
-
--- the four parts of the listing, with a field for each output name
-pub record FiguresIn (A : Arithmetic) : Type 0 where
-  pub excretion : ExcretionIn A
-  pub yard : YardIn A
-  pub grazing : GrazingIn A
-  pub housing : HousingIn A
+use Rattle.flows.specs.Excretion.{ExcretionIn, excreted, «n_excretion_animal», tanFraction}
+use Rattle.flows.specs.Yard.{YardIn, onYard, noYard}
+use Rattle.flows.specs.Grazing.{GrazingIn, cattleGrazing, roughageGrazing, pigGrazing}
+use Rattle.flows.specs.Housing.{inHousing, throughDoor}
+use Rattle.outputs.specs.declared.Figures.{Figures}
+use Rattle.outputs.specs.Sections.{FiguresIn}
+use Rattle.outputs.specs.Grams.{gramsOf}
 
 module _ (A : Arithmetic) where
   open Arithmetic A using (_⊖_)
@@ -87,17 +81,6 @@ module _ (A : Arithmetic) where
   figuresIn (kinds.Cattle c) = ofCattle c
   figuresIn (kinds.Pigs p) = ofPigs p
 
--- ---- on whole grams, in the structs of the code
-
-abbrev pub figuresInGrams : FiguresIn cutting → Figures
-figuresInGrams f =
-    record {
-      excretion = excretionInGrams (f .excretion);
-      yard = yardInGrams (f .yard);
-      grazing = grazingInGrams (f .grazing);
-      housing = housingInGrams (f .housing);
-    }
-
--- a herd's figures
+-- a herd's figures in whole grams, by number
 unfoldable pub figuresOf : Inputs → Figures
-figuresOf i = figuresInGrams (figuresIn cutting i)
+figuresOf i = record { grams = gramsOf (figuresIn cutting i) }

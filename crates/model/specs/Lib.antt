@@ -1,9 +1,5 @@
 pub mod Typed
 pub mod Herd
 pub mod Notes
-pub mod Sums
-pub mod Totals
-pub mod Names
-pub mod TotalNames
 pub mod Answers
 pub mod Kept

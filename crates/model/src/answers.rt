@@ -1,15 +1,15 @@
 // A record's figures, or its refusal. Nothing is asked of the record beforehand.
 use crate::FarmAnswer;
-use crate::Figures;
 use crate::HerdAnswer;
 use crate::herd;
 use crate::notes;
-use crate::sums;
 use crate::typed;
 use farm::Checked;
 use farm::Farm;
 use farm::Herd;
 use farm::checks;
+use outputs::Figures;
+use outputs::sums;
 ghost use mathlib.Core.Path.{_≡_};
 ghost use Rattle.farm.specs.declared.Checked.the-variants.{Accepted};
 ghost use Rattle.farm.specs.Checks.{checkFarm};
@@ -45,7 +45,7 @@ fn sum_of(farm: Farm) -> Figures
     let mut i = 0;
     while i < count {
         let h = farm.herds[i];
-        sum = sums::plus_figures(sum, herd::figures(typed::typed_of(h)));
+        sum = sums::plus(sum, herd::figures(typed::typed_of(h)));
         i += 1;
     }
     sum

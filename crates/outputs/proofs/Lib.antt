@@ -2,3 +2,4 @@ pub mod Signed
 pub mod ByNumber
 pub mod Addends
 pub mod Adding
+pub mod Bounds

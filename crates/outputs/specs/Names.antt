@@ -38,13 +38,13 @@ module _ {S : Arithmetic → Type 0} where
 
 -- ---- the names, section by section
 
-abbrev excretion : List (Field ExcretionIn)
+abbrev pub excretion : List (Field ExcretionIn)
 excretion =
     amount "n_excretion" (λ A e. e .«n_excretion»)
     ∷ amount "tan_excretion" (λ A e. e .«tan_excretion»)
     ∷ []
 
-abbrev yard : List (Field YardIn)
+abbrev pub yard : List (Field YardIn)
 yard =
     amount "n_into_yard" (λ A y. y .«n_into_yard»)
     ∷ amount "tan_into_yard" (λ A y. y .«tan_into_yard»)
@@ -53,7 +53,7 @@ yard =
     ∷ amount "tan_outyard_liquid" (λ A y. y .«tan_outyard_liquid»)
     ∷ []
 
-abbrev grazing : List (Field GrazingIn)
+abbrev pub grazing : List (Field GrazingIn)
 grazing =
     amount "n_into_grazing" (λ A g. g .«n_into_grazing»)
     ∷ amount "tan_into_grazing" (λ A g. g .«tan_into_grazing»)
@@ -65,7 +65,7 @@ grazing =
     ∷ rest "tan_remain_grazing" (λ A g. g .«tan_remain_grazing»)
     ∷ []
 
-abbrev housing : List (Field HousingIn)
+abbrev pub housing : List (Field HousingIn)
 housing =
     amount "n_into_housing" (λ A h. h .«n_into_housing»)
     ∷ amount "tan_into_housing" (λ A h. h .«tan_into_housing»)

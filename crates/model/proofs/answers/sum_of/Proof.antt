@@ -46,8 +46,8 @@ turn c =
     turned (s .args .t1) (s .pre) (t .before .loop .i) (t .before .loop .sum) (t .before .loop .inv) (long s) (t .loop-test .taken)
     _ _ (c .before .typed-of .ensures) (c .figures .result) (c .figures .ensures)
 
-plus-figures-requires : tie.Need-plus-figures-requires Inv-loop μ-loop
-plus-figures-requires c κs = turn c .asks
+plus-requires : tie.Need-plus-requires Inv-loop μ-loop
+plus-requires c κs = turn c .asks
 
 add-i : tie.Need-add-i Inv-loop μ-loop
 add-i c = search needs
@@ -56,7 +56,7 @@ loop-less : tie.Need-loop-less Inv-loop μ-loop
 loop-less c = search needs
 
 loop-again : tie.Need-loop-again Inv-loop μ-loop
-loop-again c = turn (c .before) .next (c .plus-figures .result) (c .plus-figures .ensures)
+loop-again c = turn (c .before) .next (c .plus .result) (c .plus .ensures)
 
 returns : tie.Need-returns Inv-loop μ-loop
 returns c = search (needs, adding-steps)
@@ -73,7 +73,7 @@ sum-of-spec =
     element-copy-out-h
     typed-of-requires
     figures-requires
-    plus-figures-requires
+    plus-requires
     add-i
     loop-less
     loop-again

@@ -1,21 +1,21 @@
 -- `model::herd::pigs_figures` meets its contract, section by section.
 -- Assumes nothing.
-use Rattle.model.proofs.Herds.{herd-steps}
+use Rattle.model.proofs.Herds.{pigs-steps}
 use borrow.Author.Needs.{needs}
 use Rattle.model.proofs.herd.pigs_figures.Statement.{statement}
 use Rattle.model.proofs.herd.pigs_figures.Tie as tie
 
 excretion-requires : tie.Need-excretion-requires
-excretion-requires c κs = search (needs, herd-steps)
+excretion-requires c κs = search (needs, pigs-steps)
 
 pig-grazing-requires : tie.Need-pig-grazing-requires
-pig-grazing-requires c κs = search (needs, herd-steps)
+pig-grazing-requires c κs = search (needs, pigs-steps)
 
 sub-n : tie.Need-sub-n
-sub-n c = search (needs, herd-steps)
+sub-n c = search (needs, pigs-steps)
 
 sub-tan : tie.Need-sub-tan
-sub-tan c = search (needs, herd-steps)
+sub-tan c = search (needs, pigs-steps)
 
 no-yard-requires : tie.Need-no-yard-requires
 no-yard-requires c κs = search needs
@@ -23,8 +23,11 @@ no-yard-requires c κs = search needs
 through-door-requires : tie.Need-through-door-requires
 through-door-requires c κs = search needs
 
+by-number-requires : tie.Need-by-number-requires
+by-number-requires c κs = search (needs, pigs-steps)
+
 returns : tie.Need-returns
-returns c = search (needs, herd-steps)
+returns c = search (needs, pigs-steps)
 
 pub pigs-figures-spec : {M : Type 1} → statement M
 pigs-figures-spec =
@@ -36,4 +39,5 @@ pigs-figures-spec =
     sub-tan
     no-yard-requires
     through-door-requires
+    by-number-requires
     returns)

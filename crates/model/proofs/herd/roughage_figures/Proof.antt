@@ -1,6 +1,6 @@
 -- `model::herd::roughage_figures` meets its contract, section by section.
 -- Assumes nothing.
-use Rattle.model.proofs.Herds.{herd-steps}
+use Rattle.model.proofs.Herds.{roughage-steps}
 use borrow.Author.Needs.{needs}
 use Rattle.model.proofs.herd.roughage_figures.Statement.{statement}
 use Rattle.model.proofs.herd.roughage_figures.Tie as tie
@@ -12,25 +12,28 @@ tan-fraction-requires : tie.Need-tan-fraction-requires
 tan-fraction-requires c κs = search needs
 
 excretion-requires : tie.Need-excretion-requires
-excretion-requires c κs = search (needs, herd-steps)
+excretion-requires c κs = search (needs, roughage-steps)
 
 roughage-grazing-requires : tie.Need-roughage-grazing-requires
-roughage-grazing-requires c κs = search (needs, herd-steps)
+roughage-grazing-requires c κs = search (needs, roughage-steps)
 
 sub-n : tie.Need-sub-n
-sub-n c = search (needs, herd-steps)
+sub-n c = search (needs, roughage-steps)
 
 sub-tan : tie.Need-sub-tan
-sub-tan c = search (needs, herd-steps)
+sub-tan c = search (needs, roughage-steps)
 
 no-yard-requires : tie.Need-no-yard-requires
 no-yard-requires c κs = search needs
 
 in-housing-requires : tie.Need-in-housing-requires
-in-housing-requires c κs = search (needs, herd-steps)
+in-housing-requires c κs = search (needs, roughage-steps)
+
+by-number-requires : tie.Need-by-number-requires
+by-number-requires c κs = search (needs, roughage-steps)
 
 returns : tie.Need-returns
-returns c = search (needs, herd-steps)
+returns c = search (needs, roughage-steps)
 
 pub roughage-figures-spec : {M : Type 1} → statement M
 roughage-figures-spec =
@@ -44,4 +47,5 @@ roughage-figures-spec =
     sub-tan
     no-yard-requires
     in-housing-requires
+    by-number-requires
     returns)

@@ -1,0 +1,92 @@
+-- No figure of a sound herd, of whatever kind, is above a bound. So the sums over the herds of a farm fit. Assumes nothing.
+use Prim.Native.Nat.{ℕ, _+_, _-_, _≤_}
+use native.Mathlib.Omega.{arith}
+use lib.IntN.{pos, natAbs, _-ℤ_}
+use Rattle.cut.proofs.Signed.{abs-sub}
+use Rattle.flows.specs.declared.Rates.{Rates}
+use Rattle.flows.specs.declared.Inputs.{Inputs}
+use Rattle.flows.specs.Arithmetic.{cutting}
+use Rattle.flows.specs.Sound.{Sound}
+use Rattle.flows.specs.Excretion.{ExcretionIn}
+use Rattle.flows.specs.Yard.{intoYard, nh3OnYard, throughYard}
+use Rattle.flows.specs.Grazing.{cattleRates, roughageRates, pigRates, cattleIntoGrazing, roughageIntoGrazing, pigsIntoGrazing, gas, onPasture, afterGases}
+use Rattle.flows.specs.Housing.{nh3InHousing, throughHousing, throughDoor}
+use Rattle.flows.specs.Bounds.{Modest, ModestRates}
+use Rattle.flows.proofs.OnYard.{yard-modest, yard-keeps-tan}
+use Rattle.flows.proofs.OnPasture.{gases-le}
+use Rattle.flows.proofs.InHousing.{housing-keeps-tan}
+use Rattle.flows.proofs.Into.{cattle-pasture-modest, roughage-pasture-modest, roughage-housing-modest, pig-pasture-modest, cattle-rates-modest, roughage-rates-modest, pig-rates-modest}
+use Rattle.outputs.specs.Sections.{FiguresIn}
+use Rattle.outputs.specs.Names.{excretion, yard, grazing, housing}
+use Rattle.outputs.specs.Grams.{gramsOf, To}
+use Rattle.outputs.proofs.Bounds.{SectionTo, sections-to}
+use Rattle.model.specs.Herd.{figuresOf}
+use Rattle.model.proofs.Sound.{Made, of-roughage, of-cattle, of-pigs, made}
+
+-- what no figure of a sound herd is above
+abbrev pub most : ℕ
+most = 4000000000
+
+-- ---- section by section
+
+excretion-to : (e : ExcretionIn cutting) → Modest (e .«n_excretion») (e .«tan_excretion») → SectionTo most excretion e
+excretion-to e m = omega arith
+
+yard-to : (n tan nh3 : ℕ) → Modest n tan → nh3 ≤ tan → SectionTo most yard (throughYard cutting n tan nh3)
+yard-to n tan nh3 m h = omega arith
+
+housing-to : (n tan nh3 : ℕ) → Modest n tan → nh3 ≤ tan → SectionTo most housing (throughHousing cutting n tan nh3)
+housing-to n tan nh3 m h = omega arith
+
+-- of two kinds the housing is left out, and the door lets through a rest of what is excreted
+door-to : (n tan n′ tan′ : ℕ) → Modest n tan → n′ ≤ n → tan′ ≤ tan → SectionTo most housing (throughDoor cutting n′ tan′)
+door-to n tan n′ tan′ m hn ht = omega arith
+
+-- what is left of the TAN is no larger than the TAN and the gases together
+remain-le : (tan a b c d : ℕ) → natAbs (pos tan -ℤ pos a -ℤ pos b -ℤ pos c -ℤ pos d) ≤ tan + (a + b + c + d)
+remain-le tan a b c d =
+    omega (
+      arith,
+      abs-sub (pos tan) (pos a),
+      abs-sub (pos tan -ℤ pos a) (pos b),
+      abs-sub (pos tan -ℤ pos a -ℤ pos b) (pos c),
+      abs-sub (pos tan -ℤ pos a -ℤ pos b -ℤ pos c) (pos d),
+    )
+
+gases-to : (n tan a b c d : ℕ) → Modest n tan → a + b + c + d ≤ n → SectionTo most grazing (afterGases cutting n tan a b c d)
+gases-to n tan a b c d m h = omega (arith, remain-le tan a b c d)
+
+pasture-to : (r : Rates) (n tan : ℕ) → ModestRates r → Modest n tan → SectionTo most grazing (onPasture cutting r n tan)
+pasture-to r n tan hr m =
+    gases-to n tan (gas cutting tan (r .nh3)) (gas cutting n (r .n2)) (gas cutting n (r .no)) (gas cutting n (r .n2o)) m (gases-le r n tan hr m)
+
+-- ---- kind by kind
+
+made-to : {f : FiguresIn cutting} → Made f → To most (gramsOf f)
+made-to (of-roughage r e s m) =
+    let n = e .«n_excretion» in
+    let tan = e .«tan_excretion» in
+    let n′ = n - roughageIntoGrazing cutting r n in
+    let tan′ = tan - roughageIntoGrazing cutting r tan in
+    sections-to most _ (excretion-to e m) (omega arith)
+    (pasture-to roughageRates (roughageIntoGrazing cutting r n) (roughageIntoGrazing cutting r tan) roughage-rates-modest (roughage-pasture-modest r s n tan m))
+    (housing-to n′ tan′ (nh3InHousing cutting r tan′) (roughage-housing-modest r s n tan m) (omega (arith, housing-keeps-tan r n′ tan′)))
+made-to (of-cattle c e s m) =
+    let n = e .«n_excretion» in
+    let tan = e .«tan_excretion» in
+    sections-to most _ (excretion-to e m)
+    (yard-to (intoYard cutting c n) (intoYard cutting c tan) (nh3OnYard cutting c (intoYard cutting c tan)) (yard-modest c s n tan m)
+    (omega (arith, yard-keeps-tan c s n tan)))
+    (pasture-to cattleRates (cattleIntoGrazing cutting c n) (cattleIntoGrazing cutting c tan) cattle-rates-modest (cattle-pasture-modest c s n tan m))
+    (door-to n tan (n - intoYard cutting c n - cattleIntoGrazing cutting c n) (tan - intoYard cutting c tan - cattleIntoGrazing cutting c tan) m
+    (omega arith) (omega arith))
+made-to (of-pigs t e m) =
+    let n = e .«n_excretion» in
+    let tan = e .«tan_excretion» in
+    sections-to most _ (excretion-to e m) (omega arith)
+    (pasture-to pigRates (pigsIntoGrazing cutting t n) (pigsIntoGrazing cutting t tan) pig-rates-modest (pig-pasture-modest t n tan m))
+    (door-to n tan (n - pigsIntoGrazing cutting t n) (tan - pigsIntoGrazing cutting t tan) m (omega arith) (omega arith))
+
+pub figures-to : (i : Inputs) → Sound i → To most (figuresOf i .grams)
+unfolding figuresOf
+figures-to i s = made-to (made s)
