@@ -6,3 +6,4 @@ pub mod NoteSteps
 pub mod Sound
 pub mod Bounds
 pub mod AnswerSteps
+pub mod Kept
