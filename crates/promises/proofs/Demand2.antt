@@ -18,12 +18,12 @@ use Rattle.model.specs.declared.HerdAnswer.{HerdAnswer}
 use Rattle.model.specs.Typed.{typedOf}
 use Rattle.model.specs.Herd.{figuresOf}
 use Rattle.model.specs.Notes.{notesOf}
-use Rattle.model.specs.Totals.{totalsOf}
+use Rattle.outputs.specs.Grams.{totalsOf}
 use Rattle.model.specs.Answers.{herdFigures, herdAnswer, farmAnswer}
 use Rattle.listing.specs.declared.Written.{Written}
 use Rattle.listing.specs.declared.Written.the-variants.{Length}
 use Rattle.listing.specs.Answer.{leaves, answers}
 use Rattle.calls.specs.Listings.{Call, Called}
 
 -- ---- acceptance
 
