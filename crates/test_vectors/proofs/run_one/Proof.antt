@@ -1,10 +1,10 @@
--- `cases::run_one` is safe: the file's part of the buffer is within it.
+-- `test_vectors::run_one` is safe: the file's part of the buffer is within it.
 -- Assumes nothing.
 use mathlib.Core.Path.{sym}
 use lib.Seq.{length-take-le}
 use borrow.Author.Needs.{needs}
-use Rattle.cases.proofs.run_one.Statement.{statement}
-use Rattle.cases.proofs.run_one.Tie as tie
+use Rattle.test_vectors.proofs.run_one.Statement.{statement}
+use Rattle.test_vectors.proofs.run_one.Tie as tie
 
 slice-aggregate-read-full : tie.Need-slice-aggregate-read-full
 slice-aggregate-read-full c = search needs

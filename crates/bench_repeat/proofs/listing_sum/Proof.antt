@@ -1,11 +1,11 @@
--- `repeat::listing_sum` is safe and ends. The buffer keeps its length; the measure is the number of places left.
+-- `bench_repeat::listing_sum` is safe and ends. The buffer keeps its length; the measure is the number of places left.
 -- Assumes nothing.
 use mathlib.Core.Path.{_≡_}
 use Prim.Native.Nat.{_-_}
 use lib.ListN.{length}
 use borrow.Author.Needs.{needs}
-use Rattle.repeat.proofs.listing_sum.Statement.{statement}
-use Rattle.repeat.proofs.listing_sum.Tie as tie
+use Rattle.bench_repeat.proofs.listing_sum.Statement.{statement}
+use Rattle.bench_repeat.proofs.listing_sum.Tie as tie
 
 abbrev Inv-loop : tie.InvT-loop
 Inv-loop sum turn out₀ farm taken₀ i₀ out taken i = length out ≡ length out₀

@@ -1,10 +1,10 @@
--- `repeat::times_of` is safe and ends. The measure is the number of digits left.
+-- `bench_repeat::times_of` is safe and ends. The measure is the number of digits left.
 -- Assumes nothing.
 use Prim.Native.Nat.{_-_}
 use lib.ListN.{length}
 use borrow.Author.Needs.{needs}
-use Rattle.repeat.proofs.times_of.Statement.{statement}
-use Rattle.repeat.proofs.times_of.Tie as tie
+use Rattle.bench_repeat.proofs.times_of.Statement.{statement}
+use Rattle.bench_repeat.proofs.times_of.Tie as tie
 
 abbrev Inv-loop : tie.InvT-loop
 Inv-loop digits n₀ i₀ n i = Unit {0}

@@ -1,10 +1,10 @@
--- `repeat::repeat_listing` is safe and ends. The buffer keeps its length; the measure is the number of turns left.
+-- `bench_repeat::repeat_listing` is safe and ends. The buffer keeps its length; the measure is the number of turns left.
 -- Assumes nothing.
 use mathlib.Core.Path.{_≡_}
 use lib.ListN.{length}
 use borrow.Author.Needs.{needs}
-use Rattle.repeat.proofs.repeat_listing.Statement.{statement}
-use Rattle.repeat.proofs.repeat_listing.Tie as tie
+use Rattle.bench_repeat.proofs.repeat_listing.Statement.{statement}
+use Rattle.bench_repeat.proofs.repeat_listing.Tie as tie
 
 abbrev Inv-loop : tie.InvT-loop
 Inv-loop times farm out₀ sum₀ turn₀ out sum turn = length out ≡ length out₀

@@ -1,9 +1,9 @@
--- `edges::buffers::refused_sizes` is safe and ends. No more are counted than sizes passed; the measure is the number of sizes left.
+-- `test_edges::buffers::refused_sizes` is safe and ends. No more are counted than sizes passed; the measure is the number of sizes left.
 -- Assumes nothing.
 use Prim.Native.Nat.{_-_, _≤_}
 use borrow.Author.Needs.{needs}
-use Rattle.edges.proofs.buffers.refused_sizes.Statement.{statement}
-use Rattle.edges.proofs.buffers.refused_sizes.Tie as tie
+use Rattle.test_edges.proofs.buffers.refused_sizes.Statement.{statement}
+use Rattle.test_edges.proofs.buffers.refused_sizes.Tie as tie
 
 abbrev Inv-loop : tie.InvT-loop
 Inv-loop which length count₀ size₀ count size = count ≤ size

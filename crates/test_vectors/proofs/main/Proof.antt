@@ -1,10 +1,10 @@
--- `cases::main` is safe and ends. The buffer keeps its length; the measure is the number of turns that are left.
+-- `test_vectors::main` is safe and ends. The buffer keeps its length; the measure is the number of turns that are left.
 -- Assumes nothing.
 use mathlib.Core.Path.{_≡_}
 use lib.ListN.{length}
 use borrow.Author.Needs.{needs}
-use Rattle.cases.proofs.main.Statement.{statement}
-use Rattle.cases.proofs.main.Tie as tie
+use Rattle.test_vectors.proofs.main.Statement.{statement}
+use Rattle.test_vectors.proofs.main.Tie as tie
 
 abbrev Inv-loop : tie.InvT-loop
 Inv-loop file₀ turns₀ file turns = 66000 ≡ length file

@@ -1,8 +1,8 @@
--- `repeat::repeat_reading` is safe and ends. The measure is the number of turns left.
+-- `bench_repeat::repeat_reading` is safe and ends. The measure is the number of turns left.
 -- Assumes nothing.
 use borrow.Author.Needs.{needs}
-use Rattle.repeat.proofs.repeat_reading.Statement.{statement}
-use Rattle.repeat.proofs.repeat_reading.Tie as tie
+use Rattle.bench_repeat.proofs.repeat_reading.Statement.{statement}
+use Rattle.bench_repeat.proofs.repeat_reading.Tie as tie
 
 abbrev Inv-loop : tie.InvT-loop
 Inv-loop times file sum₀ turn₀ sum turn = Unit {0}
