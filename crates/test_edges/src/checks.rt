@@ -4,16 +4,27 @@ use crate::records;
 use farm::Farm;
 use farm::Given;
 use farm::Herd;
+use outputs::names;
+use outputs::total_names;
 use printing::tell;
 
 const SHORT: usize = 8;
+
+// What is excreted is never below zero.
+fn not_below(grams: i64) -> u64 {
+    if grams < 0 {
+        return 0;
+    }
+    grams as u64
+}
 
 // The answer's grams are zero where it is refused.
 fn figures(h: Herd) {
     let answer = calls::herd_figures(h);
     let checked = answer.checked;
     tell::checked_line(checked);
-    tell::number(answer.figures.excretion.n_excretion);
+    let grams = answer.figures.grams[names::N_EXCRETION];
+    tell::number(not_below(grams));
 }
 
 fn herd_listing(h: Herd) {
@@ -27,7 +38,8 @@ fn totals(f: Farm) {
     let answer = calls::farm_totals(f);
     let checked = answer.checked;
     tell::checked_line(checked);
-    tell::number(answer.totals.n_excretion);
+    let grams = answer.totals.grams[total_names::N_EXCRETION];
+    tell::number(not_below(grams));
 }
 
 fn totals_listing(f: Farm) {
