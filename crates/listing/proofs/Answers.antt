@@ -16,6 +16,7 @@ use Rattle.farm.specs.declared.Label.{Label}
 use Rattle.farm.specs.Labels.{text}
 use Rattle.listing.specs.declared.Written.{Written}
 use Rattle.listing.specs.declared.Written.the-variants.{Length, Refused}
+use Rattle.listing.specs.Bounds.{longestLabel}
 use Rattle.listing.specs.Answer.{leaves, answers, Answered}
 
 -- what was written from the front of a buffer that has room for it, as the part that the code takes
@@ -55,5 +56,5 @@ module _ (l : Label) (p : List ℕ) (e : p ≡ part (l .bytes) 0 (l .len)) where
   unfolding part
   text-is = let z : l .len - 0 ≡ l .len = omega arith in e ∙ ap (λ (n : ℕ). take n (l .bytes)) z
 
-  pub text-short : length (l .bytes) ≡ 16 → length p ≤ 16
+  pub text-short : length (l .bytes) ≡ longestLabel → length p ≤ longestLabel
   text-short h = omega (arith, ap length text-is, length-take (l .len) (l .bytes), min-le-right (l .len) (length (l .bytes)))

@@ -1,20 +1,46 @@
--- 01, The listing: the listing of its pigs, byte by byte, from the definitions; the totals of a farm of these pigs; and a line whose label
--- has a comma and whose figure is below zero.
+-- 01, The listing: the listing of its pigs, byte by byte, from the grams that it prints; the totals of a farm of these pigs; and a line whose
+-- label has a comma and whose figure is below zero.
 -- Assumes nothing.
 use Prim.Native.Nat.{ℕ}
 use Prim.Native.String.{String}
 use mathlib.Core.Path.{_≡_, refl, ap, _∙_}
-use mathlib.Core.List.{List, [], _∷_}
-use lib.IntN.{negsuc}
+use mathlib.Core.List.{List, [], _∷_, map}
+use lib.IntN.{ℤ, pos, negsuc}
+use lib.Text.{eqt}
+use Rattle.base.specs.Pick.{pick}
 use Rattle.base.specs.Text.{bytes}
 use Rattle.decimal.specs.Writing.{width, wholeOf, thousandthsOf, sign, kilogramsOf}
 use Rattle.inputs.specs.declared.Kind.the-variants.{Pigs}
 use Rattle.farm.specs.declared.Label.{Label}
 use Rattle.farm.specs.Labels.{text}
-use Rattle.model.specs.Herd.{figuresOf}
-use Rattle.model.specs.Totals.{totalsOf}
-use Rattle.model.proofs.Edges.{outdoorPigs}
+use Rattle.outputs.specs.declared.Figures.{Figures}
+use Rattle.outputs.specs.Names.{texts}
+use Rattle.outputs.specs.Grams.{byNumber, farmTotal, totalsOf}
 use Rattle.listing.specs.Listing.{hasComma, labelField, lineOf, each, herdLines, herdListing, totalsListing}
+
+-- the grams under these names, and 0 under any other
+abbrev named : List (String × ℤ) → String → ℤ
+named [] t = pos 0
+named (g ∷ gs) t = pick (eqt t (g .0)) (g .1) (named gs t)
+
+-- 01's ten pigs of 13 kg with 70 percent TAN, outdoors
+abbrev pub pigFigures : Figures
+pigFigures =
+    record {
+      grams = map
+        (named
+        (("n_excretion", pos 130000)
+        ∷ ("tan_excretion", pos 91000)
+        ∷ ("n_into_grazing", pos 130000)
+        ∷ ("tan_into_grazing", pos 91000)
+        ∷ ("nh3_ngrazing", pos 18200)
+        ∷ ("no_ngrazing", pos 715)
+        ∷ ("n2o_ngrazing", pos 2600)
+        ∷ ("n_remain_grazing", pos 108485)
+        ∷ ("tan_remain_grazing", pos 69485)
+        ∷ []))
+        texts;
+    }
 
 abbrev pub pigLines : List String
 pigLines =
@@ -32,16 +58,16 @@ pigLines =
     ∷ "P1,Livestock::FatteningPigs::Housing,tan_into_housing,0.000\r\n"
     ∷ []
 
-computed : herdLines (bytes "P1") Pigs (figuresOf outdoorPigs) ≡ each bytes pigLines
-unfolding herdLines lineOf labelField hasComma kilogramsOf sign thousandthsOf wholeOf width figuresOf
+computed : herdLines (bytes "P1") Pigs pigFigures ≡ each bytes pigLines
+unfolding herdLines lineOf labelField hasComma kilogramsOf sign thousandthsOf wholeOf width
 computed = refl
 
 -- 01's pigs, under any label whose bytes in use are P1
-pub pig-listing : (l : Label) → text l ≡ bytes "P1" → herdListing l Pigs (figuresOf outdoorPigs) ≡ each bytes pigLines
-pig-listing l e = ap (λ (t : List ℕ). herdLines t Pigs (figuresOf outdoorPigs)) e ∙ computed
+pub pig-listing : (l : Label) → text l ≡ bytes "P1" → herdListing l Pigs pigFigures ≡ each bytes pigLines
+pig-listing l e = ap (λ (t : List ℕ). herdLines t Pigs pigFigures) e ∙ computed
 
-abbrev pub totalTexts : List String
-totalTexts =
+abbrev pub totalLines : List String
+totalLines =
     ",Livestock,n_excretion,130.000\r\n"
     ∷ ",Livestock,tan_excretion,91.000\r\n"
     ∷ ",Livestock,n_into_housing,0.000\r\n"
@@ -62,8 +88,8 @@ totalTexts =
     ∷ ",Livestock,tan_remain_grazing,69.485\r\n"
     ∷ []
 
-pub totals-of-pigs : totalsListing (totalsOf (figuresOf outdoorPigs ∷ [])) ≡ each bytes totalTexts
-unfolding totalsListing lineOf labelField hasComma kilogramsOf sign thousandthsOf wholeOf width figuresOf totalsOf
+pub totals-of-pigs : totalsListing (totalsOf (pigFigures ∷ [])) ≡ each bytes totalLines
+unfolding totalsListing lineOf labelField hasComma kilogramsOf sign thousandthsOf wholeOf width totalsOf byNumber farmTotal
 totals-of-pigs = refl
 
 pub comma-and-minus : lineOf (bytes "a,b") (bytes "Livestock") (bytes "tan_remain_grazing") (negsuc 5225) ≡ bytes "\"a,b\",Livestock,tan_remain_grazing,-5.226\r\n"

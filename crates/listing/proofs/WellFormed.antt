@@ -1,6 +1,7 @@
 -- A listing is an RFC 4180 file, of which every record ends with CRLF, and its records are those of specs/Records.antt.
 -- Assumes nothing.
 use Prim.Native.Nat.{ℕ, zero, suc, _+_, _/_, _%_, _≤_, _<_}
+use Prim.Native.String.{String}
 use mathlib.Core.Path.{_≡_, refl, sym, ap, subst, _∙_}
 use mathlib.Core.Bool.{Bool, true, false, not, _&&_}
 use mathlib.Core.List.{List, [], _∷_, _++_, map, append-assoc}
@@ -9,6 +10,7 @@ use borrow.Author.Tests.{ltb-true, leb-true, eqb-false, not-true}
 use lib.Dec.{ltb, leb, eqb}
 use lib.IntN.{ℤ, pos, negsuc, natAbs}
 use Rattle.base.specs.Pick.{pick}
+use Rattle.base.specs.Runs.{all}
 use Rattle.base.specs.Text.{bytes}
 use Rattle.base.proofs.Clash.{clash}
 use Rattle.base.proofs.Holds.{both-true}
@@ -18,15 +20,12 @@ use Rattle.inputs.specs.declared.Kind.{Kind}
 use Rattle.inputs.specs.declared.Kind.the-variants.{Roughage, Cattle, Pigs}
 use Rattle.farm.specs.declared.Label.{Label}
 use Rattle.farm.specs.Labels.{byteOk, allOk, text, labelOk}
-use Rattle.model.specs.declared.Figures.{Figures}
-use Rattle.model.specs.declared.Totals.{Totals}
-use Rattle.model.specs.Names as names
-use Rattle.model.specs.Names.{Name, figure}
-use Rattle.model.specs.TotalNames as totals
-use Rattle.model.specs.TotalNames.{TotalName, totalFigure}
-use Rattle.listing.specs.HerdLines.{pathOf, linesOf, sectionOf, textOf}
-use Rattle.listing.specs.TotalLines.{totalPath, totalLines, totalText}
-use Rattle.listing.specs.Listing.{hasComma, labelField, lineOf, each, moduleOf, herdLine, herdLines, herdListing, totalLine, totalsListing}
+use Rattle.outputs.specs.declared.Figures.{Figures}
+use Rattle.outputs.specs.declared.Totals.{Totals}
+use Rattle.outputs.specs.Names.{totalTexts}
+use Rattle.outputs.specs.Grams.{figure, total}
+use Rattle.listing.specs.HerdLines.{pathOf, linesOf, sectionOf}
+use Rattle.listing.specs.Listing.{hasComma, labelField, lineOf, each, moduleOf, herdLine, herdLines, herdListing, totalPath, totalLine, totalsListing}
 use Rattle.listing.specs.Records.{fieldsOf, herdRecords, totalRecords}
 use Rattle.listing.proofs.LabelField.{quoted, bare}
 
@@ -37,8 +36,7 @@ past-comma : (b : ℕ) → 44 < b → Text b
 past-comma b h = record { no-comma = λ e. omega arith; no-quote = λ e. omega arith; no-cr = λ e. omega arith; no-lf = λ e. omega arith }
 
 abbrev allPast : List ℕ → Bool
-allPast [] = true
-allPast (b ∷ rest) = ltb 44 b && allPast rest
+allPast s = all (ltb 44) s
 
 plain : (s : List ℕ) → allPast s ≡ true → Plain s
 plain [] e = Plain.none
@@ -70,48 +68,17 @@ plain-path Roughage = plain _ refl
 plain-path Cattle = plain _ refl
 plain-path Pigs = plain _ refl
 
--- every section and every name, computed
-plain-name : (n : Name) → (allPast (bytes (sectionOf n)) ≡ true) × (allPast (bytes (textOf n)) ≡ true)
-plain-name names.«n_excretion» = (refl, refl)
-plain-name names.«tan_excretion» = (refl, refl)
-plain-name names.«n_into_yard» = (refl, refl)
-plain-name names.«tan_into_yard» = (refl, refl)
-plain-name names.«nh3_nyard» = (refl, refl)
-plain-name names.«n_outyard_liquid» = (refl, refl)
-plain-name names.«tan_outyard_liquid» = (refl, refl)
-plain-name names.«n_into_grazing» = (refl, refl)
-plain-name names.«tan_into_grazing» = (refl, refl)
-plain-name names.«nh3_ngrazing» = (refl, refl)
-plain-name names.«n2_ngrazing» = (refl, refl)
-plain-name names.«no_ngrazing» = (refl, refl)
-plain-name names.«n2o_ngrazing» = (refl, refl)
-plain-name names.«n_remain_grazing» = (refl, refl)
-plain-name names.«tan_remain_grazing» = (refl, refl)
-plain-name names.«n_into_housing» = (refl, refl)
-plain-name names.«tan_into_housing» = (refl, refl)
-plain-name names.«nh3_nhousing» = (refl, refl)
-plain-name names.«n_outhousing» = (refl, refl)
-plain-name names.«tan_outhousing» = (refl, refl)
+-- the section of a name and the name itself; every one that a kind lists, and every total, computed
+abbrev plainName : String → Bool
+plainName n = allPast (bytes (sectionOf n)) && allPast (bytes n)
 
-plain-total : (n : TotalName) → allPast (bytes (totalText n)) ≡ true
-plain-total totals.«n_excretion» = refl
-plain-total totals.«tan_excretion» = refl
-plain-total totals.«n_into_housing» = refl
-plain-total totals.«tan_into_housing» = refl
-plain-total totals.«n_into_yard» = refl
-plain-total totals.«tan_into_yard» = refl
-plain-total totals.«n_into_grazing» = refl
-plain-total totals.«tan_into_grazing» = refl
-plain-total totals.«nh3_nhousing» = refl
-plain-total totals.«nh3_nyard» = refl
-plain-total totals.«nh3_ngrazing» = refl
-plain-total totals.«nh3_nhousing_and_yard» = refl
-plain-total totals.«nh3_nlivestock» = refl
-plain-total totals.«n2_ngrazing» = refl
-plain-total totals.«no_ngrazing» = refl
-plain-total totals.«n2o_ngrazing» = refl
-plain-total totals.«n_remain_grazing» = refl
-plain-total totals.«tan_remain_grazing» = refl
+names-plain : (k : Kind) → all plainName (linesOf k) ≡ true
+names-plain Roughage = refl
+names-plain Cattle = refl
+names-plain Pigs = refl
+
+totals-plain : all (λ (n : String). allPast (bytes n)) totalTexts ≡ true
+totals-plain = refl
 
 -- ---- the label
 
@@ -179,30 +146,32 @@ line label path name g l p n =
       ended = simp append-assoc;
     }
 
-file : {A : Type 0} (fields : A → List (List ℕ)) (of : A → List ℕ) → ((x : A) → Line (fields x) (of x)) → (xs : List A) → FileOf (map fields xs) (each of xs)
-file fields of h [] = FileOf.none
-file fields of h (x ∷ xs) =
-    let l = h x in
+-- lines of what passes a test, one after the other
+file : {A : Type 0} (fields : A → List (List ℕ)) (of : A → List ℕ) (test : A → Bool) → ((x : A) → test x ≡ true → Line (fields x) (of x))
+    → (xs : List A) → all test xs ≡ true → FileOf (map fields xs) (each of xs)
+file fields of test h [] t = FileOf.none
+file fields of test h (x ∷ xs) t =
+    let b = both-true (test x) (all test xs) t in
+    let l = h x (b .0) in
     let e : l .front ++ (cr ∷ lf ∷ each of xs) ≡ of x ++ each of xs = sym (ap (λ (t : List ℕ). t ++ each of xs) (l .ended) ∙ append-assoc (l .front) (cr ∷ lf ∷ []) (each of xs)) in
-    subst (FileOf (fields x ∷ map fields xs)) e (FileOf.more (l .reads) (file fields of h xs))
+    subst (FileOf (fields x ∷ map fields xs)) e (FileOf.more (l .reads) (file fields of test h xs (b .1)))
 
 -- ---- the listings
-
-plain-module : (k : Kind) (n : Name) → Plain (moduleOf k n)
-plain-module k n = plain-append (plain-append (plain-path k) (plain (bytes "::") refl)) (plain _ (plain-name n .0))
 
 -- a herd's listing, of a good label, is a file of its records
 pub listing-reads : (l : Label) (k : Kind) (f : Figures) → labelOk l ≡ true → FileOf (herdRecords l k f) (herdListing l k f)
 unfolding herdLines
 listing-reads l k f ok =
-    file (λ (n : Name). fieldsOf (text l) (moduleOf k n) (bytes (textOf n)) (figure n f)) (herdLine (text l) k f)
-    (λ n. line (text l) (moduleOf k n) (bytes (textOf n)) (figure n f) (label-field (text l) (good-bytes l ok)) (plain-module k n) (plain _ (plain-name n .1)))
-    (linesOf k)
+    file (λ (n : String). fieldsOf (text l) (moduleOf k n) (bytes n) (figure n f)) (herdLine (text l) k f) plainName
+    (λ n e. let p = both-true (allPast (bytes (sectionOf n))) (allPast (bytes n)) e in
+      line (text l) (moduleOf k n) (bytes n) (figure n f) (label-field (text l) (good-bytes l ok))
+      (plain-append (plain-append (plain-path k) (plain (bytes "::") refl)) (plain _ (p .0))) (plain _ (p .1)))
+    (linesOf k) (names-plain k)
 
 -- the totals' listing is a file of its records
 pub totals-read : (t : Totals) → FileOf (totalRecords t) (totalsListing t)
 unfolding totalsListing
 totals-read t =
-    file (λ (n : TotalName). fieldsOf [] (bytes totalPath) (bytes (totalText n)) (totalFigure n t)) (totalLine t)
-    (λ n. line [] (bytes totalPath) (bytes (totalText n)) (totalFigure n t) (label-field [] refl) (plain _ refl) (plain _ (plain-total n)))
-    totalLines
+    file (λ (n : String). fieldsOf [] (bytes totalPath) (bytes n) (total n t)) (totalLine t) (λ (n : String). allPast (bytes n))
+    (λ n e. line [] (bytes totalPath) (bytes n) (total n t) (label-field [] refl) (plain _ refl) (plain _ e))
+    totalTexts totals-plain

@@ -1,61 +1,43 @@
--- Grams that fit the signed numbers that kilograms are written from, and how long a listing can be.
-use Prim.Native.Nat.{ℕ, _+_, _*_, _^_, _<_}
-use lib.IntN.{natAbs}
-use Rattle.model.specs.declared.Totals.{Totals}
+-- How long a listing can be, and its parts. The code's buffers are this long, and its contracts ask for this room; no reader has to believe it.
+use Prim.Native.Nat.{ℕ, _+_, _*_}
+use lib.ListN.{length}
+use Rattle.outputs.specs.Names.{rows}
 
--- each total is below what 63 bits hold
-pub record TotalsFit (t : Totals) : Type 0 where
-  pub n-excretion : t .«n_excretion» < 2 ^ 63
-  pub tan-excretion : t .«tan_excretion» < 2 ^ 63
-  pub n-into-housing : t .«n_into_housing» < 2 ^ 63
-  pub tan-into-housing : t .«tan_into_housing» < 2 ^ 63
-  pub n-into-yard : t .«n_into_yard» < 2 ^ 63
-  pub tan-into-yard : t .«tan_into_yard» < 2 ^ 63
-  pub n-into-grazing : t .«n_into_grazing» < 2 ^ 63
-  pub tan-into-grazing : t .«tan_into_grazing» < 2 ^ 63
-  pub nh3-nhousing : t .«nh3_nhousing» < 2 ^ 63
-  pub nh3-nyard : t .«nh3_nyard» < 2 ^ 63
-  pub nh3-ngrazing : t .«nh3_ngrazing» < 2 ^ 63
-  pub nh3-nhousing-and-yard : t .«nh3_nhousing_and_yard» < 2 ^ 63
-  pub nh3-nlivestock : t .«nh3_nlivestock» < 2 ^ 63
-  pub n2-ngrazing : t .«n2_ngrazing» < 2 ^ 63
-  pub no-ngrazing : t .«no_ngrazing» < 2 ^ 63
-  pub n2o-ngrazing : t .«n2o_ngrazing» < 2 ^ 63
-  pub n-remain-grazing : t .«n_remain_grazing» < 2 ^ 63
-  pub tan-remain-grazing : natAbs (t .«tan_remain_grazing») < 2 ^ 63
-
--- how long the texts of a line can be; the label's field has two quotes more
 abbrev pub longestLabel : ℕ
 longestLabel = 16
 
+-- two quotes more
 abbrev pub longestField : ℕ
 longestField = longestLabel + 2
 
 abbrev pub longestPath : ℕ
-longestPath = 32
+longestPath = 28
 
-abbrev pub longestSection : ℕ
-longestSection = 11
+-- whose line it is: the label's field, a comma, and the path
+abbrev pub longestOwner : ℕ
+longestOwner = longestField + 1 + longestPath
 
-abbrev pub longestName : ℕ
-longestName = 21
+-- section and name, with what stands around them
+abbrev pub longestMiddle : ℕ
+longestMiddle = 29
 
 abbrev pub longestKilograms : ℕ
 longestKilograms = 21
 
--- whose line it is and what it says, with the commas and CRLF
-abbrev pub longestOwner : ℕ
-longestOwner = longestField + 1 + longestPath + longestSection
-
-abbrev pub longestAmount : ℕ
-longestAmount = 1 + longestName + 1 + longestKilograms + 2
-
+-- with CRLF
 abbrev pub longestLine : ℕ
-longestLine = longestOwner + longestAmount
+longestLine = longestOwner + longestMiddle + longestKilograms + 2
 
--- a listing, and how many lines it has
+-- a herd lists no name twice, and there are not more totals than names
 abbrev pub mostLines : ℕ
-mostLines = 18
+mostLines = length rows
 
 abbrev pub longest : ℕ
 longest = mostLines * longestLine
+
+-- a text is copied in blocks of so many bytes, and is at most three of them
+abbrev pub block : ℕ
+block = 16
+
+abbrev pub longestText : ℕ
+longestText = 3 * block

@@ -1,5 +1,4 @@
 pub mod HerdLines
-pub mod TotalLines
 pub mod Listing
 pub mod Records
 pub mod Answer

@@ -1,6 +1,7 @@
 -- 01, The listing, byte by byte: "RFC 4180 again, CRLF after every record: label, module, output name, kilograms with exactly three
 -- decimals, `-` in front only below zero. A label with a comma is quoted, no other field is."
 use Prim.Native.Nat.{ℕ}
+use Prim.Native.String.{String}
 use mathlib.Core.Bool.{Bool, true, false}
 use mathlib.Core.List.{List, [], _∷_, _++_}
 use lib.IntN.{ℤ}
@@ -11,12 +12,11 @@ use Rattle.decimal.specs.Writing.{kilogramsOf}
 use Rattle.inputs.specs.declared.Kind.{Kind}
 use Rattle.farm.specs.declared.Label.{Label}
 use Rattle.farm.specs.Labels.{text}
-use Rattle.model.specs.declared.Figures.{Figures}
-use Rattle.model.specs.declared.Totals.{Totals}
-use Rattle.model.specs.Names.{Name, figure}
-use Rattle.model.specs.TotalNames.{TotalName, totalFigure}
-use Rattle.listing.specs.HerdLines.{pathOf, linesOf, sectionOf, textOf}
-use Rattle.listing.specs.TotalLines.{totalPath, totalLines, totalText}
+use Rattle.outputs.specs.declared.Figures.{Figures}
+use Rattle.outputs.specs.declared.Totals.{Totals}
+use Rattle.outputs.specs.Names.{totalTexts}
+use Rattle.outputs.specs.Grams.{figure, total}
+use Rattle.listing.specs.HerdLines.{pathOf, linesOf, sectionOf}
 
 unfoldable pub hasComma : List ℕ → Bool
 hasComma [] = false
@@ -36,12 +36,14 @@ abbrev pub each : {A : Type 0} → (A → List ℕ) → List A → List ℕ
 each f [] = []
 each f (x ∷ xs) = f x ++ each f xs
 
+-- ---- a herd
+
 -- the module that a herd's line stands under
-abbrev pub moduleOf : Kind → Name → List ℕ
+abbrev pub moduleOf : Kind → String → List ℕ
 moduleOf k n = bytes (pathOf k) ++ bytes "::" ++ bytes (sectionOf n)
 
-abbrev pub herdLine : List ℕ → Kind → Figures → Name → List ℕ
-herdLine label k f n = lineOf label (moduleOf k n) (bytes (textOf n)) (figure n f)
+abbrev pub herdLine : List ℕ → Kind → Figures → String → List ℕ
+herdLine label k f n = lineOf label (moduleOf k n) (bytes n) (figure n f)
 
 -- a herd's lines, by the bytes of its label
 unfoldable pub herdLines : List ℕ → Kind → Figures → List ℕ
@@ -51,10 +53,14 @@ herdLines label k f = each (herdLine label k f) (linesOf k)
 abbrev pub herdListing : Label → Kind → Figures → List ℕ
 herdListing l k f = herdLines (text l) k f
 
--- "empty label, module `Livestock`"
-abbrev pub totalLine : Totals → TotalName → List ℕ
-totalLine t n = lineOf [] (bytes totalPath) (bytes (totalText n)) (totalFigure n t)
+-- ---- the totals: "empty label, module `Livestock`"
 
--- the totals' listing
+abbrev pub totalPath : String
+totalPath = "Livestock"
+
+abbrev pub totalLine : Totals → String → List ℕ
+totalLine t n = lineOf [] (bytes totalPath) (bytes n) (total n t)
+
+-- the totals' listing, in the order in which `outputs` has them, which is 01's
 unfoldable pub totalsListing : Totals → List ℕ
-totalsListing t = each (totalLine t) totalLines
+totalsListing t = each (totalLine t) totalTexts

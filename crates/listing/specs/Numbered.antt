@@ -1,97 +1,81 @@
--- The listing by the numbers that the code has for names and sections. proofs/Same.antt shows that this is 01's listing.
-use Prim.Native.Nat.{ℕ, _≤_}
+-- The listing as the code goes about it: by the numbers of names and kinds, with texts from tables. No reader has to believe it:
+-- proofs/AsListed.antt shows that it is 01's listing.
+use Prim.Native.Nat.{ℕ, _+_, _≤_}
 use Prim.Native.String.{String}
-use mathlib.Core.Bool.{Bool, true, _&&_}
 use mathlib.Core.Path.{_≡_}
 use mathlib.Core.List.{List, [], _∷_, _++_, map}
-use lib.Dec.{ltb}
+use lib.Dec.{T, ltb, leb}
 use lib.ListN.{length, getD}
-use lib.IntN.{ℤ, pos}
+use lib.IntN.{ℤ}
+use Rattle.base.specs.Part.{part}
+use Rattle.base.specs.Runs.{joined, starts, all}
 use Rattle.base.specs.Text.{bytes}
 use Rattle.decimal.specs.Writing.{kilogramsOf}
-use Rattle.model.specs.declared.Figures.{Figures}
-use Rattle.model.specs.declared.Totals.{Totals}
-use Rattle.model.specs.Names.{Name, figure}
-use Rattle.listing.specs.HerdLines.{excretion, yard, grazing, intoHousing, roughageHousing, textOf}
-use Rattle.listing.specs.Bounds.{longestField, longestPath, mostLines}
-use Rattle.listing.specs.Listing.{each}
+use Rattle.inputs.specs.declared.Kind.{Kind}
+use Rattle.inputs.specs.declared.Kind.the-variants.{Roughage, Cattle, Pigs}
+use Rattle.outputs.specs.Names.{Row, rows, number, totalTexts}
+use Rattle.outputs.specs.Grams.{at}
+use Rattle.listing.specs.HerdLines.{pathOf, linesOf}
+use Rattle.listing.specs.Bounds.{longestMiddle, mostLines}
+use Rattle.listing.specs.Listing.{labelField, each}
 
--- a herd's names in the order of their numbers
-abbrev pub herdNames : List Name
-herdNames = excretion ++ yard ++ grazing ++ intoHousing ++ roughageHousing
+-- ---- the kinds by number
 
--- and behind them the two that the totals alone have
-abbrev pub names : List String
-names = map textOf herdNames ++ ("nh3_nhousing_and_yard" ∷ "nh3_nlivestock" ∷ [])
+abbrev pub kinds : List Kind
+kinds = Roughage ∷ Cattle ∷ Pigs ∷ []
 
-unfoldable pub nameAt : ℕ → List ℕ
-nameAt n = bytes (getD names n "")
+abbrev pub kindNumber : Kind → ℕ
+kindNumber Roughage = 0
+kindNumber Cattle = 1
+kindNumber Pigs = 2
 
--- what stands behind a kind's path; the last is the totals'
-abbrev pub sections : List String
-sections = "::Excretion" ∷ "::Yard" ∷ "::Grazing" ∷ "::Housing" ∷ "" ∷ []
+-- the path of each
+abbrev pub paths : List (List ℕ)
+paths = map (λ (k : Kind). bytes (pathOf k)) kinds
 
-unfoldable pub sectionAt : ℕ → List ℕ
-sectionAt s = bytes (getD sections s "")
+-- the numbers of the names that each lists
+abbrev pub listed : List (List ℕ)
+listed = map (λ (k : Kind). map number (linesOf k)) kinds
 
--- a herd's grams by number
-abbrev pub gramsOf : Figures → List ℤ
-gramsOf f = map (λ (n : Name). figure n f) herdNames ++ (pos 0 ∷ pos 0 ∷ [])
+-- ---- what stands in a line between its owner and its amount, by the number of the name
 
--- the totals' grams by number
-abbrev pub totalGramsOf : Totals → List ℤ
-totalGramsOf t =
-    pos (t .«n_excretion»)
-    ∷ pos (t .«tan_excretion»)
-    ∷ pos (t .«n_into_yard»)
-    ∷ pos (t .«tan_into_yard»)
-    ∷ pos (t .«nh3_nyard»)
-    ∷ pos 0
-    ∷ pos 0
-    ∷ pos (t .«n_into_grazing»)
-    ∷ pos (t .«tan_into_grazing»)
-    ∷ pos (t .«nh3_ngrazing»)
-    ∷ pos (t .«n2_ngrazing»)
-    ∷ pos (t .«no_ngrazing»)
-    ∷ pos (t .«n2o_ngrazing»)
-    ∷ pos (t .«n_remain_grazing»)
-    ∷ t .«tan_remain_grazing»
-    ∷ pos (t .«n_into_housing»)
-    ∷ pos (t .«tan_into_housing»)
-    ∷ pos (t .«nh3_nhousing»)
-    ∷ pos 0
-    ∷ pos 0
-    ∷ pos (t .«nh3_nhousing_and_yard»)
-    ∷ pos (t .«nh3_nlivestock»)
-    ∷ []
+-- more of the module behind the path, and the name
+pub record Entry : Type 0 where
+  pub under : List ℕ
+  pub name : List ℕ
 
--- a line's two halves: whose it is, by the label's field, the path and the section; and what it says
-unfoldable pub ownerOf : List ℕ → List ℕ → ℕ → List ℕ
-ownerOf field path section = field ++ bytes "," ++ path ++ sectionAt section
+abbrev pub herdEntries : List Entry
+herdEntries = map (λ (r : Row). record { under = bytes "::" ++ bytes (r .section); name = bytes (r .text) }) rows
 
-unfoldable pub amountOf : ℕ → ℤ → List ℕ
-amountOf name grams = bytes "," ++ nameAt name ++ bytes "," ++ kilogramsOf grams ++ bytes "\r\n"
+abbrev pub totalEntries : List Entry
+totalEntries = map (λ (t : String). record { under = []; name = bytes t }) totalTexts
 
--- the line of a name, under the path and the name's section
-abbrev pub numberedLine : List ℕ → List ℕ → List ℕ → List ℤ → ℕ → List ℕ
-numberedLine field path under grams n = ownerOf field path (getD under n 0) ++ amountOf n (getD grams n (pos 0))
+abbrev pub middleOf : Entry → List ℕ
+middleOf e = e .under ++ bytes "," ++ e .name ++ bytes ","
 
+abbrev pub middles : List Entry → List (List ℕ)
+middles es = map middleOf es
+
+-- ---- lines
+
+-- whose line it is
+unfoldable pub ownerOf : List ℕ → List ℕ → List ℕ
+ownerOf label path = labelField label ++ bytes "," ++ path
+
+unfoldable pub putTogether : List ℕ → List ℕ → ℤ → List ℕ
+putTogether owner middle grams = owner ++ middle ++ kilogramsOf grams ++ bytes "\r\n"
+
+-- the lines of these numbers; a middle stands in the table from its start to the next
 unfoldable pub numbered : List ℕ → List ℕ → List ℕ → List ℤ → List ℕ → List ℕ
-numbered field path under grams lines = each (numberedLine field path under grams) lines
+numbered owner table from grams lines =
+    each (λ (n : ℕ). putTogether owner (part table (getD from n 0) (getD from (n + 1) 0)) (at grams n)) lines
 
--- every number is below k
-abbrev pub below : ℕ → List ℕ → Bool
-below k [] = true
-below k (x ∷ xs) = ltb x k && below k xs
-
--- every name has its section, and the lines are names, few of them
-pub record Known (under lines : List ℕ) : Type 0 where
-  pub for-each : length under ≡ length names
-  pub are-sections : below (length sections) under ≡ true
-  pub are-names : below (length names) lines ≡ true
+-- the table has a middle for each of the grams, and the lines are numbers of these, few of them
+pub record Known (table from : List ℕ) (grams : List ℤ) (lines : List ℕ) : Type 0 where
+  pub texts : List (List ℕ)
+  pub table-is : table ≡ joined texts
+  pub starts-are : from ≡ starts 0 texts
+  pub short : T (all (λ (t : List ℕ). leb (length t) longestMiddle) texts)
+  pub as-many : length grams ≡ length texts
+  pub are-numbers : T (all (λ (n : ℕ). ltb n (length texts)) lines)
   pub few : length lines ≤ mostLines
-
--- the label's field and the path are short
-pub record Short (field path : List ℕ) : Type 0 where
-  pub field-short : length field ≤ longestField
-  pub path-short : length path ≤ longestPath

@@ -1,21 +1,22 @@
 // 01, The listing: a herd's lines and the totals' lines, byte by byte, into a lent buffer; or refusal 13, and nothing is written. Knows
 // nothing of files.
-mod texts; // the line list, and the texts of a line
-mod grams; // figures and totals by the numbers of their names
-mod lines; // a label's field, a line, and lines one after the other
+mod texts; // the line list
+mod blocks; // a text copied a block at a time
+mod owners; // whose lines they are
+mod lines; // a line, and lines one after the other
 
 use farm::Fault;
 use farm::Label;
 use inputs::Kind;
-use model::Figures;
-use model::Totals;
-ghost use Prim.Native.Nat.{_≤_};
+use outputs::Figures;
+use outputs::Totals;
+use outputs::names;
+ghost use Prim.Native.Nat.{_+_, _≤_};
 ghost use lib.ListN.{length};
 ghost use Rattle.base.specs.Part.{part};
 ghost use Rattle.base.specs.Wrote.{Wrote};
-ghost use Rattle.model.specs.Sums.{FiguresTo, figureMost};
-ghost use Rattle.listing.specs.Bounds.{TotalsFit, longestLabel, longest};
-ghost use Rattle.listing.specs.Listing.{herdLines, herdListing, totalsListing};
+ghost use Rattle.listing.specs.Bounds.{longest};
+ghost use Rattle.listing.specs.Listing.{herdListing, totalsListing};
 ghost use Rattle.listing.specs.Answer.{Answered};
 
 // What a writing call says: the listing's length, or a fault and a record's number.
@@ -24,60 +25,58 @@ pub enum Written {
     Refused(Fault, usize),
 }
 
-// As long as a label's field can be: 16 bytes and two quotes.
-const FIELD_MOST: usize = 18;
+// How long a line's parts can be: the label's field with two quotes, the path of a kind, section and name, kilograms.
+const LABEL_MOST: usize = 16;
 
-// As long as a listing can be: 18 lines of 108 bytes.
-const LONGEST: usize = 18 * 108;
+const PATH_MOST: usize = 28;
 
-fn put_herd_lines(out: &mut [u8], label: &[u8], kind: Kind, f: Figures) -> usize
-    requires { ⌜ FiguresTo figureMost f × (length (now label) ≤ longestLabel) × (longest ≤ length (now out)) ⌝ }
-    ensures { λ r. ⌜ Wrote (now (out .entry)) 0 (herdLines (now (label .entry)) kind f) (now (out .exit)) r × (r ≤ longest) ⌝ }
+const OWNER_MOST: usize = LABEL_MOST + 2 + 1 + PATH_MOST;
+
+const MIDDLE_MOST: usize = 29;
+
+const KILOGRAMS_MOST: usize = 21;
+
+// As long as a listing can be.
+pub const LONGEST: usize = names::COUNT * (OWNER_MOST + MIDDLE_MOST + KILOGRAMS_MOST + 2);
+
+// A herd's listing from `at` on; the end of it.
+pub fn put_herd_lines(out: &mut [u8], at: usize, label: Label, kind: Kind, f: Figures) -> usize
+    requires { ⌜ at + longest ≤ length (now out) ⌝ }
+    ensures { λ r. ⌜ Wrote (now (out .entry)) at (herdListing label kind f) (now (out .exit)) r × (r ≤ at + longest) ⌝ }
 {
-    let by_name = grams::of_figures(f);
-    let mut bytes = [0u8; FIELD_MOST];
-    let n = lines::put_label(&mut bytes, label);
-    let field = base::part_of(&bytes, 0, n);
-    match kind {
-        Kind::Roughage => lines::put_lines(
-            out,
-            field,
-            &texts::ROUGHAGE_PATH,
-            &texts::HERD_SECTIONS,
-            &texts::ROUGHAGE_LINES,
-            &by_name,
-        ),
-        Kind::Cattle => lines::put_lines(
-            out,
-            field,
-            &texts::CATTLE_PATH,
-            &texts::HERD_SECTIONS,
-            &texts::CATTLE_LINES,
-            &by_name,
-        ),
-        Kind::Pigs => lines::put_lines(
-            out,
-            field,
-            &texts::PIG_PATH,
-            &texts::HERD_SECTIONS,
-            &texts::PIG_LINES,
-            &by_name,
-        ),
-    }
-}
-
-fn put_total_lines(out: &mut [u8], t: Totals) -> usize
-    requires { ⌜ TotalsFit t × (longest ≤ length (now out)) ⌝ }
-    ensures { λ r. ⌜ Wrote (now (out .entry)) 0 (totalsListing t) (now (out .exit)) r × (r ≤ longest) ⌝ }
-{
-    let by_name = grams::of_totals(t);
+    let mut in_owner = [0u8; OWNER_MOST];
+    let n = owners::put_owner(&mut in_owner, label, kind);
+    let owner = base::part_of(&in_owner, 0, n);
+    let k = owners::number_of(kind);
+    let from = texts::LINE_STARTS[k];
+    let to = texts::LINE_STARTS[k + 1];
+    let listed = texts::LINES;
+    let grams = f.grams;
     lines::put_lines(
         out,
-        b"",
-        &texts::TOTAL_PATH,
-        &texts::TOTAL_SECTIONS,
+        at,
+        owner,
+        &texts::MIDDLES,
+        &texts::STARTS,
+        &grams,
+        &listed[from..to],
+    )
+}
+
+// The totals' listing from `at` on; the end of it.
+pub fn put_total_lines(out: &mut [u8], at: usize, t: Totals) -> usize
+    requires { ⌜ at + longest ≤ length (now out) ⌝ }
+    ensures { λ r. ⌜ Wrote (now (out .entry)) at (totalsListing t) (now (out .exit)) r × (r ≤ at + longest) ⌝ }
+{
+    let grams = t.grams;
+    lines::put_lines(
+        out,
+        at,
+        &texts::TOTAL_OWNER,
+        &texts::TOTAL_MIDDLES,
+        &texts::TOTAL_STARTS,
+        &grams,
         &texts::TOTAL_LINES,
-        &by_name,
     )
 }
 
@@ -94,28 +93,24 @@ fn hand_over(out: &mut [u8], written: &[u8], n: usize) -> Written
 
 // A herd's listing.
 pub fn write_herd(out: &mut [u8], label: Label, kind: Kind, f: Figures) -> Written
-    requires { ⌜ FiguresTo figureMost f ⌝ }
     ensures { λ r. ⌜ Answered (herdListing label kind f) (now (out .entry)) (now (out .exit)) r ⌝ }
 {
-    let bytes = label.bytes;
-    let text = base::part_of(&bytes, 0, label.len);
     if LONGEST <= out.len() {
-        return Written::Length(put_herd_lines(out, text, kind, f));
+        return Written::Length(put_herd_lines(out, 0, label, kind, f));
     }
     let mut scratch = [0u8; LONGEST];
-    let n = put_herd_lines(&mut scratch, text, kind, f);
+    let n = put_herd_lines(&mut scratch, 0, label, kind, f);
     hand_over(out, &scratch, n)
 }
 
 // The totals' listing.
 pub fn write_totals(out: &mut [u8], t: Totals) -> Written
-    requires { ⌜ TotalsFit t ⌝ }
     ensures { λ r. ⌜ Answered (totalsListing t) (now (out .entry)) (now (out .exit)) r ⌝ }
 {
     if LONGEST <= out.len() {
-        return Written::Length(put_total_lines(out, t));
+        return Written::Length(put_total_lines(out, 0, t));
     }
     let mut scratch = [0u8; LONGEST];
-    let n = put_total_lines(&mut scratch, t);
+    let n = put_total_lines(&mut scratch, 0, t);
     hand_over(out, &scratch, n)
 }

@@ -1,222 +1,141 @@
-// The line list of 01, The listing, once: the output names and the sections by number, the section that each name stands in, and the lines of
-// each listing in their order. A new line of a kind is a number in its list here and a name in its list in specs/HerdLines.antt.
-ghost use Prim.Native.Nat.{_+_, _≤_, _<_};
-ghost use lib.ListN.{length};
-ghost use Rattle.base.specs.Wrote.{Wrote};
-ghost use Rattle.listing.specs.Bounds.{longestName, longestSection};
-ghost use Rattle.listing.specs.Numbered.{names, nameAt, sections, sectionAt};
+// The line list of 01, The listing, once: the texts of a line and the lines of each listing, by number. Texts and lists stand one after the
+// other in a table, with where each starts. A constant table is built anew at each use: a call builds it once and lends it.
+use outputs::names;
+use outputs::total_names;
 
-// The names by number.
-pub const N_EXCRETION: usize = 0;
+// How many kinds of herd there are.
+const KINDS: usize = 3;
 
-pub const TAN_EXCRETION: usize = 1;
+// The path of each kind.
+pub const PATHS: [u8; 74] = *b"\
+Livestock::RoughageConsuming\
+Livestock::OtherCattle\
+Livestock::FatteningPigs";
 
-pub const N_INTO_YARD: usize = 2;
+pub const PATH_STARTS: [usize; KINDS + 1] = [0, 28, 50, 74];
 
-pub const TAN_INTO_YARD: usize = 3;
-
-pub const NH3_NYARD: usize = 4;
-
-pub const N_OUTYARD_LIQUID: usize = 5;
-
-pub const TAN_OUTYARD_LIQUID: usize = 6;
-
-pub const N_INTO_GRAZING: usize = 7;
-
-pub const TAN_INTO_GRAZING: usize = 8;
-
-pub const NH3_NGRAZING: usize = 9;
-
-pub const N2_NGRAZING: usize = 10;
-
-pub const NO_NGRAZING: usize = 11;
-
-pub const N2O_NGRAZING: usize = 12;
-
-pub const N_REMAIN_GRAZING: usize = 13;
-
-pub const TAN_REMAIN_GRAZING: usize = 14;
-
-pub const N_INTO_HOUSING: usize = 15;
-
-pub const TAN_INTO_HOUSING: usize = 16;
-
-pub const NH3_NHOUSING: usize = 17;
-
-pub const N_OUTHOUSING: usize = 18;
-
-pub const TAN_OUTHOUSING: usize = 19;
-
-pub const NH3_NHOUSING_AND_YARD: usize = 20;
-
-pub const NH3_NLIVESTOCK: usize = 21;
-
-pub const NAMES_IN_ALL: usize = 22;
-
-// The sections by number; the totals stand in none.
-const EXCRETION: usize = 0;
-
-const YARD: usize = 1;
-
-const GRAZING: usize = 2;
-
-const HOUSING: usize = 3;
-
-const NO_SECTION: usize = 4;
-
-// The section of each name in a herd's listing, and in that of the totals.
-pub const HERD_SECTIONS: [usize; NAMES_IN_ALL] = [
-    EXCRETION,
-    EXCRETION,
-    YARD,
-    YARD,
-    YARD,
-    YARD,
-    YARD,
-    GRAZING,
-    GRAZING,
-    GRAZING,
-    GRAZING,
-    GRAZING,
-    GRAZING,
-    GRAZING,
-    GRAZING,
-    HOUSING,
-    HOUSING,
-    HOUSING,
-    HOUSING,
-    HOUSING,
-    NO_SECTION,
-    NO_SECTION,
+// The lines of each kind.
+pub const LINES: [usize; 44] = [
+    // roughage
+    names::N_EXCRETION,
+    names::TAN_EXCRETION,
+    names::N_INTO_GRAZING,
+    names::TAN_INTO_GRAZING,
+    names::NH3_NGRAZING,
+    names::N2_NGRAZING,
+    names::NO_NGRAZING,
+    names::N2O_NGRAZING,
+    names::N_REMAIN_GRAZING,
+    names::TAN_REMAIN_GRAZING,
+    names::N_INTO_HOUSING,
+    names::TAN_INTO_HOUSING,
+    names::NH3_NHOUSING,
+    names::N_OUTHOUSING,
+    names::TAN_OUTHOUSING,
+    // cattle
+    names::N_EXCRETION,
+    names::TAN_EXCRETION,
+    names::N_INTO_YARD,
+    names::TAN_INTO_YARD,
+    names::NH3_NYARD,
+    names::N_OUTYARD_LIQUID,
+    names::TAN_OUTYARD_LIQUID,
+    names::N_INTO_GRAZING,
+    names::TAN_INTO_GRAZING,
+    names::NH3_NGRAZING,
+    names::N2_NGRAZING,
+    names::NO_NGRAZING,
+    names::N2O_NGRAZING,
+    names::N_REMAIN_GRAZING,
+    names::TAN_REMAIN_GRAZING,
+    names::N_INTO_HOUSING,
+    names::TAN_INTO_HOUSING,
+    // pigs
+    names::N_EXCRETION,
+    names::TAN_EXCRETION,
+    names::N_INTO_GRAZING,
+    names::TAN_INTO_GRAZING,
+    names::NH3_NGRAZING,
+    names::N2_NGRAZING,
+    names::NO_NGRAZING,
+    names::N2O_NGRAZING,
+    names::N_REMAIN_GRAZING,
+    names::TAN_REMAIN_GRAZING,
+    names::N_INTO_HOUSING,
+    names::TAN_INTO_HOUSING,
 ];
 
-pub const TOTAL_SECTIONS: [usize; NAMES_IN_ALL] = [NO_SECTION; NAMES_IN_ALL];
+pub const LINE_STARTS: [usize; KINDS + 1] = [0, 15, 32, 44];
 
-// The path of each kind of herd, and of the totals; a section stands behind it.
-pub const ROUGHAGE_PATH: [u8; 28] = *b"Livestock::RoughageConsuming";
+// What stands in a herd's line between its owner and its amount, by the number of the name.
+pub const MIDDLES: [u8; 478] = *b"\
+::Excretion,n_excretion,\
+::Excretion,tan_excretion,\
+::Yard,n_into_yard,\
+::Yard,tan_into_yard,\
+::Yard,nh3_nyard,\
+::Yard,n_outyard_liquid,\
+::Yard,tan_outyard_liquid,\
+::Grazing,n_into_grazing,\
+::Grazing,tan_into_grazing,\
+::Grazing,nh3_ngrazing,\
+::Grazing,n2_ngrazing,\
+::Grazing,no_ngrazing,\
+::Grazing,n2o_ngrazing,\
+::Grazing,n_remain_grazing,\
+::Grazing,tan_remain_grazing,\
+::Housing,n_into_housing,\
+::Housing,tan_into_housing,\
+::Housing,nh3_nhousing,\
+::Housing,n_outhousing,\
+::Housing,tan_outhousing,";
 
-pub const CATTLE_PATH: [u8; 22] = *b"Livestock::OtherCattle";
+pub const STARTS: [usize; names::COUNT + 1] = [0, 24, 50, 69, 90, 107, 131, 157, 182, 209, 232, 254, 276, 299, 326, 355, 380, 407, 430, 453, 478];
 
-pub const PIG_PATH: [u8; 24] = *b"Livestock::FatteningPigs";
+// What the totals' lines begin with: an empty label, and the path.
+pub const TOTAL_OWNER: [u8; 10] = *b",Livestock";
 
-pub const TOTAL_PATH: [u8; 9] = *b"Livestock";
-
-// The lines of each kind of herd, and of the totals.
-pub const ROUGHAGE_LINES: [usize; 15] = [
-    N_EXCRETION,
-    TAN_EXCRETION,
-    N_INTO_GRAZING,
-    TAN_INTO_GRAZING,
-    NH3_NGRAZING,
-    N2_NGRAZING,
-    NO_NGRAZING,
-    N2O_NGRAZING,
-    N_REMAIN_GRAZING,
-    TAN_REMAIN_GRAZING,
-    N_INTO_HOUSING,
-    TAN_INTO_HOUSING,
-    NH3_NHOUSING,
-    N_OUTHOUSING,
-    TAN_OUTHOUSING,
+// The totals' lines.
+pub const TOTAL_LINES: [usize; total_names::COUNT] = [
+    total_names::N_EXCRETION,
+    total_names::TAN_EXCRETION,
+    total_names::N_INTO_HOUSING,
+    total_names::TAN_INTO_HOUSING,
+    total_names::N_INTO_YARD,
+    total_names::TAN_INTO_YARD,
+    total_names::N_INTO_GRAZING,
+    total_names::TAN_INTO_GRAZING,
+    total_names::NH3_NHOUSING,
+    total_names::NH3_NYARD,
+    total_names::NH3_NGRAZING,
+    total_names::NH3_NHOUSING_AND_YARD,
+    total_names::NH3_NLIVESTOCK,
+    total_names::N2_NGRAZING,
+    total_names::NO_NGRAZING,
+    total_names::N2O_NGRAZING,
+    total_names::N_REMAIN_GRAZING,
+    total_names::TAN_REMAIN_GRAZING,
 ];
 
-pub const CATTLE_LINES: [usize; 17] = [
-    N_EXCRETION,
-    TAN_EXCRETION,
-    N_INTO_YARD,
-    TAN_INTO_YARD,
-    NH3_NYARD,
-    N_OUTYARD_LIQUID,
-    TAN_OUTYARD_LIQUID,
-    N_INTO_GRAZING,
-    TAN_INTO_GRAZING,
-    NH3_NGRAZING,
-    N2_NGRAZING,
-    NO_NGRAZING,
-    N2O_NGRAZING,
-    N_REMAIN_GRAZING,
-    TAN_REMAIN_GRAZING,
-    N_INTO_HOUSING,
-    TAN_INTO_HOUSING,
-];
+// What stands in a line of the totals between its owner and its amount, by the number of the total.
+pub const TOTAL_MIDDLES: [u8; 280] = *b"\
+,n_excretion,\
+,tan_excretion,\
+,n_into_housing,\
+,tan_into_housing,\
+,n_into_yard,\
+,tan_into_yard,\
+,n_into_grazing,\
+,tan_into_grazing,\
+,nh3_nhousing,\
+,nh3_nyard,\
+,nh3_ngrazing,\
+,nh3_nhousing_and_yard,\
+,nh3_nlivestock,\
+,n2_ngrazing,\
+,no_ngrazing,\
+,n2o_ngrazing,\
+,n_remain_grazing,\
+,tan_remain_grazing,";
 
-pub const PIG_LINES: [usize; 12] = [
-    N_EXCRETION,
-    TAN_EXCRETION,
-    N_INTO_GRAZING,
-    TAN_INTO_GRAZING,
-    NH3_NGRAZING,
-    N2_NGRAZING,
-    NO_NGRAZING,
-    N2O_NGRAZING,
-    N_REMAIN_GRAZING,
-    TAN_REMAIN_GRAZING,
-    N_INTO_HOUSING,
-    TAN_INTO_HOUSING,
-];
-
-pub const TOTAL_LINES: [usize; 18] = [
-    N_EXCRETION,
-    TAN_EXCRETION,
-    N_INTO_HOUSING,
-    TAN_INTO_HOUSING,
-    N_INTO_YARD,
-    TAN_INTO_YARD,
-    N_INTO_GRAZING,
-    TAN_INTO_GRAZING,
-    NH3_NHOUSING,
-    NH3_NYARD,
-    NH3_NGRAZING,
-    NH3_NHOUSING_AND_YARD,
-    NH3_NLIVESTOCK,
-    N2_NGRAZING,
-    NO_NGRAZING,
-    N2O_NGRAZING,
-    N_REMAIN_GRAZING,
-    TAN_REMAIN_GRAZING,
-];
-
-// The name of this number.
-pub fn put_name(out: &mut [u8], at: usize, name: usize) -> usize
-    requires { ⌜ (name < length names) × (at + longestName ≤ length (now out)) ⌝ }
-    ensures { λ r. ⌜ Wrote (now (out .entry)) at (nameAt name) (now (out .exit)) r × (r ≤ at + longestName) ⌝ }
-{
-    match name {
-        N_EXCRETION => base::put(out, at, b"n_excretion"),
-        TAN_EXCRETION => base::put(out, at, b"tan_excretion"),
-        N_INTO_YARD => base::put(out, at, b"n_into_yard"),
-        TAN_INTO_YARD => base::put(out, at, b"tan_into_yard"),
-        NH3_NYARD => base::put(out, at, b"nh3_nyard"),
-        N_OUTYARD_LIQUID => base::put(out, at, b"n_outyard_liquid"),
-        TAN_OUTYARD_LIQUID => base::put(out, at, b"tan_outyard_liquid"),
-        N_INTO_GRAZING => base::put(out, at, b"n_into_grazing"),
-        TAN_INTO_GRAZING => base::put(out, at, b"tan_into_grazing"),
-        NH3_NGRAZING => base::put(out, at, b"nh3_ngrazing"),
-        N2_NGRAZING => base::put(out, at, b"n2_ngrazing"),
-        NO_NGRAZING => base::put(out, at, b"no_ngrazing"),
-        N2O_NGRAZING => base::put(out, at, b"n2o_ngrazing"),
-        N_REMAIN_GRAZING => base::put(out, at, b"n_remain_grazing"),
-        TAN_REMAIN_GRAZING => base::put(out, at, b"tan_remain_grazing"),
-        N_INTO_HOUSING => base::put(out, at, b"n_into_housing"),
-        TAN_INTO_HOUSING => base::put(out, at, b"tan_into_housing"),
-        NH3_NHOUSING => base::put(out, at, b"nh3_nhousing"),
-        N_OUTHOUSING => base::put(out, at, b"n_outhousing"),
-        TAN_OUTHOUSING => base::put(out, at, b"tan_outhousing"),
-        NH3_NHOUSING_AND_YARD => base::put(out, at, b"nh3_nhousing_and_yard"),
-        _ => base::put(out, at, b"nh3_nlivestock"),
-    }
-}
-
-// The same of a section.
-pub fn put_section(out: &mut [u8], at: usize, section: usize) -> usize
-    requires { ⌜ (section < length sections) × (at + longestSection ≤ length (now out)) ⌝ }
-    ensures { λ r. ⌜ Wrote (now (out .entry)) at (sectionAt section) (now (out .exit)) r × (r ≤ at + longestSection) ⌝ }
-{
-    match section {
-        EXCRETION => base::put(out, at, b"::Excretion"),
-        YARD => base::put(out, at, b"::Yard"),
-        GRAZING => base::put(out, at, b"::Grazing"),
-        HOUSING => base::put(out, at, b"::Housing"),
-        _ => at,
-    }
-}
+pub const TOTAL_STARTS: [usize; total_names::COUNT + 1] = [0, 13, 28, 44, 62, 75, 90, 106, 124, 138, 149, 163, 186, 202, 215, 228, 242, 260, 280];

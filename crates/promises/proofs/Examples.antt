@@ -2,7 +2,7 @@
 -- Assumes nothing.
 use Prim.Native.Nat.{ℕ}
 use Prim.Native.String.{String}
-use mathlib.Core.Path.{_≡_, refl}
+use mathlib.Core.Path.{_≡_, refl, ap, _∙_}
 use mathlib.Core.List.{List, [], _∷_}
 use lib.ListN.{replicate}
 use Rattle.base.specs.Text.{bytes}
@@ -17,9 +17,12 @@ use Rattle.reader.specs.Files.{readOf, accepted}
 use Rattle.rules.specs.Rules.{farmOf}
 use Rattle.rules.proofs.Accepts.{accepts-exactly}
 use Rattle.rules.proofs.Examples.{pigs-keep}
+use Rattle.outputs.specs.declared.Figures.{Figures}
 use Rattle.model.specs.Typed.{typedOf, pigsOf, housingAt}
-use Rattle.listing.specs.Listing.{each}
-use Rattle.listing.proofs.Examples.{pigLines, pig-listing}
+use Rattle.model.specs.Herd.{figuresOf}
+use Rattle.model.specs.Answers.{herdFigures}
+use Rattle.listing.specs.Listing.{each, herdListing}
+use Rattle.listing.proofs.Examples.{pigFigures, pigLines, pig-listing}
 use Rattle.calls.specs.Listings.{fileHerdCall, listingAt}
 
 -- the file
@@ -46,9 +49,14 @@ pigHerd =
 pigs-read : readOf (each bytes pigFile) ≡ accepted (farmOf (pigHerd ∷ []))
 pigs-read = accepts-exactly (each bytes pigFile) (farmOf (pigHerd ∷ [])) .1 pigs-keep
 
+-- its figures are those that 01 prints
+pigs-figured : herdFigures pigHerd ≡ pigFigures
+unfolding typedOf pigsOf housingAt figuresOf
+pigs-figured = refl
+
 pigs-listed : listingAt (farmOf (pigHerd ∷ [])) 0 ≡ each bytes pigLines
-unfolding typedOf pigsOf housingAt labelOf
-pigs-listed = pig-listing (pigHerd .label) refl
+unfolding labelOf
+pigs-listed = ap (λ (f : Figures). herdListing (pigHerd .label) Pigs f) pigs-figured ∙ pig-listing (pigHerd .label) refl
 
 -- the herd call on 01's file, for its first herd: accepted, with 01's lines
 pub pig-file-listed : fileHerdCall (each bytes pigFile) 0 ≡ record { checked = Accepted; listing = each bytes pigLines }

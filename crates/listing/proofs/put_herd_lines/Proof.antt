@@ -1,37 +1,54 @@
--- `listing::put_herd_lines` meets its contract: in each arm the lines by number, with the label's field, are the kind's lines. Assumes
+-- `listing::put_herd_lines` meets its contract: what is lent is the owner of the herd's lines, the table of middles and the kind's lines. Assumes
 -- nothing.
-use Prim.Native.Nat.{ℕ, _≤_}
+use Prim.Native.Nat.{_+_, _≤_}
 use mathlib.Core.Path.{_≡_, ap, _∙_}
-use mathlib.Core.List.{List}
+use mathlib.Core.List.{map}
 use native.Mathlib.Omega.{arith}
 use denote.Ref.{now}
-use lib.ListN.{length}
-use Rattle.inputs.specs.declared.Kind.the-variants.{Roughage, Cattle, Pigs}
-use Rattle.listing.specs.Bounds.{longestPath}
-use Rattle.listing.specs.Listing.{labelField}
-use Rattle.listing.specs.Numbered.{Short}
+use lib.ListN.{length, getD}
+use Rattle.base.specs.Runs.{joined, starts}
+use Rattle.base.specs.Text.{bytes}
+use Rattle.base.proofs.Runs.{Run}
+use Rattle.inputs.specs.declared.Kind.{Kind}
+use Rattle.farm.specs.Labels.{text}
+use Rattle.outputs.specs.Names.{rows, number}
+use Rattle.listing.specs.Bounds.{longestOwner}
+use Rattle.listing.specs.HerdLines.{pathOf, linesOf}
+use Rattle.listing.specs.Numbered.{listed, ownerOf}
 use Rattle.listing.proofs.Answers.{part-is}
-use Rattle.listing.proofs.Same.{herd-wrote}
+use Rattle.listing.proofs.KindTables.{lines-run}
+use Rattle.listing.proofs.AsListed.{herd-known, herd-wrote}
 use borrow.Author.Needs.{needs}
 use Rattle.listing.proofs.put_herd_lines.Statement.{statement}
 use Rattle.listing.proofs.put_herd_lines.Tie as tie
 
--- the part that is handed to the lines is the label's field
-field-is : (c : tie.After-part-of) → now (c .part-of .result) ≡ labelField (now (c .before .before .before .before .before .before .before .before .args .label))
-field-is c = let p = c .before .before .before in c .part-of .ensures ∙ part-is (p .put-label .ensures .0) (search needs)
+abbrev owner-put : tie.After-part-of → tie.After-put-owner
+owner-put p = p .before .before .before
 
--- and short
-short : (c : tie.After-part-of) (path : List ℕ) → length path ≤ longestPath → Short (now (c .part-of .result)) path
-short c path h = record { field-short = omega (arith, ap length (field-is c), c .before .before .before .put-label .ensures); path-short = h }
+abbrev begin : tie.After-part-of → tie.Start
+begin p = owner-put p .before .before .before
 
-of-figures-requires : tie.Need-of-figures-requires
-of-figures-requires c κs = search needs
+abbrev kind-of : tie.After-number-of → Kind
+kind-of n = begin (n .before) .args .kind
 
-slice-aggregate-put-label : tie.Need-slice-aggregate-put-label
-slice-aggregate-put-label c = search needs
+owner-is : (p : tie.After-part-of) → let a = begin p .args in now (p .part-of .result) ≡ ownerOf (text (a .label)) (bytes (pathOf (a .kind)))
+owner-is p = p .part-of .ensures ∙ part-is (owner-put p .put-owner .ensures .0) (search needs)
 
-put-label-requires : tie.Need-put-label-requires
-put-label-requires c κs = search needs
+owner-short : (p : tie.After-part-of) → length (now (p .part-of .result)) ≤ longestOwner
+owner-short p = let w = owner-put p .put-owner .ensures in omega (arith, ap length (owner-is p), w .0 .past, w .1)
+
+grams-long : (s : tie.Start) → length (s .args .f .grams) ≡ length rows
+grams-long s = search needs
+
+-- the kind's lines in their table
+run : (n : tie.After-number-of) → let k = n .number-of .result in Run (joined listed) (map number (linesOf (kind-of n))) (getD (starts 0 listed) k 0) (getD (starts 0 listed) (k + 1) 0)
+run n = lines-run (kind-of n) (n .number-of .ensures .0) (n .number-of .ensures .1)
+
+slice-aggregate-put-owner : tie.Need-slice-aggregate-put-owner
+slice-aggregate-put-owner c = search needs
+
+put-owner-requires : tie.Need-put-owner-requires
+put-owner-requires c κs = search needs
 
 slice-aggregate-part-of : tie.Need-slice-aggregate-part-of
 slice-aggregate-part-of c = search needs
@@ -39,8 +56,23 @@ slice-aggregate-part-of c = search needs
 part-of-requires : tie.Need-part-of-requires
 part-of-requires c κs = search needs
 
-enum-told : tie.Need-enum-told
-enum-told c = search needs
+number-of-requires : tie.Need-number-of-requires
+number-of-requires c κs = search needs
+
+mul-from : tie.Need-mul-from
+mul-from c = search needs
+
+array-read-from : tie.Need-array-read-from
+array-read-from c = search needs
+
+add-to : tie.Need-add-to
+add-to c = search needs
+
+mul-to : tie.Need-mul-to
+mul-to c = search needs
+
+array-read-to : tie.Need-array-read-to
+array-read-to c = search needs
 
 slice-aggregate-put-lines : tie.Need-slice-aggregate-put-lines
 slice-aggregate-put-lines c = search needs
@@ -48,32 +80,25 @@ slice-aggregate-put-lines c = search needs
 slice-aggregate-put-lines-2 : tie.Need-slice-aggregate-put-lines-2
 slice-aggregate-put-lines-2 c = search needs
 
-put-lines-requires : tie.Need-put-lines-requires
-put-lines-requires c κs = let p = c .before .before .before .before .before .before .before in (search needs, short p _ (search needs), search needs)
-
-enum-told-2 : tie.Need-enum-told-2
-enum-told-2 c = search needs
-
 slice-aggregate-put-lines-3 : tie.Need-slice-aggregate-put-lines-3
 slice-aggregate-put-lines-3 c = search needs
 
-slice-aggregate-put-lines-4 : tie.Need-slice-aggregate-put-lines-4
-slice-aggregate-put-lines-4 c = search needs
+mul-put-lines : tie.Need-mul-put-lines
+mul-put-lines c = let r = run (c .before .before .before .before .before) in search needs
 
-put-lines-requires-2 : tie.Need-put-lines-requires-2
-put-lines-requires-2 c κs = let p = c .before .before .before .before .before .before .before in (search needs, short p _ (search needs), search needs)
+sub-put-lines : tie.Need-sub-put-lines
+sub-put-lines c = let r = run (c .before .before .before .before .before) in search needs
 
-enum-told-3 : tie.Need-enum-told-3
-enum-told-3 c = search needs
+part-put-lines-start : tie.Need-part-put-lines-start
+part-put-lines-start c = let r = run (c .before .before .before .before .before .before) in search needs
 
-slice-aggregate-put-lines-5 : tie.Need-slice-aggregate-put-lines-5
-slice-aggregate-put-lines-5 c = search needs
+part-put-lines-end : tie.Need-part-put-lines-end
+part-put-lines-end c = let r = run (c .before .before .before .before .before .before) in search needs
 
-slice-aggregate-put-lines-6 : tie.Need-slice-aggregate-put-lines-6
-slice-aggregate-put-lines-6 c = search needs
-
-put-lines-requires-3 : tie.Need-put-lines-requires-3
-put-lines-requires-3 c κs = let p = c .before .before .before .before .before .before .before in (search needs, short p _ (search needs), search needs)
+put-lines-requires : tie.Need-put-lines-requires
+put-lines-requires c κs =
+    let n = c .before .before .before .before .before .before .before in
+    (herd-known (kind-of n) (grams-long (begin (n .before))) (run n .part-is), owner-short (n .before), search needs)
 
 same-length : tie.Need-same-length
 same-length c = search needs
@@ -81,54 +106,31 @@ same-length c = search needs
 returns : tie.Need-returns
 returns c =
     let d = c .before .before in
-    let e = d .before .before .before .before .before .before in
-    let p = e .before .before in
-    (herd-wrote Roughage (e .enum-told .given .1) (p .before .before .before .before .before .of-figures .ensures) _ (field-is p) (d .put-lines .ensures .0), search needs)
-
-same-length-2 : tie.Need-same-length-2
-same-length-2 c = search needs
-
-returns-2 : tie.Need-returns-2
-returns-2 c =
-    let d = c .before .before in
-    let e = d .before .before .before .before .before .before in
-    let p = e .before .before in
-    (herd-wrote Cattle (e .enum-told2 .given .1) (p .before .before .before .before .before .of-figures .ensures) _ (field-is p) (d .put-lines2 .ensures .0), search needs)
-
-same-length-3 : tie.Need-same-length-3
-same-length-3 c = search needs
-
-returns-3 : tie.Need-returns-3
-returns-3 c =
-    let d = c .before .before in
-    let e = d .before .before .before .before .before .before in
-    let p = e .before .before in
-    (herd-wrote Pigs (e .enum-told3 .given .1) (p .before .before .before .before .before .of-figures .ensures) _ (field-is p) (d .put-lines3 .ensures .0), search needs)
+    let n = d .before .before .before .before .before .before .before .before in
+    let a = begin (n .before) .args in
+    (herd-wrote (a .label) (a .kind) (a .f) (owner-is (n .before)) (run n .part-is) (d .put-lines .ensures .0), d .put-lines .ensures .1)
 
 pub put-herd-lines-spec : {M : Type 1} → statement M
 put-herd-lines-spec =
     tie.close
     (tie.spec
-    of-figures-requires
-    slice-aggregate-put-label
-    put-label-requires
+    slice-aggregate-put-owner
+    put-owner-requires
     slice-aggregate-part-of
     part-of-requires
-    enum-told
+    number-of-requires
+    mul-from
+    array-read-from
+    add-to
+    mul-to
+    array-read-to
     slice-aggregate-put-lines
     slice-aggregate-put-lines-2
-    put-lines-requires
-    enum-told-2
     slice-aggregate-put-lines-3
-    slice-aggregate-put-lines-4
-    put-lines-requires-2
-    enum-told-3
-    slice-aggregate-put-lines-5
-    slice-aggregate-put-lines-6
-    put-lines-requires-3
+    mul-put-lines
+    sub-put-lines
+    part-put-lines-start
+    part-put-lines-end
+    put-lines-requires
     same-length
-    returns
-    same-length-2
-    returns-2
-    same-length-3
-    returns-3)
+    returns)

@@ -1,28 +1,69 @@
--- `listing::lines::put_line` meets its contract, half by half. A callee sees a signed argument as what is read back of its bits.
--- Assumes nothing.
+-- `listing::lines::put_line` meets its contract, by its calls, one after the other. A callee sees a signed argument as what is read back of
+-- its bits. Assumes nothing.
+use Prim.Native.Nat.{_≤_}
 use mathlib.Core.Path.{ap}
+use native.Mathlib.Omega.{arith}
+use lib.ListN.{length}
+use mir.Syntax.{w64}
+use mir.Val.{toZ, ofZ}
 use mir.Facts.{toZ-ofZ}
 use Rattle.base.proofs.Writes.{said, joined}
-use Rattle.listing.specs.Numbered.{amountOf}
+use Rattle.decimal.specs.Writing.{kilogramsOf}
+use Rattle.decimal.proofs.Kilograms.{kilograms-short}
+use Rattle.listing.specs.Bounds.{longestKilograms}
+use Rattle.listing.proofs.LineByLine.{line-is}
 use borrow.Author.Needs.{needs}
 use Rattle.listing.proofs.lines.put_line.Statement.{statement}
 use Rattle.listing.proofs.lines.put_line.Tie as tie
 
-put-owner-requires : tie.Need-put-owner-requires
-put-owner-requires c κs = search needs
+short : (s : tie.Start) → length (kilogramsOf (toZ w64 (ofZ w64 (s .args .grams)))) ≤ longestKilograms
+short s = omega (arith, kilograms-short (s .args .grams) (s .fits .grams), ap (λ z. length (kilogramsOf z)) (toZ-ofZ (s .fits .grams)))
 
-put-amount-requires : tie.Need-put-amount-requires
-put-amount-requires c κs = search needs
+-- what is known before the kilograms are written, and the room for them
+abbrev begin : tie.After-put-text → tie.Start
+begin a = a .before .before .before .before .before
+
+abbrev owner-put : tie.After-put-text2 → tie.After-put-text
+owner-put b = b .before .before .before .before
+
+put-text-requires : tie.Need-put-text-requires
+put-text-requires c κs = search needs
+
+put-text-requires-2 : tie.Need-put-text-requires-2
+put-text-requires-2 c κs = search needs
+
+put-kilograms-requires : tie.Need-put-kilograms-requires
+put-kilograms-requires c κs = let b = c .before .before .before in omega (arith, short (begin (owner-put b)))
+
+slice-aggregate-put : tie.Need-slice-aggregate-put
+slice-aggregate-put c = search needs
+
+put-requires : tie.Need-put-requires
+put-requires c κs = let b = c .before .before .before .before .before .before .before .before in omega (arith, short (begin (owner-put b)))
 
 same-length : tie.Need-same-length
 same-length c = search needs
 
 returns : tie.Need-returns
 returns c =
-    let b = c .before .before in
-    let a = b .before .before .before .before in
-    let s = a .before .before .before .before .before in
-    (joined (a .put-owner .ensures .0) (said (ap (amountOf (s .args .name)) (toZ-ofZ (s .fits .grams))) (b .put-amount .ensures .0)), search needs)
+    let e = c .before .before in
+    let d = e .before .before .before .before .before in
+    let b = d .before .before .before .before in
+    let a = owner-put b in
+    let s = begin a in
+    let k = said (ap kilogramsOf (toZ-ofZ (s .fits .grams))) (d .put-kilograms .ensures) in (
+      said (line-is _ _ (s .args .grams)) (joined (joined (joined (a .put-text .ensures) (b .put-text2 .ensures)) k) (e .put .ensures)),
+      omega (arith, short s),
+    )
 
 pub put-line-spec : {M : Type 1} → statement M
-put-line-spec = tie.close (tie.spec put-owner-requires put-amount-requires same-length returns)
+put-line-spec =
+    tie.close
+    (tie.spec
+    put-text-requires
+    put-text-requires-2
+    put-kilograms-requires
+    slice-aggregate-put
+    put-requires
+    same-length
+    returns)

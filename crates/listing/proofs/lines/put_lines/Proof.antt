@@ -1,54 +1,81 @@
--- `listing::lines::put_lines` meets its contract: what is still to be written is the lines of the names that are left, and each line takes
+-- `listing::lines::put_lines` meets its contract: what is still to be written is the lines of the numbers that are left, and each line takes
 -- at most its room. Assumes nothing.
-use Prim.Native.Nat.{_≤_, _-_, _*_}
+use Prim.Native.Nat.{_+_, _-_, _*_, _≤_}
 use native.Mathlib.Omega.{arith}
-use lib.ListN.{length, drop}
+use denote.Ref.{now}
+use lib.ListN.{length, getD, drop, length-take, length-drop}
+use mir.Facts.{toZ-ofZ}
+use Rattle.base.specs.Part.{part}
 use Rattle.listing.specs.Bounds.{longestLine}
 use Rattle.listing.specs.Numbered.{numbered}
-use Rattle.listing.proofs.Going.{Going, begun}
-use Rattle.listing.proofs.Runs.{knowns, name-known, section-known, line-put, all-put}
+use Rattle.listing.proofs.LineByLine.{ToCome, Stands, begun, stands, line-put, all-put}
 use borrow.Author.Needs.{needs, sfits-of}
-use mir.Facts.{toZ-ofZ}
 use Rattle.listing.proofs.lines.put_lines.Statement.{statement}
 use Rattle.listing.proofs.lines.put_lines.Tie as tie
 
 abbrev Inv-loop : tie.InvT-loop
-Inv-loop out₀ field path under lines grams at₀ k₀ out at k =
-    (k ≤ length lines) × Going out₀ (numbered field path under grams lines) out (numbered field path under grams (drop k lines)) at × (at ≤ k * longestLine)
+Inv-loop out₀ at owner middles starts grams lines next₀ k₀ out next k =
+    (k ≤ length lines)
+    × ToCome out₀ at (numbered owner middles starts grams lines) out (numbered owner middles starts grams (drop k lines)) next
+    × (next ≤ at + k * longestLine)
 
 abbrev μ-loop : tie.MeasureT-loop
-μ-loop out₀ field path under lines grams at₀ k₀ out at k = length lines - k
+μ-loop out₀ at owner middles starts grams lines next₀ k₀ out next k = length lines - k
 
 loop-holds : tie.Need-loop-holds Inv-loop μ-loop
 loop-holds c = (search needs, begun, search needs)
 
-mul-name : tie.Need-mul-name Inv-loop μ-loop
-mul-name c = search needs
+mul-n : tie.Need-mul-n Inv-loop μ-loop
+mul-n c = search needs
 
-shared-slice-read-name : tie.Need-shared-slice-read-name Inv-loop μ-loop
-shared-slice-read-name c = search needs
+shared-slice-read-n : tie.Need-shared-slice-read-n Inv-loop μ-loop
+shared-slice-read-n c = search needs
 
-mul-section : tie.Need-mul-section Inv-loop μ-loop
-mul-section c = search (needs, knowns)
+-- the middle of the line's number stands in the table
+abbrev begin : tie.At-loop Inv-loop μ-loop → tie.Start Inv-loop μ-loop
+begin l = l .before .before .before .before .before .before
 
-element-copy-out-section : tie.Need-element-copy-out-section Inv-loop μ-loop
-element-copy-out-section c = search (needs, knowns)
+here : (c : tie.In-loop Inv-loop μ-loop) → let a = begin (c .before) .args in Stands (now (a .middles)) (now (a .starts)) (now (a .grams)) (getD (now (a .lines)) (c .before .loop .k) 0)
+here c = stands (begin (c .before) .pre .0) _ (c .loop-test .taken)
 
-mul-g : tie.Need-mul-g Inv-loop μ-loop
-mul-g c = search (needs, knowns)
+mul-from : tie.Need-mul-from Inv-loop μ-loop
+mul-from c = let s = here (c .before) in search needs
 
-element-copy-out-g : tie.Need-element-copy-out-g Inv-loop μ-loop
-element-copy-out-g c = search (needs, knowns)
+shared-slice-read-from : tie.Need-shared-slice-read-from Inv-loop μ-loop
+shared-slice-read-from c = let s = here (c .before .before) in search needs
+
+add-to : tie.Need-add-to Inv-loop μ-loop
+add-to c = let s = here (c .before .before) in search needs
+
+mul-to : tie.Need-mul-to Inv-loop μ-loop
+mul-to c = let s = here (c .before .before) in search needs
+
+shared-slice-read-to : tie.Need-shared-slice-read-to Inv-loop μ-loop
+shared-slice-read-to c = let s = here (c .before .before .before) in search needs
+
+sub-put-line : tie.Need-sub-put-line Inv-loop μ-loop
+sub-put-line c = let s = here (c .before .before .before .before) in search needs
+
+part-put-line-start : tie.Need-part-put-line-start Inv-loop μ-loop
+part-put-line-start c = let s = here (c .before .before .before .before) in search needs
+
+part-put-line-end : tie.Need-part-put-line-end Inv-loop μ-loop
+part-put-line-end c = let s = here (c .before .before .before .before) in search needs
+
+mul-put-line : tie.Need-mul-put-line Inv-loop μ-loop
+mul-put-line c = let s = here (c .before .before .before .before .before) in search needs
+
+shared-slice-copy-out-put-line : tie.Need-shared-slice-copy-out-put-line Inv-loop μ-loop
+shared-slice-copy-out-put-line c = let s = here (c .before .before .before .before .before) in search needs
 
 put-line-requires : tie.Need-put-line-requires Inv-loop μ-loop
 put-line-requires c κs =
-    let t = c .before .before .before .before in
-    let s = t .before .before .before .before .before .before in
-    let n = name-known _ _ (s .pre .0) _ (t .loop-test .taken) in (
-      section-known _ _ (s .pre .0) _ n,
-      n,
-      s .pre .1,
-      omega (arith, s .pre .0 .few, s .pre .2, t .before .loop .inv .1 .same, t .before .loop .inv .2),
+    let l = c .before .before .before .before .before .before in
+    let s = here l in
+    let b = begin (l .before) in (
+      b .pre .1,
+      simp (length-take, length-drop) (omega arith),
+      omega (arith, b .pre .0 .few, b .pre .2, l .before .loop .inv .1 .same, l .before .loop .inv .2),
     )
 
 add-k : tie.Need-add-k Inv-loop μ-loop
@@ -58,20 +85,21 @@ loop-less : tie.Need-loop-less Inv-loop μ-loop
 loop-less c = search needs
 
 loop-again : tie.Need-loop-again Inv-loop μ-loop
+unfolding part
 loop-again c =
-    let b = c .before .before in
-    let a = b .before .before in
-    let t = a .before .before .before in (
+    let p = c .before .before in
+    let g = p .before in
+    let l = g .before .before .before .before .before .before in (
       search needs,
-      line-put _ _ _ _ _ _ (t .loop-test .taken) _ (toZ-ofZ (sfits-of (a .g .given))) _ _ _ _ _ _ (t .before .loop .inv .1) (b .put-line .ensures .0),
-      omega (arith, t .before .loop .inv .2, b .put-line .ensures .1),
+      line-put _ _ _ _ _ _ (l .loop-test .taken) _ (toZ-ofZ (sfits-of (g .put-line-arg3 .given))) (l .before .loop .inv .1) (p .put-line .ensures .0),
+      omega (arith, l .before .loop .inv .2, p .put-line .ensures .1),
     )
 
 same-length : tie.Need-same-length Inv-loop μ-loop
 same-length c = c .before .loop .inv .1 .same
 
 returns : tie.Need-returns Inv-loop μ-loop
-returns c = (search (needs, all-put), omega (arith, c .before .before .before .before .before .before .pre .0 .few))
+returns c = let l = c .before in (all-put _ _ _ _ _ _ (c .loop-test .left) (l .loop .inv .1), omega (arith, begin l .pre .0 .few, l .loop .inv .2))
 
 pub put-lines-spec : {M : Type 1} → statement M
 put-lines-spec =
@@ -80,12 +108,18 @@ put-lines-spec =
     Inv-loop
     μ-loop
     loop-holds
-    mul-name
-    shared-slice-read-name
-    mul-section
-    element-copy-out-section
-    mul-g
-    element-copy-out-g
+    mul-n
+    shared-slice-read-n
+    mul-from
+    shared-slice-read-from
+    add-to
+    mul-to
+    shared-slice-read-to
+    sub-put-line
+    part-put-line-start
+    part-put-line-end
+    mul-put-line
+    shared-slice-copy-out-put-line
     put-line-requires
     add-k
     loop-less

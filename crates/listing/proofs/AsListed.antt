@@ -1,0 +1,125 @@
+-- The lines by number, with texts from the tables, are the lines of 01's listing. Assumes nothing.
+use Prim.Native.Nat.{ℕ, zero, suc, _+_, _≤_, _<_}
+use mathlib.Core.Path.{_≡_, refl, ap, _∙_}
+use mathlib.Core.List.{List, [], _∷_, _++_, map, append-assoc}
+use native.Mathlib.Nat.{le-of-suc-le-suc}
+use native.Mathlib.Omega.{arith}
+use lib.Dec.{T, ltb, ltb→lt}
+use lib.ListN.{length, getD, length-map}
+use lib.IntN.{ℤ}
+use Rattle.base.specs.Part.{part}
+use Rattle.base.specs.Runs.{joined, starts, all}
+use Rattle.base.specs.Text.{bytes}
+use Rattle.base.specs.Wrote.{Wrote}
+use Rattle.base.proofs.Runs.{run-at}
+use Rattle.base.proofs.Table.{both-left, both-right}
+use Rattle.base.proofs.Writes.{said}
+use Rattle.inputs.specs.declared.Kind.{Kind}
+use Rattle.inputs.specs.declared.Kind.the-variants.{Roughage, Cattle, Pigs}
+use Rattle.farm.specs.declared.Label.{Label}
+use Rattle.farm.specs.Labels.{text}
+use Rattle.outputs.specs.declared.Figures.{Figures}
+use Rattle.outputs.specs.declared.Totals.{Totals}
+use Rattle.outputs.specs.Names.{rows, number, totals, totalNumber, totalTexts}
+use Rattle.outputs.specs.Grams.{at}
+use Rattle.listing.specs.Bounds.{mostLines}
+use Rattle.listing.specs.HerdLines.{pathOf, linesOf}
+use Rattle.listing.specs.Listing.{hasComma, labelField, lineOf, each, totalPath, herdLines, herdListing, totalsListing}
+use Rattle.listing.specs.Numbered.{Entry, herdEntries, totalEntries, middleOf, middles, ownerOf, putTogether, numbered, Known}
+
+abbrev noEntry : Entry
+noEntry = record { under = []; name = [] }
+
+middle-at : (es : List Entry) (n : ℕ) → n < length es → getD (middles es) n [] ≡ middleOf (getD es n noEntry)
+middle-at [] n h = absurd (omega arith)
+middle-at (e ∷ es) zero h = refl
+middle-at (e ∷ es) (suc n) h = middle-at es n (le-of-suc-le-suc h)
+
+line-is : (label path : List ℕ) (e : Entry) (g : ℤ) → putTogether (ownerOf label path) (middleOf e) g ≡ lineOf label (path ++ e .under) (e .name) g
+unfolding ownerOf putTogether lineOf
+line-is label path e g = simp append-assoc
+
+-- the lines of any entries
+module _ (label path : List ℕ) (es : List Entry) (grams : List ℤ) where
+  abbrev inFull : ℕ → List ℕ
+  inFull n = let e = getD es n noEntry in lineOf label (path ++ e .under) (e .name) (at grams n)
+
+  in-full : (n : ℕ) → n < length es
+      → putTogether (ownerOf label path) (part (joined (middles es)) (getD (starts 0 (middles es)) n 0) (getD (starts 0 (middles es)) (n + 1) 0)) (at grams n) ≡ inFull n
+  unfolding part
+  in-full n h =
+      let m = run-at (middles es) n (omega (arith, length-map es middleOf)) .part-is ∙ middle-at es n h in
+      ap (λ (t : List ℕ). putTogether (ownerOf label path) t (at grams n)) m ∙ line-is label path (getD es n noEntry) (at grams n)
+
+  numbered-is : (ns : List ℕ) → T (all (λ (n : ℕ). ltb n (length es)) ns)
+      → numbered (ownerOf label path) (joined (middles es)) (starts 0 (middles es)) grams ns ≡ each inFull ns
+  unfolding numbered
+  numbered-is [] t = refl
+  numbered-is (n ∷ ns) t =
+      let d = in-full n (ltb→lt _ _ (both-left (ltb n (length es)) (all (λ (n : ℕ). ltb n (length es)) ns) t)) in
+      let e = numbered-is ns (both-right (ltb n (length es)) (all (λ (n : ℕ). ltb n (length es)) ns) t) in
+      rw (d, e)
+
+-- ---- a herd
+
+abbrev herdTable : List ℕ
+herdTable = joined (middles herdEntries)
+
+abbrev herdStarts : List ℕ
+herdStarts = starts 0 (middles herdEntries)
+
+-- every name that a kind lists is one, and they are few
+herd-numbers : (k : Kind) → T (all (λ (n : ℕ). ltb n (length herdEntries)) (map number (linesOf k))) × (length (map number (linesOf k)) ≤ mostLines)
+herd-numbers Roughage = (tt, omega arith)
+herd-numbers Cattle = (tt, omega arith)
+herd-numbers Pigs = (tt, omega arith)
+
+pub herd-known : (k : Kind) {grams : List ℤ} {lines : List ℕ} → length grams ≡ length rows → lines ≡ map number (linesOf k) → Known herdTable herdStarts grams lines
+herd-known k {grams} n e = rw e (record {
+  texts = middles herdEntries;
+  table-is = refl;
+  starts-are = refl;
+  short = tt;
+  as-many = n;
+  are-numbers = herd-numbers k .0;
+  few = herd-numbers k .1;
+})
+
+as-listed : (label : List ℕ) (k : Kind) (f : Figures) → numbered (ownerOf label (bytes (pathOf k))) herdTable herdStarts (f .grams) (map number (linesOf k)) ≡ herdLines label k f
+unfolding herdLines
+as-listed label Roughage f = numbered-is label (bytes (pathOf Roughage)) herdEntries (f .grams) (map number (linesOf Roughage)) tt
+as-listed label Cattle f = numbered-is label (bytes (pathOf Cattle)) herdEntries (f .grams) (map number (linesOf Cattle)) tt
+as-listed label Pigs f = numbered-is label (bytes (pathOf Pigs)) herdEntries (f .grams) (map number (linesOf Pigs)) tt
+
+pub herd-wrote : (l : Label) (k : Kind) (f : Figures) {owner lines : List ℕ} → owner ≡ ownerOf (text l) (bytes (pathOf k)) → lines ≡ map number (linesOf k)
+    → {old new : List ℕ} {from next : ℕ} → Wrote old from (numbered owner herdTable herdStarts (f .grams) lines) new next → Wrote old from (herdListing l k f) new next
+herd-wrote l k f d e w = said (rw (d, e) (as-listed (text l) k f)) w
+
+-- ---- the totals
+
+abbrev totalTable : List ℕ
+totalTable = joined (middles totalEntries)
+
+abbrev totalStarts : List ℕ
+totalStarts = starts 0 (middles totalEntries)
+
+abbrev totalNumbers : List ℕ
+totalNumbers = map totalNumber totalTexts
+
+pub totals-known : {grams : List ℤ} → length grams ≡ length totals → Known totalTable totalStarts grams totalNumbers
+totals-known n =
+    record {
+      texts = middles totalEntries;
+      table-is = refl;
+      starts-are = refl;
+      short = tt;
+      as-many = n;
+      are-numbers = tt;
+      few = omega arith;
+    }
+
+-- the owner is an empty label's field, a comma and the path
+pub totals-wrote : (t : Totals) {old new : List ℕ} {from next : ℕ} → Wrote old from (numbered (bytes "," ++ bytes totalPath) totalTable totalStarts (t .grams) totalNumbers) new next
+    → Wrote old from (totalsListing t) new next
+unfolding totalsListing ownerOf labelField hasComma
+totals-wrote t w = said (numbered-is [] (bytes totalPath) totalEntries (t .grams) totalNumbers tt) w

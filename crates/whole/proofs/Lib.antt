@@ -1,0 +1,2 @@
+pub mod FarmSteps
+pub mod RefusalLine

@@ -1,0 +1,9 @@
+// What a file is answered with, put together as bytes: an accepted farm's listing, herd after herd and then the totals, or the line of a refusal;
+// and a farm's notes. Each herd's figures are worked out once, and what reading has checked is not checked again.
+pub mod farms; // an accepted farm's listing
+pub mod refusals; // the line of a refusal
+
+const HERDS_MOST: usize = 64;
+
+// Room for the listing of any farm.
+pub const FARM_ROOM: usize = (HERDS_MOST + 1) * listing::LONGEST;
