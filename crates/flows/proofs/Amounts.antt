@@ -1,12 +1,13 @@
 -- A portion of an amount, and the rest of it: what the code's cut division needs, and that the TAN stays no more than the N.
 -- Assumes nothing.
-use mathlib.Core.Path.{_≡_}
+use mathlib.Core.Path.{_≡_, refl}
 use Prim.Native.Nat.{ℕ, _+_, _-_, _*_, _/_, _≤_, _<_}
 use native.Mathlib.Nat.{mul-le-mul-left, le-refl, le-trans, add-mul-div-right}
 use native.Mathlib.Omega.{arith}
 use mir.Syntax.{w64}
 use mir.Val.{Fits}
-use Rattle.cut.specs.Cut.{_cutBy_}
+use Rattle.cut.specs.declared.Quotient.{Quotient}
+use Rattle.cut.specs.Cut.{quotientOf, _cutBy_}
 use Rattle.cut.proofs.Products.{mul-fits}
 use Rattle.cut.proofs.Shares.{cut-mono, part-le, part-mono}
 use Rattle.flows.specs.Bounds.{Fit, PortionOf, Modest}
@@ -17,8 +18,8 @@ module _ (amount shares of : ℕ) (fit : Fit amount shares of) where
   pub product-fits : Fits w64 (amount * shares)
   product-fits = mul-fits 4000000000 1000000000 tt (fit .amount-most) (omega arith)
 
-  pub is-portion : (r : ℕ) → r ≡ amount * shares cutBy of → PortionOf amount shares of r
-  is-portion r e = record { is = e; most = omega (arith, part-le amount shares of (fit .within)) }
+  pub is-portion : (q : Quotient) → q ≡ quotientOf (amount * shares) of → PortionOf amount shares of q
+  is-portion q e = record { cut = e; is = rw e refl; most = rw e (part-le amount shares of (fit .within)) }
 
 pub ruleset portion-steps = (product-fits, is-portion)
 
@@ -33,7 +34,7 @@ module _ (n tan shares of : ℕ) (m : Modest n tan) where
       }
 
   -- of two portions that the code has made
-  pub modest-portion : (a b : ℕ) → PortionOf n shares of a → PortionOf tan shares of b → Modest a b
+  pub modest-portion : (a b : Quotient) → PortionOf n shares of a → PortionOf tan shares of b → Modest (a .whole) (b .whole)
   modest-portion a b p q =
       record {
         n-most = omega arith;

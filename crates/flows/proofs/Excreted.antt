@@ -4,6 +4,7 @@ use Prim.Native.Nat.{ℕ, _*_, _≤_}
 use native.Mathlib.Omega.{arith}
 use mir.Syntax.{w64}
 use mir.Val.{Fits}
+use Rattle.cut.specs.declared.Quotient.{Quotient}
 use Rattle.cut.proofs.Products.{mul-to}
 use Rattle.cut.proofs.Shares.{part-le}
 use Rattle.tables.proofs.Standards.{standard-most}
@@ -53,8 +54,8 @@ module _ (animals grams fraction : ℕ) (ha : animals ≤ mostAnimals) (hg : gra
   pub fraction-fit : Fit (animals * grams) fraction tenThousandths
   fraction-fit = record { amount-most = omega (arith, n-le); of-most = omega arith; above = omega arith; within = hf }
 
-  pub is-excretion : (tan : ℕ) → PortionOf (animals * grams) fraction tenThousandths tan
-      → _≡_ {A = ExcretionIn cutting} (record { «n_excretion» = animals * grams; «tan_excretion» = tan }) (excreted cutting animals grams fraction)
+  pub is-excretion : (tan : Quotient) → PortionOf (animals * grams) fraction tenThousandths tan
+      → _≡_ {A = ExcretionIn cutting} (record { «n_excretion» = animals * grams; «tan_excretion» = tan .whole }) (excreted cutting animals grams fraction)
   is-excretion tan p = rw (p .is) refl
 
 pub ruleset excretion-steps = (n-fits, fraction-fit, is-excretion)

@@ -7,6 +7,7 @@ use native.Mathlib.Omega.{arith}
 use borrow.Author.Tests.{lt-ltb, le-ltb}
 use mir.Syntax.{w64}
 use mir.Val.{Fits}
+use Rattle.cut.specs.declared.Quotient.{Quotient}
 use Rattle.cut.specs.Cut.{_cutBy_}
 use Rattle.cut.proofs.Products.{mul-fits, mul-to}
 use Rattle.cut.proofs.Shares.{part-le, least-most}
@@ -59,17 +60,17 @@ pub ruleset growth-steps = (grown-fits, sum-fits, is-mean, is-one)
 
 -- ---- 2.85, ef_nh3_nhousing
 
-module _ (r : Roughage) (c rate factor : ℕ) (g : Factor mostGrowth («c_grazing» cutting (r .«grazing_days») (r .«grazing_hours»)) c)
-    (p : PortionOf c «er_housing» thousandths rate) (q : PortionOf rate (percent - r .«free_correction_factor») percent factor) where
-  before-ceiling : factor
+module _ (r : Roughage) (c : ℕ) (rate factor : Quotient) (g : Factor mostGrowth («c_grazing» cutting (r .«grazing_days») (r .«grazing_hours»)) c)
+    (p : PortionOf c «er_housing» thousandths rate) (q : PortionOf (rate .whole) (percent - r .«free_correction_factor») percent factor) where
+  before-ceiling : factor .whole
       ≡ portion cutting (portion cutting («c_grazing» cutting (r .«grazing_days») (r .«grazing_hours»)) «er_housing» thousandths) (percent - r .«free_correction_factor») percent
   before-ceiling = q .is ∙ rw (p .is, g .is) refl
 
-  pub under-ceiling : factor ≤ billionths → Factor billionths («ef_nh3_nhousing» cutting r) factor
-  under-ceiling h = record { is = before-ceiling ∙ rw (← before-ceiling, le-ltb billionths factor h) refl; most = h }
+  pub under-ceiling : factor .whole ≤ billionths → Factor billionths («ef_nh3_nhousing» cutting r) (factor .whole)
+  under-ceiling h = record { is = before-ceiling ∙ rw (← before-ceiling, le-ltb billionths (factor .whole) h) refl; most = h }
 
-  pub at-ceiling : billionths < factor → Factor billionths («ef_nh3_nhousing» cutting r) billionths
-  at-ceiling h = record { is = rw (← before-ceiling, lt-ltb billionths factor h) refl; most = omega arith }
+  pub at-ceiling : billionths < factor .whole → Factor billionths («ef_nh3_nhousing» cutting r) billionths
+  at-ceiling h = record { is = rw (← before-ceiling, lt-ltb billionths (factor .whole) h) refl; most = omega arith }
 
 pub ruleset factor-steps = (under-ceiling, at-ceiling)
 
@@ -92,6 +93,6 @@ module _ (r : Roughage) (n tan : ℕ) where
   housing-keeps-tan = omega (arith, nh3-le)
 
   -- the code's step
-  pub is-housing : (factor nh3 : ℕ) → Factor billionths («ef_nh3_nhousing» cutting r) factor → PortionOf tan factor billionths nh3
-      → throughHousing cutting n tan nh3 ≡ inHousing cutting r n tan
+  pub is-housing : (factor : ℕ) (nh3 : Quotient) → Factor billionths («ef_nh3_nhousing» cutting r) factor → PortionOf tan factor billionths nh3
+      → throughHousing cutting n tan (nh3 .whole) ≡ inHousing cutting r n tan
   is-housing factor nh3 f p = rw (p .is, f .is) refl

@@ -5,6 +5,7 @@ use Prim.Native.Nat.{ℕ, _+_, _-_, _*_, _≤_}
 use native.Mathlib.Nat.{le-refl}
 use native.Mathlib.Omega.{arith}
 use borrow.Author.Needs.{zero≤}
+use Rattle.cut.specs.declared.Quotient.{Quotient}
 use Rattle.cut.proofs.Products.{mul-to}
 use Rattle.cut.proofs.Shares.{part-le, parts-over-le}
 use Rattle.flows.specs.declared.Cattle.{Cattle}
@@ -95,7 +96,7 @@ roughage-grazing-time-within hours days hh hd = mul-to 240 365 tt hh hd
 pub modest-pigs-portion : (t : HousingType) (n tan a b : ℕ) → Modest n tan → a ≡ pigsIntoGrazing cutting t n → b ≡ pigsIntoGrazing cutting t tan → Modest a b
 modest-pigs-portion t n tan a b m ea eb = rw (ea, eb) (pig-pasture-modest t n tan m)
 
-module _ (r : Rates) (n tan nInto tanInto : ℕ) (g : Grazing) (eg : ofGrazing g ≡ onPasture cutting r nInto tanInto) where
+module _ (r : Rates) (n tan : ℕ) (nInto tanInto : Quotient) (g : Grazing) (eg : ofGrazing g ≡ onPasture cutting r (nInto .whole) (tanInto .whole)) where
   pub is-cattle-grazing : (c : Cattle) (time : ℕ) → r ≡ cattleRates → time ≡ cattleGrazingTime c
       → PortionOf n time (day * (tenths * year)) nInto → PortionOf tan time (day * (tenths * year)) tanInto
       → ofGrazing g ≡ cattleGrazing cutting c n tan
@@ -108,6 +109,7 @@ module _ (r : Rates) (n tan nInto tanInto : ℕ) (g : Grazing) (eg : ofGrazing g
   unfolding roughageGrazingTime
   is-roughage-grazing h er p q = eg ∙ rw (er, p .is, q .is) refl
 
+module _ (r : Rates) (n tan nInto tanInto : ℕ) (g : Grazing) (eg : ofGrazing g ≡ onPasture cutting r nInto tanInto) where
   pub is-pig-grazing : (t : HousingType) → r ≡ pigRates → nInto ≡ pigsIntoGrazing cutting t n → tanInto ≡ pigsIntoGrazing cutting t tan
       → ofGrazing g ≡ pigGrazing cutting t n tan
   is-pig-grazing t er p q = eg ∙ rw (er, p, q) refl

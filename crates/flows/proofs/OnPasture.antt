@@ -7,6 +7,7 @@ use lib.IntN.{ℤ, pos, negℤ, _+ℤ_, _-ℤ_, +ℤ-assoc, negℤ-+ℤ, -ℤ-+�
 use lib.Signed.{mag}
 use mir.Syntax.{w64}
 use mir.Val.{toZ, ofZ}
+use Rattle.cut.specs.declared.Quotient.{Quotient}
 use Rattle.cut.proofs.Signed.{kept}
 use Rattle.flows.specs.declared.Rates.{Rates}
 use Rattle.flows.specs.declared.Gases.{Gases}
@@ -53,10 +54,10 @@ module _ (r : Rates) (n tan : ℕ) where
 
   -- ---- the code's steps
 
-  pub emitted : (nh3 n2 nO n2o : ℕ) → ModestRates r → Modest n tan
+  pub emitted : (nh3 n2 nO n2o : Quotient) → ModestRates r → Modest n tan
       → PortionOf tan (r .nh3) tenThousandths nh3 → PortionOf n (r .n2) tenThousandths n2
       → PortionOf n (r .no) tenThousandths nO → PortionOf n (r .n2o) tenThousandths n2o
-      → Emitted r n tan (record { nh3 = nh3; n2 = n2; no = nO; n2o = n2o })
+      → Emitted r n tan (record { nh3 = nh3 .whole; n2 = n2 .whole; no = nO .whole; n2o = n2o .whole })
   emitted nh3 n2 nO n2o h m p q s t =
       record { is = cc (p .is, q .is, s .is, t .is); together = omega (arith, gases-le h m, p .is, q .is, s .is, t .is) }
 

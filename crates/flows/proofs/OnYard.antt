@@ -2,6 +2,7 @@
 use mathlib.Core.Path.{_≡_, refl}
 use Prim.Native.Nat.{ℕ, _+_, _*_, _≤_}
 use native.Mathlib.Omega.{arith}
+use Rattle.cut.specs.declared.Quotient.{Quotient}
 use Rattle.cut.proofs.Products.{mul-to}
 use Rattle.cut.proofs.Shares.{part-le}
 use Rattle.flows.specs.declared.Cattle.{Cattle}
@@ -40,13 +41,13 @@ module _ (c : Cattle) (s : SoundCattle c) where
   pub yard-rate-within : (rate : ℕ) → rate ≡ «ef_nh3_nyard» c → rate ≤ tenThousandths * percent * percent
   yard-rate-within rate e = rw e yard-rate-le
 
-module _ (c : Cattle) (n tan time nInto tanInto rate nh3 : ℕ) (p : PortionOf n time (tenths * year) nInto) (q : PortionOf tan time (tenths * year) tanInto)
-    (g : PortionOf tanInto rate (tenThousandths * percent * percent) nh3) where
-  pub nh3-in-n : Modest n tan → nh3 ≤ nInto
+module _ (c : Cattle) (n tan time rate : ℕ) (nInto tanInto nh3 : Quotient) (p : PortionOf n time (tenths * year) nInto) (q : PortionOf tan time (tenths * year) tanInto)
+    (g : PortionOf (tanInto .whole) rate (tenThousandths * percent * percent) nh3) where
+  pub nh3-in-n : Modest n tan → nh3 .whole ≤ nInto .whole
   nh3-in-n m = omega (arith, modest-portion n tan time (tenths * year) m nInto tanInto p q .tan-most)
 
   pub is-yard : time ≡ yardTime c → rate ≡ «ef_nh3_nyard» c
-      → throughYard cutting nInto tanInto nh3 ≡ onYard cutting c n tan
+      → throughYard cutting (nInto .whole) (tanInto .whole) (nh3 .whole) ≡ onYard cutting c n tan
   is-yard et er = rw (g .is, p .is, q .is, et, er) refl
 
 pub ruleset yard-parts = (yard-time-within, yard-rate-within, nh3-in-n, is-yard)

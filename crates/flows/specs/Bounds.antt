@@ -2,11 +2,13 @@
 -- 001 is defined here.
 use mathlib.Core.Path.{_≡_}
 use Prim.Native.Nat.{ℕ, _+_, _*_, _≤_, _<_}
-use Rattle.cut.specs.Cut.{_cutBy_}
+use Rattle.cut.specs.declared.Quotient.{Quotient}
+use Rattle.cut.specs.Cut.{quotientOf}
 use Rattle.flows.specs.declared.Rates.{Rates}
 use Rattle.flows.specs.declared.Gases.{Gases}
 use Rattle.flows.specs.Units.{tenThousandths}
 use Rattle.flows.specs.Arithmetic.{cutting}
+use Rattle.flows.specs.Portion.{portion}
 use Rattle.flows.specs.Grazing.{gas}
 
 -- what a herd excretes, or a portion of it: a bounded amount of N, and the TAN in it
@@ -23,10 +25,11 @@ pub record Fit (amount shares of : ℕ) : Type 0 where
   pub above : 0 < of
   pub within : shares ≤ of
 
--- and what comes of it: the portion, and that it is no more than the amount
-pub record PortionOf (amount shares of r : ℕ) : Type 0 where
-  pub is : r ≡ amount * shares cutBy of
-  pub most : r ≤ amount
+-- and what comes of it: the product cut once, whose quotient is the portion, and no more than the amount
+pub record PortionOf (amount shares of : ℕ) (q : Quotient) : Type 0 where
+  pub cut : q ≡ quotientOf (amount * shares) of
+  pub is : q .whole ≡ portion cutting amount shares of
+  pub most : q .whole ≤ amount
 
 -- ---- the gases of a pasture: no more leaves it than comes onto it
 

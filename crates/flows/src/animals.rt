@@ -36,7 +36,7 @@ pub fn excretion(animals: u64, grams: u64, fraction: u64) -> Excretion
     ensures { λ r. ⌜ ofExcretion r ≡ excreted cutting animals grams fraction ⌝ }
 {
     let n = animals * grams;
-    let tan = portions::portion(n, fraction, TEN_THOUSANDTHS);
+    let tan = portions::portion(n, fraction, TEN_THOUSANDTHS).whole;
     Excretion {
         n_excretion: n,
         tan_excretion: tan,

@@ -45,8 +45,8 @@ fn ef_nh3_nhousing(r: Roughage) -> u64
     ensures { λ f. ⌜ Factor billionths («ef_nh3_nhousing» cutting r) f ⌝ }
 {
     let c = c_grazing(r.grazing_days, r.grazing_hours);
-    let rate = portions::portion(c, ER_HOUSING, THOUSANDTHS);
-    let factor = portions::portion(rate, PERCENT - r.free_correction_factor, PERCENT);
+    let rate = portions::portion(c, ER_HOUSING, THOUSANDTHS).whole;
+    let factor = portions::portion(rate, PERCENT - r.free_correction_factor, PERCENT).whole;
     if BILLIONTHS < factor {
         return BILLIONTHS;
     }
@@ -59,7 +59,7 @@ pub fn in_housing(r: Roughage, n: u64, tan: u64) -> Housing
     ensures { λ h. ⌜ ofHousing h ≡ inHousing cutting r n tan ⌝ }
 {
     let factor = ef_nh3_nhousing(r);
-    let nh3 = portions::portion(tan, factor, BILLIONTHS);
+    let nh3 = portions::portion(tan, factor, BILLIONTHS).whole;
     Housing {
         n_into_housing: n,
         tan_into_housing: tan,

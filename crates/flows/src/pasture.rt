@@ -67,10 +67,10 @@ fn gases(r: Rates, n: u64, tan: u64) -> Gases
     requires { ⌜ ModestRates r × Modest n tan ⌝ }
     ensures { λ g. ⌜ Emitted r n tan g ⌝ }
 {
-    let nh3 = portions::portion(tan, r.nh3, TEN_THOUSANDTHS);
-    let n2 = portions::portion(n, r.n2, TEN_THOUSANDTHS);
-    let no = portions::portion(n, r.no, TEN_THOUSANDTHS);
-    let n2o = portions::portion(n, r.n2o, TEN_THOUSANDTHS);
+    let nh3 = portions::portion(tan, r.nh3, TEN_THOUSANDTHS).whole;
+    let n2 = portions::portion(n, r.n2, TEN_THOUSANDTHS).whole;
+    let no = portions::portion(n, r.no, TEN_THOUSANDTHS).whole;
+    let n2o = portions::portion(n, r.n2o, TEN_THOUSANDTHS).whole;
     Gases { nh3, n2, no, n2o }
 }
 
@@ -99,8 +99,8 @@ pub fn cattle_grazing(c: Cattle, n: u64, tan: u64) -> Grazing
     ensures { λ r. ⌜ ofGrazing r ≡ cattleGrazing cutting c n tan ⌝ }
 {
     let time = cattle_grazing_time(c);
-    let n_into = portions::portion(n, time, YEAR_OF_SHARED_HOURS);
-    let tan_into = portions::portion(tan, time, YEAR_OF_SHARED_HOURS);
+    let n_into = portions::portion(n, time, YEAR_OF_SHARED_HOURS).whole;
+    let tan_into = portions::portion(tan, time, YEAR_OF_SHARED_HOURS).whole;
     on_pasture(cattle_rates(), n_into, tan_into)
 }
 
@@ -110,8 +110,8 @@ pub fn roughage_grazing(h: Roughage, n: u64, tan: u64) -> Grazing
     ensures { λ r. ⌜ ofGrazing r ≡ roughageGrazing cutting h n tan ⌝ }
 {
     let time = h.grazing_hours * h.grazing_days;
-    let n_into = portions::portion(n, time, YEAR_OF_HOURS);
-    let tan_into = portions::portion(tan, time, YEAR_OF_HOURS);
+    let n_into = portions::portion(n, time, YEAR_OF_HOURS).whole;
+    let tan_into = portions::portion(tan, time, YEAR_OF_HOURS).whole;
     on_pasture(roughage_rates(), n_into, tan_into)
 }
 

@@ -107,10 +107,10 @@ pub fn on_yard(c: Cattle, n: u64, tan: u64) -> Yard
     ensures { λ r. ⌜ ofYard r ≡ onYard cutting c n tan ⌝ }
 {
     let time = yard_time(c);
-    let n_into = portions::portion(n, time, YEAR_IN_TENTHS);
-    let tan_into = portions::portion(tan, time, YEAR_IN_TENTHS);
+    let n_into = portions::portion(n, time, YEAR_IN_TENTHS).whole;
+    let tan_into = portions::portion(tan, time, YEAR_IN_TENTHS).whole;
     let rate = ef_nh3_nyard(c);
-    let nh3 = portions::portion(tan_into, rate, RATE_FLOOR_FREE);
+    let nh3 = portions::portion(tan_into, rate, RATE_FLOOR_FREE).whole;
     Yard {
         n_into_yard: n_into,
         tan_into_yard: tan_into,

@@ -10,14 +10,14 @@ ef-nh3-nhousing-requires c κs = search needs
 portion-requires : tie.Need-portion-requires
 portion-requires c κs = search needs
 
-sub-t6 : tie.Need-sub-t6
-sub-t6 c = search needs
-
 sub-t7 : tie.Need-sub-t7
 sub-t7 c = search needs
+
+sub-t8 : tie.Need-sub-t8
+sub-t8 c = search needs
 
 returns : tie.Need-returns
 returns c = search (needs, is-housing)
 
 pub in-housing-spec : {M : Type 1} → statement M
-in-housing-spec = tie.close (tie.spec ef-nh3-nhousing-requires portion-requires sub-t6 sub-t7 returns)
+in-housing-spec = tie.close (tie.spec ef-nh3-nhousing-requires portion-requires sub-t7 sub-t8 returns)

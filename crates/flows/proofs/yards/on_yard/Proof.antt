@@ -19,11 +19,11 @@ ef-nh3-nyard-requires c κs = search needs
 portion-requires-3 : tie.Need-portion-requires-3
 portion-requires-3 c κs = search (needs, yard-parts)
 
-sub-t9 : tie.Need-sub-t9
-sub-t9 c = search (needs, yard-parts)
-
 sub-t10 : tie.Need-sub-t10
-sub-t10 c = search needs
+sub-t10 c = search (needs, yard-parts)
+
+sub-t11 : tie.Need-sub-t11
+sub-t11 c = search needs
 
 returns : tie.Need-returns
 returns c = search (needs, yard-parts)
@@ -37,6 +37,6 @@ on-yard-spec =
     portion-requires-2
     ef-nh3-nyard-requires
     portion-requires-3
-    sub-t9
     sub-t10
+    sub-t11
     returns)
