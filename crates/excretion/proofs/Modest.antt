@@ -8,13 +8,13 @@ use Rattle.cut.specs.declared.Quotient.{Quotient}
 use Rattle.cut.proofs.Products.{mul-to}
 use Rattle.cut.proofs.Shares.{part-le}
 use Rattle.tables.proofs.Standards.{standard-most}
-use Rattle.kinds.specs.declared.Entered.{Entered}
-use Rattle.kinds.specs.declared.Roughage.{Roughage}
-use Rattle.excretion.specs.declared.Excretion.{Excretion}
 use Rattle.amounts.specs.Units.{tenThousandths}
-use Rattle.kinds.specs.Sound.{mostAnimals, mostGrams, EnteredTo, standard, number, SoundRoughage}
 use Rattle.amounts.specs.Arithmetic.{cutting}
 use Rattle.amounts.specs.Bounds.{mostN, Modest, Fit, PortionOf}
+use Rattle.kinds.specs.declared.Entered.{Entered}
+use Rattle.kinds.specs.declared.Roughage.{Roughage}
+use Rattle.kinds.specs.Sound.{mostAnimals, mostGrams, EnteredTo, standard, number, SoundRoughage}
+use Rattle.excretion.specs.declared.Excretion.{Excretion}
 use Rattle.excretion.specs.Excretion.{«n_excretion_animal», tanFraction, ExcretionIn, excreted, ofExcretion}
 
 -- ---- what a roughage herd enters, or leaves to the standard

@@ -1,12 +1,12 @@
 -- 2.22, 2.50 and 2.84: what the animals of a herd excrete in a year.
 use Prim.Native.Nat.{ℕ, _*_}
 use Rattle.tables.specs.Standards.{standardOf, «share_Nsol»}
-use Rattle.kinds.specs.declared.Entered.{Entered}
-use Rattle.kinds.specs.declared.Entered.the-variants.{Standard, Number}
-use Rattle.excretion.specs.declared.Excretion.{Excretion}
 use Rattle.amounts.specs.Units.{tenThousandths}
 use Rattle.amounts.specs.Arithmetic.{Arithmetic, cutting}
 use Rattle.amounts.specs.Portion.{portion}
+use Rattle.kinds.specs.declared.Entered.{Entered}
+use Rattle.kinds.specs.declared.Entered.the-variants.{Standard, Number}
+use Rattle.excretion.specs.declared.Excretion.{Excretion}
 
 -- 2.84, n_excretion_animal: the category's standard, unless a number is entered
 abbrev pub «n_excretion_animal» : ℕ → Entered → ℕ

@@ -13,12 +13,12 @@ use Rattle.cut.proofs.Products.{mul-fits, mul-to}
 use Rattle.cut.proofs.Shares.{part-le, least-most}
 use Rattle.tables.specs.Growth.{kOf, mostK}
 use Rattle.tables.proofs.Growth.{k-most}
-use Rattle.kinds.specs.declared.Roughage.{Roughage}
 use Rattle.amounts.specs.Units.{percent, thousandths, billionths, year, day}
 use Rattle.amounts.specs.Arithmetic.{cutting}
 use Rattle.amounts.specs.Portion.{portion}
-use Rattle.housing.specs.Housing.{«er_housing», «c_grazing», «ef_nh3_nhousing», nh3InHousing, throughHousing, inHousing}
 use Rattle.amounts.specs.Bounds.{Modest, PortionOf, UpTo}
+use Rattle.kinds.specs.declared.Roughage.{Roughage}
+use Rattle.housing.specs.Housing.{«er_housing», «c_grazing», «ef_nh3_nhousing», nh3InHousing, throughHousing, inHousing}
 
 -- ---- 2.87, c_grazing
 

@@ -2,11 +2,11 @@
 use Prim.Native.Nat.{ℕ, _-_, _*_}
 use lib.Dec.{ltb}
 use Rattle.base.specs.Pick.{pick}
-use Rattle.kinds.specs.declared.Roughage.{Roughage}
-use Rattle.housing.specs.declared.Housing.{Housing}
 use Rattle.amounts.specs.Units.{percent, thousandths, billionths, year, day}
 use Rattle.amounts.specs.Arithmetic.{Arithmetic, cutting}
 use Rattle.amounts.specs.Portion.{portion}
+use Rattle.kinds.specs.declared.Roughage.{Roughage}
+use Rattle.housing.specs.declared.Housing.{Housing}
 
 -- 2.85, er_housing, 0.275, in thousandths
 abbrev pub «er_housing» : ℕ

@@ -11,9 +11,9 @@ ghost use mathlib.Core.Path.{_≡_};
 ghost use Prim.Native.Nat.{_≤_};
 ghost use Rattle.tables.specs.Growth.{mostK};
 ghost use Rattle.amounts.specs.Units.{billionths, year, day};
-ghost use Rattle.kinds.specs.Sound.{SoundRoughage};
 ghost use Rattle.amounts.specs.Arithmetic.{cutting};
 ghost use Rattle.amounts.specs.Bounds.{Modest, UpTo};
+ghost use Rattle.kinds.specs.Sound.{SoundRoughage};
 ghost use Rattle.housing.specs.Housing.{«c_grazing», «ef_nh3_nhousing», inHousing, throughDoor, ofHousing};
 
 pub struct Housing {

@@ -2,6 +2,7 @@
 -- `typed-sound` of crate `typed`.
 use Prim.Native.Nat.{ℕ, _≤_}
 use Rattle.tables.specs.Standards.{_kg}
+use Rattle.amounts.specs.Units.{percent, tenThousandths, year, day}
 use Rattle.kinds.specs.declared.Entered.{Entered}
 use Rattle.kinds.specs.declared.Entered.the-variants.{Standard, Number}
 use Rattle.kinds.specs.declared.Outdoor.{Outdoor}
@@ -10,7 +11,6 @@ use Rattle.kinds.specs.declared.Cattle.{Cattle}
 use Rattle.kinds.specs.declared.Pigs.{Pigs}
 use Rattle.kinds.specs.declared.Inputs.{Inputs}
 use Rattle.kinds.specs.declared.Inputs.the-variants as kinds
-use Rattle.amounts.specs.Units.{percent, tenThousandths, year, day}
 
 -- the largest herd, and the most that is entered for a head, in grams
 abbrev pub mostAnimals : ℕ

@@ -9,13 +9,13 @@ use mir.Syntax.{w64}
 use mir.Val.{toZ, ofZ}
 use Rattle.cut.specs.declared.Quotient.{Quotient}
 use Rattle.cut.proofs.Signed.{kept}
-use Rattle.rates.specs.declared.Rates.{Rates}
-use Rattle.pasture.specs.declared.Gases.{Gases}
 use Rattle.amounts.specs.Units.{tenThousandths}
 use Rattle.amounts.specs.Arithmetic.{cutting}
-use Rattle.pasture.specs.Pasture.{GrazingIn, gas, onPasture}
 use Rattle.amounts.specs.Bounds.{Modest, PortionOf}
+use Rattle.rates.specs.declared.Rates.{Rates}
 use Rattle.rates.specs.Bounds.{ModestRates}
+use Rattle.pasture.specs.declared.Gases.{Gases}
+use Rattle.pasture.specs.Pasture.{GrazingIn, gas, onPasture}
 use Rattle.pasture.specs.Bounds.{Emitted}
 
 -- ---- what is taken together is taken one by one

@@ -1,12 +1,12 @@
 -- 2.35, 2.61 and 2.88: what the animals excrete on pasture, the gases from it and what remains.
 use Prim.Native.Nat.{ℕ, _+_, _-_, _*_}
+use Rattle.amounts.specs.Units.{tenths, tenThousandths, year, day}
+use Rattle.amounts.specs.Arithmetic.{Arithmetic, cutting}
+use Rattle.amounts.specs.Portion.{portion}
 use Rattle.kinds.specs.declared.Outdoor.{Outdoor}
 use Rattle.kinds.specs.declared.Roughage.{Roughage}
 use Rattle.kinds.specs.declared.HousingType.{HousingType}
 use Rattle.kinds.specs.declared.HousingType.the-variants as housed
-use Rattle.amounts.specs.Units.{tenths, tenThousandths, year, day}
-use Rattle.amounts.specs.Arithmetic.{Arithmetic, cutting}
-use Rattle.amounts.specs.Portion.{portion}
 use Rattle.rates.specs.declared.Rates.{Rates}
 use Rattle.rates.specs.Rates.{pigsRates, roughageRates}
 use Rattle.yard.specs.Yard.{«days_with_grazing_and_yard», «share_excretion_with_grazing»}

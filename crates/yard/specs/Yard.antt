@@ -7,15 +7,15 @@ use Prim.Native.Nat.{ℕ, _+_, _-_, _*_}
 use mathlib.Core.Bool.{Bool, _&&_}
 use lib.Dec.{ltb}
 use Rattle.base.specs.Pick.{pick}
+use Rattle.amounts.specs.Units.{tenths, percent, tenThousandths, year}
+use Rattle.amounts.specs.Arithmetic.{Arithmetic, cutting}
+use Rattle.amounts.specs.Portion.{portion}
 use Rattle.kinds.specs.declared.ExerciseYard.{ExerciseYard}
 use Rattle.kinds.specs.declared.ExerciseYard.the-variants.{NotAvailable, NotSupplied, Partly, Exclusively}
 use Rattle.kinds.specs.declared.Floor.{Floor}
 use Rattle.kinds.specs.declared.Floor.the-variants.{Solid, Unpaved, Perforated, Paddock}
 use Rattle.kinds.specs.declared.Outdoor.{Outdoor}
 use Rattle.yard.specs.declared.Yard.{Yard}
-use Rattle.amounts.specs.Units.{tenths, percent, tenThousandths, year}
-use Rattle.amounts.specs.Arithmetic.{Arithmetic, cutting}
-use Rattle.amounts.specs.Portion.{portion}
 
 -- 2.33, c_free_factor_yard, in percent: 1 less the free factor
 abbrev pub «c_free_factor_yard» : ℕ → ℕ
