@@ -5,9 +5,9 @@
     vectors.py --check          make them in memory and compare with the stored ones
     vectors.py --which OFFSET   show the file that a byte of the outputs belongs to
 
-The packs are the input and the expected output of the program `cases`:
-`crates/cases/stdin` holds each file's length as 4 bytes, little-endian, and its
-bytes; `crates/cases/stdout` holds the outputs one after the other.
+The packs are the input and the expected output of the program `test_vectors`:
+`crates/test_vectors/stdin` holds each file's length as 4 bytes, little-endian, and its
+bytes; `crates/test_vectors/stdout` holds the outputs one after the other.
 """
 
 import argparse
@@ -18,9 +18,9 @@ from pathlib import Path
 from cases import every_file
 from urvendlo import answer
 
-CASES = Path(__file__).resolve().parent.parent / "crates" / "cases"
-FILES = CASES / "stdin"
-OUTPUTS = CASES / "stdout"
+PROGRAM = Path(__file__).resolve().parent.parent / "crates" / "test_vectors"
+FILES = PROGRAM / "stdin"
+OUTPUTS = PROGRAM / "stdout"
 LENGTH_BYTES = 4
 
 

@@ -1,6 +1,2 @@
-pub mod CallSteps
+pub mod RecordSteps
 pub mod FileSteps
-pub mod Demand1
-pub mod Demand2
-pub mod Demand3
-pub mod Examples

@@ -5,7 +5,7 @@ use native.Mathlib.Omega.{arith}
 use lib.Dec.{lit<}
 use lib.IntN.{pos}
 use Rattle.cut.specs.Frac.{Frac, _⊖_}
-use Rattle.cut.proofs.Near.{Near, near-whole, near-rest}
+use Rattle.cut.proofs.Near.{Near, near-rest}
 use Rattle.cut.proofs.Shares.{part-le}
 use Rattle.flows.specs.declared.Cattle.{Cattle}
 use Rattle.flows.specs.Units.{tenths, percent, tenThousandths, year, day}
@@ -18,13 +18,13 @@ use Rattle.flows.specs.Sound.{SoundCattle}
 use Rattle.flows.proofs.Times.{yard-time-le, cattle-grazing-time-le}
 use Rattle.flows.proofs.OnYard.{yard-rate-le, yard-modest}
 use Rattle.flows.proofs.Into.{cattle-into-le, cattle-pasture-modest, cattle-rates-modest}
-use Rattle.model.specs.Herd.{cattleOn, figuresInGrams}
-use Rattle.model.specs.Names.{Name, figure, «n_excretion», «tan_excretion», «n_into_yard», «tan_into_yard», «nh3_nyard», «n_outyard_liquid», «tan_outyard_liquid», «n_into_grazing», «tan_into_grazing», «nh3_ngrazing», «n2_ngrazing», «no_ngrazing», «n2o_ngrazing», «n_remain_grazing», «tan_remain_grazing», «n_into_housing», «tan_into_housing», «nh3_nhousing», «n_outhousing», «tan_outhousing»}
+use Rattle.model.specs.Herd.{cattleOn}
 use Rattle.nearness.specs.Errors.{cattleErrors}
-use Rattle.nearness.proofs.Laws.{NearBy, near-share}
+use Rattle.nearness.proofs.Laws.{near-share}
+use Rattle.nearness.proofs.Figures.{_then_, near-at, NearFigures, _and_, near-door}
 use Rattle.nearness.proofs.Excretion.{NearExcretion}
-use Rattle.nearness.proofs.Pasture.{near-nh3, near-n2, near-no, near-n2o, near-n-remain, near-tan-remain}
-use Rattle.nearness.specs.Exact.{exact, exactFigure}
+use Rattle.nearness.proofs.Pasture.{near-grazing}
+use Rattle.nearness.specs.Exact.{exact}
 
 -- ---- where an amount goes, N as TAN
 
@@ -69,24 +69,15 @@ module _ (c : Cattle) (s : SoundCattle c) (e : ExcretionIn cutting) (e′ : Excr
   pasture : Modest (cattleIntoGrazing cutting c (e .«n_excretion»)) (cattleIntoGrazing cutting c (e .«tan_excretion»))
   pasture = cattle-pasture-modest c s _ _ (near .modest)
 
-  pub near-cattle : (n : Name) → NearBy (cattleErrors n) (figure n (figuresInGrams (cattleOn cutting c e))) (exactFigure n (cattleOn exact c e′))
-  near-cattle «n_excretion» = near .n-near
-  near-cattle «tan_excretion» = near .tan-near
-  near-cattle «n_into_yard» = n-yard
-  near-cattle «tan_into_yard» = tan-yard
-  near-cattle «nh3_nyard» = near-nh3-yard c s tan-yard
-  near-cattle «n_outyard_liquid» = near-rest (le-trans (nh3-most c s _) (yard .tan-most)) n-yard (near-nh3-yard c s tan-yard)
-  near-cattle «tan_outyard_liquid» = near-rest (nh3-most c s _) tan-yard (near-nh3-yard c s tan-yard)
-  near-cattle «n_into_grazing» = n-on
-  near-cattle «tan_into_grazing» = tan-on
-  near-cattle «nh3_ngrazing» = near-nh3 cattleRates n-on tan-on
-  near-cattle «n2_ngrazing» = near-n2 cattleRates n-on tan-on
-  near-cattle «no_ngrazing» = near-no cattleRates n-on tan-on
-  near-cattle «n2o_ngrazing» = near-n2o cattleRates n-on tan-on
-  near-cattle «n_remain_grazing» = near-n-remain cattleRates n-on tan-on cattle-rates-modest pasture
-  near-cattle «tan_remain_grazing» = near-tan-remain cattleRates n-on tan-on
-  near-cattle «n_into_housing» = through-door c s (near .n-near)
-  near-cattle «tan_into_housing» = through-door c s (near .tan-near)
-  near-cattle «nh3_nhousing» = near-whole 0
-  near-cattle «n_outhousing» = near-whole 0
-  near-cattle «tan_outhousing» = near-whole 0
+  pub near-cattle : NearFigures cattleErrors (cattleOn cutting c e) (cattleOn exact c e′)
+  near-cattle =
+      near-at
+      (near .n-near
+      then near .tan-near
+      then n-yard
+      then tan-yard
+      then near-nh3-yard c s tan-yard
+      then near-rest (le-trans (nh3-most c s _) (yard .tan-most)) n-yard (near-nh3-yard c s tan-yard)
+      then near-rest (nh3-most c s _) tan-yard (near-nh3-yard c s tan-yard)
+      then near-grazing cattleRates n-on tan-on cattle-rates-modest pasture
+      and near-door (through-door c s (near .n-near)) (through-door c s (near .tan-near)))

@@ -1,8 +1,10 @@
--- That the theorems on nearness say something: a number that is not near, a figure below zero, the largest herds, a herd that shows that
--- half of the promise would be broken, and wrong formulas whose values no figure of ours is near. Assumes nothing.
+-- That the theorems on nearness say something: ten grams for all, a number that is not near, a figure below zero, the largest
+-- herds, a herd that shows that half of the promise would be broken, and wrong formulas whose values no figure of ours is near.
+-- Assumes nothing.
 use mathlib.Core.Path.{_≡_, refl}
 use mathlib.Core.List.{List, [], _∷_, map}
-use Prim.Native.Nat.{ℕ, _*_, _<_}
+use Prim.Native.Nat.{ℕ, zero, suc, _*_, _<_}
+use Prim.Native.String.{String}
 use native.Mathlib.Omega.{arith}
 use lib.Dec.{T, leb, le→leb, lit<, lit≤}
 use lib.IntN.{ℤ, pos, negsuc, _-ℤ_, _*ℤ_, natAbs}
@@ -26,19 +28,40 @@ use Rattle.flows.specs.Portion.{portion}
 use Rattle.flows.specs.Yard.{«days_with_grazing_and_yard», «share_excretion_with_grazing», yardTime}
 use Rattle.flows.specs.Grazing.{cattleGrazingTime, roughageGrazingTime, gas}
 use Rattle.flows.specs.Sound.{Sound, roughage, cattle, pigs, number}
+use Rattle.outputs.specs.Names.{texts, totalTexts, totalNumber}
+use Rattle.outputs.specs.Grams.{at, figure, total, farmTotal, totalsOf}
 use Rattle.model.specs.Herd.{figuresIn, figuresOf}
-use Rattle.model.specs.Names.{Name, figure, «tan_into_grazing», «nh3_ngrazing», «tan_remain_grazing», «nh3_nhousing», «n_outhousing»}
-use Rattle.model.specs.TotalNames.{TotalName, totalFigure}
-use Rattle.model.specs.Totals.{totalsOf}
 use Rattle.model.proofs.Edges.{C, row4}
-use Rattle.nearness.specs.Errors.{promised}
-use Rattle.nearness.proofs.Herd.{within-herd}
-use Rattle.nearness.proofs.Farm.{within-farm}
-use Rattle.nearness.specs.Exact.{exact, exactOf, exactFigure, exactOfTotal}
+use Rattle.nearness.specs.ByName.{saidOf, saidAt}
+use Rattle.nearness.specs.Promised.{promised, _within_, promisedAt, promisedOfTotal}
+use Rattle.nearness.proofs.Herd.{within-herd, within-figure}
+use Rattle.nearness.proofs.Farm.{within-farm, within-total}
+use Rattle.nearness.specs.Exact.{exact, exactOf, exactAt, exactFigure, exactOfTotal}
 
 -- what is off by more than e is not within e: the test computes
 off : (e : ℕ) (x : ℤ) (q : Frac) → Within e x q → T (leb (natAbs (x *ℤ pos (q .den) -ℤ q .num)) (e * q .den))
 off e x q h = le→leb (natAbs (x *ℤ pos (q .den) -ℤ q .num)) (e * q .den) (h .near)
+
+-- ---- nothing is widened: ten grams for every figure, and in every total for each herd
+
+none-said : (names : List String) (n : ℕ) → saidAt promised [] names n ≡ promised
+none-said [] n = refl
+none-said (t ∷ names) zero = refl
+none-said (t ∷ names) (suc n) = none-said names n
+
+pub promised-of-figures : (i : Inputs) (n : ℕ) → promisedAt i n ≡ promised
+unfolding promisedAt
+promised-of-figures (Roughage r) = none-said texts
+promised-of-figures (Cattle c) = none-said texts
+promised-of-figures (Pigs p) = none-said texts
+
+pub promised-of-totals : (t : ℕ) → promisedOfTotal t ≡ promised
+unfolding promisedOfTotal
+promised-of-totals = none-said totalTexts
+
+-- a row would widen what is promised under its name, and nothing else
+pub row-widens : saidOf promised ("nh3_nhousing" within 40 ∷ []) ("nh3_nyard" ∷ "nh3_nhousing" ∷ []) ≡ 10 ∷ 40 ∷ []
+row-widens = refl
 
 -- ---- eleven grams are too many
 
@@ -47,21 +70,22 @@ eleven-grams = off promised (pos 0) (whole 11)
 
 -- ---- below zero: 01's row 4, whose TAN remaining is -5226 grams, and exactly -5226.8
 
-pub row4-figure : figure «tan_remain_grazing» (figuresOf row4) ≡ negsuc 5225
+pub row4-figure : figure "tan_remain_grazing" (figuresOf row4) ≡ negsuc 5225
 unfolding figuresOf yardTime cattleGrazingTime «days_with_grazing_and_yard» «share_excretion_with_grazing»
 row4-figure = refl
 
-pub row4-below-zero : 0 < dn (exactFigure «tan_remain_grazing» (exactOf row4) .num)
-unfolding exactOf yardTime cattleGrazingTime «days_with_grazing_and_yard» «share_excretion_with_grazing»
+pub row4-below-zero : 0 < dn (exactFigure "tan_remain_grazing" row4 .num)
+unfolding exactOf exactAt yardTime cattleGrazingTime «days_with_grazing_and_yard» «share_excretion_with_grazing»
 row4-below-zero = lit< tt
 
-pub row4-exact : exactFigure «tan_remain_grazing» (exactOf row4) .num *ℤ pos 10
-    ≡ negsuc 52267 *ℤ pos (exactFigure «tan_remain_grazing» (exactOf row4) .den)
-unfolding exactOf yardTime cattleGrazingTime «days_with_grazing_and_yard» «share_excretion_with_grazing»
+pub row4-exact : exactFigure "tan_remain_grazing" row4 .num *ℤ pos 10
+    ≡ negsuc 52267 *ℤ pos (exactFigure "tan_remain_grazing" row4 .den)
+unfolding exactOf exactAt yardTime cattleGrazingTime «days_with_grazing_and_yard» «share_excretion_with_grazing»
 row4-exact = refl
 
-pub row4-within : Within promised (figure «tan_remain_grazing» (figuresOf row4)) (exactFigure «tan_remain_grazing» (exactOf row4))
-row4-within = within-herd row4 (cattle (omega arith)) «tan_remain_grazing»
+pub row4-within : Within promised (figure "tan_remain_grazing" (figuresOf row4)) (exactFigure "tan_remain_grazing" row4)
+unfolding promisedAt
+row4-within = within-figure row4 (cattle (omega arith)) "tan_remain_grazing"
 
 -- ---- the largest herd of each kind, 10,000 head, 200 kg, TAN 100 percent, and a farm of the three
 
@@ -115,11 +139,18 @@ pigs-sound = pigs (record { animals = lit≤ tt; grams = lit≤ tt; fraction = l
 pub largest-sound : Each Sound largest
 largest-sound = more roughage-sound (more cattle-sound (more pigs-sound none))
 
-pub largest-herds : Each (λ i. (n : Name) → Within promised (figure n (figuresOf i)) (exactFigure n (exactOf i))) largest
+pub largest-herds : Each (λ i. (n : ℕ) → Within (promisedAt i n) (at (figuresOf i .grams) n) (exactAt i n)) largest
 largest-herds = each-map within-herd largest-sound
 
-pub largest-farm : (t : TotalName) → Within (3 * promised) (totalFigure t (totalsOf (map figuresOf largest))) (exactOfTotal t (map exactOf largest))
+pub largest-farm : (t : ℕ)
+    → Within (promisedOfTotal t * 3) (farmTotal (map figuresOf largest) t) (exactOfTotal largest t)
 largest-farm = within-farm largest largest-sound
+
+-- under a name, as a call has it
+pub largest-on-pasture : Within 30 (total "nh3_ngrazing" (totalsOf (map figuresOf largest)))
+    (exactOfTotal largest (totalNumber "nh3_ngrazing"))
+unfolding promisedOfTotal
+largest-on-pasture = within-total (λ i. i) largest largest-sound "nh3_ngrazing"
 
 -- ---- half of the promise would be broken: this herd's housing NH3 is more than 4 grams off, and what leaves its housing more than 5
 
@@ -130,13 +161,13 @@ pub far-off-sound : Sound farOff
 far-off-sound =
     roughage (record { animals = lit≤ tt; grams = number (lit≤ tt); fraction = number (lit≤ tt); free = lit≤ tt; days = lit≤ tt; hours = lit≤ tt })
 
-pub four-grams-broken : Within 4 (figure «nh3_nhousing» (figuresOf farOff)) (exactFigure «nh3_nhousing» (exactOf farOff)) → ⊥
-unfolding figuresOf exactOf roughageGrazingTime kOf withinDay kAt nearest growthNum growthDen expNum expDen
-four-grams-broken = off 4 (figure «nh3_nhousing» (figuresOf farOff)) (exactFigure «nh3_nhousing» (exactOf farOff))
+pub four-grams-broken : Within 4 (figure "nh3_nhousing" (figuresOf farOff)) (exactFigure "nh3_nhousing" farOff) → ⊥
+unfolding figuresOf exactOf exactAt roughageGrazingTime kOf withinDay kAt nearest growthNum growthDen expNum expDen
+four-grams-broken = off 4 (figure "nh3_nhousing" (figuresOf farOff)) (exactFigure "nh3_nhousing" farOff)
 
-pub five-grams-broken : Within 5 (figure «n_outhousing» (figuresOf farOff)) (exactFigure «n_outhousing» (exactOf farOff)) → ⊥
-unfolding figuresOf exactOf roughageGrazingTime kOf withinDay kAt nearest growthNum growthDen expNum expDen
-five-grams-broken = off 5 (figure «n_outhousing» (figuresOf farOff)) (exactFigure «n_outhousing» (exactOf farOff))
+pub five-grams-broken : Within 5 (figure "n_outhousing" (figuresOf farOff)) (exactFigure "n_outhousing" farOff) → ⊥
+unfolding figuresOf exactOf exactAt roughageGrazingTime kOf withinDay kAt nearest growthNum growthDen expNum expDen
+five-grams-broken = off 5 (figure "n_outhousing" (figuresOf farOff)) (exactFigure "n_outhousing" farOff)
 
 -- ---- wrong formulas, which our figures are not near
 
@@ -162,7 +193,7 @@ exact-is = refl
 
 -- housing NH3 of the largest roughage herd: ours, and exactly with another k
 abbrev ours : ℤ
-ours = figure «nh3_nhousing» (figuresOf largestRoughage)
+ours = figure "nh3_nhousing" (figuresOf largestRoughage)
 
 abbrev nh3With : (ℕ → Frac) → Frac
 nh3With k = figuresIn (exactWith k) largestRoughage .housing .«nh3_nhousing»
@@ -188,11 +219,11 @@ abbrev row1 : Inputs
 row1 = C Partly 200
 
 abbrev atOtherRate : Frac
-atOtherRate = gas exact (exactFigure «tan_into_grazing» (exactOf row1)) 840
+atOtherRate = gas exact (exactFigure "tan_into_grazing" row1) 840
 
-pub with-other-rate : Within promised (figure «nh3_ngrazing» (figuresOf row1)) atOtherRate → ⊥
-unfolding figuresOf exactOf yardTime cattleGrazingTime «days_with_grazing_and_yard» «share_excretion_with_grazing»
-with-other-rate = off promised (figure «nh3_ngrazing» (figuresOf row1)) atOtherRate
+pub with-other-rate : Within promised (figure "nh3_ngrazing" (figuresOf row1)) atOtherRate → ⊥
+unfolding figuresOf exactOf exactAt yardTime cattleGrazingTime «days_with_grazing_and_yard» «share_excretion_with_grazing»
+with-other-rate = off promised (figure "nh3_ngrazing" (figuresOf row1)) atOtherRate
 
 -- a cut before the multiplication: 400 of 3650 parts of a ton
 pub cut-first : Within promised (pos ((1000000 cutBy 3650) * 400)) (portion exact (whole 1000000) 400 3650) → ⊥

@@ -1,4 +1,5 @@
 pub mod Laws
+pub mod Figures
 pub mod Excretion
 pub mod Pasture
 pub mod Housing

@@ -11,7 +11,9 @@ use Rattle.flows.specs.Arithmetic.{cutting}
 use Rattle.flows.specs.Grazing.{gas, onPasture}
 use Rattle.flows.specs.Bounds.{Modest, ModestRates}
 use Rattle.flows.proofs.OnPasture.{gases-le}
+use Rattle.outputs.specs.Names.{grazing}
 use Rattle.nearness.proofs.Laws.{rateBelow, rateAbove, near-rate}
+use Rattle.nearness.proofs.Figures.{NearSection, end, _then_}
 use Rattle.nearness.specs.Exact.{exact}
 
 -- the errors of a gas at a rate, from those of what it is emitted from
@@ -48,3 +50,16 @@ module _ (r : Rates) {lo hi lo′ hi′ n tan : ℕ} {N TAN : Frac} (near-n : Ne
   near-n-remain h m =
       let g = gases-le r n tan h m in
       near-rest (omega arith) (near-rest (omega arith) (near-rest (omega arith) (near-rest (omega arith) near-n near-nh3) near-n2) near-no) near-n2o
+
+  abbrev pub near-grazing : ModestRates r → Modest n tan
+      → NearSection grazing (onPasture cutting r n tan) (onPasture exact r N TAN)
+  near-grazing h m =
+      near-n
+      then near-tan
+      then near-nh3
+      then near-n2
+      then near-no
+      then near-n2o
+      then near-n-remain h m
+      then near-tan-remain
+      then end

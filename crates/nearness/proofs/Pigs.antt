@@ -9,13 +9,12 @@ use Rattle.flows.specs.Arithmetic.{cutting}
 use Rattle.flows.specs.Excretion.{ExcretionIn}
 use Rattle.flows.specs.Grazing.{pigRates, pigsIntoGrazing}
 use Rattle.flows.proofs.Into.{pig-into-le, pig-pasture-modest, pig-rates-modest}
-use Rattle.model.specs.Herd.{pigsOn, figuresInGrams}
-use Rattle.model.specs.Names.{Name, figure, «n_excretion», «tan_excretion», «n_into_yard», «tan_into_yard», «nh3_nyard», «n_outyard_liquid», «tan_outyard_liquid», «n_into_grazing», «tan_into_grazing», «nh3_ngrazing», «n2_ngrazing», «no_ngrazing», «n2o_ngrazing», «n_remain_grazing», «tan_remain_grazing», «n_into_housing», «tan_into_housing», «nh3_nhousing», «n_outhousing», «tan_outhousing»}
-use Rattle.nearness.specs.Errors.{pigErrors}
-use Rattle.nearness.proofs.Laws.{NearBy}
+use Rattle.model.specs.Herd.{pigsOn}
+use Rattle.nearness.specs.Errors.{pigsErrors}
+use Rattle.nearness.proofs.Figures.{_then_, near-at, NearFigures, _and_, near-no-yard, near-door}
 use Rattle.nearness.proofs.Excretion.{NearExcretion}
-use Rattle.nearness.proofs.Pasture.{near-nh3, near-n2, near-no, near-n2o, near-n-remain, near-tan-remain}
-use Rattle.nearness.specs.Exact.{exact, exactFigure}
+use Rattle.nearness.proofs.Pasture.{near-grazing}
+use Rattle.nearness.specs.Exact.{exact}
 
 -- onto the pasture goes all or nothing
 near-into-grazing : (t : HousingType) {lo hi x : ℕ} {q : Frac} → Near lo hi (pos x) q
@@ -33,24 +32,13 @@ module _ (t : HousingType) (e : ExcretionIn cutting) (e′ : ExcretionIn exact) 
   tan-on : Near 1000000 0 (pos (pigsIntoGrazing cutting t (e .«tan_excretion»))) (pigsIntoGrazing exact t (e′ .«tan_excretion»))
   tan-on = near-into-grazing t (near .tan-near)
 
-  pub near-pigs : (n : Name) → NearBy (pigErrors n) (figure n (figuresInGrams (pigsOn cutting t e))) (exactFigure n (pigsOn exact t e′))
-  near-pigs «n_excretion» = near .n-near
-  near-pigs «tan_excretion» = near .tan-near
-  near-pigs «n_into_yard» = near-whole 0
-  near-pigs «tan_into_yard» = near-whole 0
-  near-pigs «nh3_nyard» = near-whole 0
-  near-pigs «n_outyard_liquid» = near-rest zero-le (near-whole 0) (near-whole 0)
-  near-pigs «tan_outyard_liquid» = near-rest zero-le (near-whole 0) (near-whole 0)
-  near-pigs «n_into_grazing» = n-on
-  near-pigs «tan_into_grazing» = tan-on
-  near-pigs «nh3_ngrazing» = near-nh3 pigRates n-on tan-on
-  near-pigs «n2_ngrazing» = near-n2 pigRates n-on tan-on
-  near-pigs «no_ngrazing» = near-no pigRates n-on tan-on
-  near-pigs «n2o_ngrazing» = near-n2o pigRates n-on tan-on
-  near-pigs «n_remain_grazing» = near-n-remain pigRates n-on tan-on pig-rates-modest (pig-pasture-modest t _ _ (near .modest))
-  near-pigs «tan_remain_grazing» = near-tan-remain pigRates n-on tan-on
-  near-pigs «n_into_housing» = near-rest (pig-into-le t (e .«n_excretion»)) (near .n-near) n-on
-  near-pigs «tan_into_housing» = near-rest (pig-into-le t (e .«tan_excretion»)) (near .tan-near) tan-on
-  near-pigs «nh3_nhousing» = near-whole 0
-  near-pigs «n_outhousing» = near-whole 0
-  near-pigs «tan_outhousing» = near-whole 0
+  pub near-pigs : NearFigures pigsErrors (pigsOn cutting t e) (pigsOn exact t e′)
+  near-pigs =
+      near-at
+      (near .n-near
+      then near .tan-near
+      then near-no-yard
+      and near-grazing pigRates n-on tan-on pig-rates-modest (pig-pasture-modest t _ _ (near .modest))
+      and near-door
+      (near-rest (pig-into-le t (e .«n_excretion»)) (near .n-near) n-on)
+      (near-rest (pig-into-le t (e .«tan_excretion»)) (near .tan-near) tan-on))

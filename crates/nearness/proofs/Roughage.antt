@@ -1,10 +1,10 @@
 -- Other roughage-consuming animals: each figure is as near its exact value as the table says. Assumes nothing.
-use Prim.Native.Nat.{ℕ, _+_, _-_, _*_, _≤_, zero-le}
+use Prim.Native.Nat.{ℕ, _+_, _-_, _*_, _≤_}
 use native.Mathlib.Nat.{le-trans}
 use lib.Dec.{lit<}
 use lib.IntN.{pos}
 use Rattle.cut.specs.Frac.{Frac, _⊖_}
-use Rattle.cut.proofs.Near.{Near, near-whole, near-rest}
+use Rattle.cut.proofs.Near.{Near, near-rest}
 use Rattle.cut.proofs.Shares.{part-le}
 use Rattle.flows.specs.declared.Roughage.{Roughage}
 use Rattle.flows.specs.Units.{billionths, year, day}
@@ -17,14 +17,15 @@ use Rattle.flows.specs.Sound.{SoundRoughage}
 use Rattle.flows.proofs.Times.{roughage-grazing-time-le}
 use Rattle.flows.proofs.InHousing.{factor-le}
 use Rattle.flows.proofs.Into.{roughage-into-le, roughage-pasture-modest, roughage-housing-modest, roughage-rates-modest}
-use Rattle.model.specs.Herd.{roughageOn, figuresInGrams}
-use Rattle.model.specs.Names.{Name, figure, «n_excretion», «tan_excretion», «n_into_yard», «tan_into_yard», «nh3_nyard», «n_outyard_liquid», «tan_outyard_liquid», «n_into_grazing», «tan_into_grazing», «nh3_ngrazing», «n2_ngrazing», «no_ngrazing», «n2o_ngrazing», «n_remain_grazing», «tan_remain_grazing», «n_into_housing», «tan_into_housing», «nh3_nhousing», «n_outhousing», «tan_outhousing»}
-use Rattle.nearness.specs.Errors.{roughageErrors}
+use Rattle.model.specs.Herd.{roughageOn}
+use Rattle.nearness.specs.ByName.{said}
+use Rattle.nearness.specs.Errors.{exactly, roughageErrors}
 use Rattle.nearness.proofs.Laws.{NearBy, near-share}
+use Rattle.nearness.proofs.Figures.{end, _then_, near-at, NearFigures, _and_, near-no-yard}
 use Rattle.nearness.proofs.Excretion.{NearExcretion}
-use Rattle.nearness.proofs.Pasture.{near-nh3, near-n2, near-no, near-n2o, near-n-remain, near-tan-remain}
+use Rattle.nearness.proofs.Pasture.{near-grazing}
 use Rattle.nearness.proofs.Housing.{near-nh3-in-housing}
-use Rattle.nearness.specs.Exact.{exact, exactFigure}
+use Rattle.nearness.specs.Exact.{exact}
 
 -- ---- where an amount goes, N as TAN
 
@@ -63,31 +64,23 @@ module _ (r : Roughage) (s : SoundRoughage r) (e : ExcretionIn cutting) (e′ : 
   housing : Modest (inside r (e .«n_excretion»)) (inside r (e .«tan_excretion»))
   housing = roughage-housing-modest r s _ _ (near .modest)
 
-  nh3 : NearBy (roughageErrors «nh3_nhousing»)
+  nh3 : NearBy (said exactly roughageErrors "nh3_nhousing")
       (pos (nh3InHousing cutting r (inside r (e .«tan_excretion»)))) (nh3InHousing exact r (exactInside r (e′ .«tan_excretion»)))
   nh3 = near-nh3-in-housing r s (le-trans (housing .tan-most) (housing .n-most)) tan-inside
 
   nh3-most : nh3InHousing cutting r (inside r (e .«tan_excretion»)) ≤ inside r (e .«tan_excretion»)
   nh3-most = part-le (inside r (e .«tan_excretion»)) («ef_nh3_nhousing» cutting r) billionths (factor-le r)
 
-  pub near-roughage : (n : Name) → NearBy (roughageErrors n) (figure n (figuresInGrams (roughageOn cutting r e))) (exactFigure n (roughageOn exact r e′))
-  near-roughage «n_excretion» = near .n-near
-  near-roughage «tan_excretion» = near .tan-near
-  near-roughage «n_into_yard» = near-whole 0
-  near-roughage «tan_into_yard» = near-whole 0
-  near-roughage «nh3_nyard» = near-whole 0
-  near-roughage «n_outyard_liquid» = near-rest zero-le (near-whole 0) (near-whole 0)
-  near-roughage «tan_outyard_liquid» = near-rest zero-le (near-whole 0) (near-whole 0)
-  near-roughage «n_into_grazing» = n-on
-  near-roughage «tan_into_grazing» = tan-on
-  near-roughage «nh3_ngrazing» = near-nh3 roughageRates n-on tan-on
-  near-roughage «n2_ngrazing» = near-n2 roughageRates n-on tan-on
-  near-roughage «no_ngrazing» = near-no roughageRates n-on tan-on
-  near-roughage «n2o_ngrazing» = near-n2o roughageRates n-on tan-on
-  near-roughage «n_remain_grazing» = near-n-remain roughageRates n-on tan-on roughage-rates-modest pasture
-  near-roughage «tan_remain_grazing» = near-tan-remain roughageRates n-on tan-on
-  near-roughage «n_into_housing» = n-inside
-  near-roughage «tan_into_housing» = tan-inside
-  near-roughage «nh3_nhousing» = nh3
-  near-roughage «n_outhousing» = near-rest (le-trans nh3-most (housing .tan-most)) n-inside nh3
-  near-roughage «tan_outhousing» = near-rest nh3-most tan-inside nh3
+  pub near-roughage : NearFigures roughageErrors (roughageOn cutting r e) (roughageOn exact r e′)
+  near-roughage =
+      near-at
+      (near .n-near
+      then near .tan-near
+      then near-no-yard
+      and near-grazing roughageRates n-on tan-on roughage-rates-modest pasture
+      and n-inside
+      then tan-inside
+      then nh3
+      then near-rest (le-trans nh3-most (housing .tan-most)) n-inside nh3
+      then near-rest nh3-most tan-inside nh3
+      then end)

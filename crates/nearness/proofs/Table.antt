@@ -1,69 +1,98 @@
--- The table of errors keeps the promise, in every entry and in what a herd brings into each total. No kind of herd has both a yard and a
--- housing whose NH3 is counted, so NH3 from three sources stays within it too. Assumes nothing.
-use native.Mathlib.Omega.{arith}
+-- The tables of errors and of bounds, by tests that compute: the errors of each figure, and of what a herd brings into each
+-- total, keep what is promised of it; and every entry is of a name. No kind of herd has both a yard and a housing whose NH3 is
+-- counted, so NH3 from three sources keeps it too. Assumes nothing.
+use Prim.Native.Nat.{ℕ, zero, suc, _*_, _≤_}
+use Prim.Native.String.{String}
+use mathlib.Core.Bool.{Bool, true, false, _&&_}
+use mathlib.Core.List.{List, [], _∷_}
+use lib.Dec.{T, leb, leb→le}
+use lib.ListN.{getD}
+use lib.Text.{eqt}
+use Rattle.base.specs.Pick.{pick}
+use Rattle.base.proofs.Table.{both-left, both-right}
 use Rattle.flows.specs.declared.Inputs.{Inputs}
 use Rattle.flows.specs.declared.Inputs.the-variants as kinds
-use Rattle.model.specs.Names.{Name, «n_excretion», «tan_excretion», «n_into_yard», «tan_into_yard», «nh3_nyard», «n_outyard_liquid», «tan_outyard_liquid», «n_into_grazing», «tan_into_grazing», «nh3_ngrazing», «n2_ngrazing», «no_ngrazing», «n2o_ngrazing», «n_remain_grazing», «tan_remain_grazing», «n_into_housing», «tan_into_housing», «nh3_nhousing», «n_outhousing», «tan_outhousing»}
-use Rattle.model.specs.TotalNames as totals
-use Rattle.model.specs.TotalNames.{TotalName}
-use Rattle.nearness.specs.Errors.{promised, Kept, roughageErrors, cattleErrors, pigErrors, errorsOf, totalErrors}
+use Rattle.outputs.specs.Names.{texts, totalTexts, addends}
+use Rattle.nearness.specs.ByName.{Entry, saidOf}
+use Rattle.nearness.specs.Promised.{promised, widened, widenedTotals, promisedAt, promisedOfTotal}
+use Rattle.nearness.specs.Errors.{millionths, Errors, exactly, errorsOf, errorsAt, together, totalErrors}
 
--- what holds of each name of the listing holds of every name
-every-name : (P : Name → Type 0)
-    → P «n_excretion» × P «tan_excretion»
-    × P «n_into_yard» × P «tan_into_yard» × P «nh3_nyard» × P «n_outyard_liquid» × P «tan_outyard_liquid»
-    × P «n_into_grazing» × P «tan_into_grazing» × P «nh3_ngrazing» × P «n2_ngrazing» × P «no_ngrazing» × P «n2o_ngrazing»
-    × P «n_remain_grazing» × P «tan_remain_grazing»
-    × P «n_into_housing» × P «tan_into_housing» × P «nh3_nhousing» × P «n_outhousing» × P «tan_outhousing»
-    → (n : Name) → P n
-every-name P h «n_excretion» = h .0
-every-name P h «tan_excretion» = h .1
-every-name P h «n_into_yard» = h .2
-every-name P h «tan_into_yard» = h .3
-every-name P h «nh3_nyard» = h .4
-every-name P h «n_outyard_liquid» = h .5
-every-name P h «tan_outyard_liquid» = h .6
-every-name P h «n_into_grazing» = h .7
-every-name P h «tan_into_grazing» = h .8
-every-name P h «nh3_ngrazing» = h .9
-every-name P h «n2_ngrazing» = h .10
-every-name P h «no_ngrazing» = h .11
-every-name P h «n2o_ngrazing» = h .12
-every-name P h «n_remain_grazing» = h .13
-every-name P h «tan_remain_grazing» = h .14
-every-name P h «n_into_housing» = h .15
-every-name P h «tan_into_housing» = h .16
-every-name P h «nh3_nhousing» = h .17
-every-name P h «n_outhousing» = h .18
-every-name P h «tan_outhousing» = h .19
+-- ---- errors keep bounds
 
--- every entry of the table keeps the promise
-pub promise-kept : (i : Inputs) (n : Name) → Kept promised (errorsOf i n)
-promise-kept (kinds.Roughage r) = every-name (λ n. Kept promised (roughageErrors n)) (omega arith)
-promise-kept (kinds.Cattle c) = every-name (λ n. Kept promised (cattleErrors n)) (omega arith)
-promise-kept (kinds.Pigs p) = every-name (λ n. Kept promised (pigErrors n)) (omega arith)
+-- neither error is more than so many grams
+pub record Kept (grams : ℕ) (e : Errors) : Type 0 where
+  pub kept-below : e .below ≤ grams * millionths
+  pub kept-above : e .above ≤ grams * millionths
 
--- what a herd brings into a total keeps the promise
-pub kept-total : (i : Inputs) (t : TotalName) → Kept promised (totalErrors i t)
-kept-total i totals.«n_excretion» = promise-kept i «n_excretion»
-kept-total i totals.«tan_excretion» = promise-kept i «tan_excretion»
-kept-total i totals.«n_into_housing» = promise-kept i «n_into_housing»
-kept-total i totals.«tan_into_housing» = promise-kept i «tan_into_housing»
-kept-total i totals.«n_into_yard» = promise-kept i «n_into_yard»
-kept-total i totals.«tan_into_yard» = promise-kept i «tan_into_yard»
-kept-total i totals.«n_into_grazing» = promise-kept i «n_into_grazing»
-kept-total i totals.«tan_into_grazing» = promise-kept i «tan_into_grazing»
-kept-total i totals.«nh3_nhousing» = promise-kept i «nh3_nhousing»
-kept-total i totals.«nh3_nyard» = promise-kept i «nh3_nyard»
-kept-total i totals.«nh3_ngrazing» = promise-kept i «nh3_ngrazing»
-kept-total (kinds.Roughage r) totals.«nh3_nhousing_and_yard» = omega arith
-kept-total (kinds.Cattle c) totals.«nh3_nhousing_and_yard» = omega arith
-kept-total (kinds.Pigs p) totals.«nh3_nhousing_and_yard» = omega arith
-kept-total (kinds.Roughage r) totals.«nh3_nlivestock» = omega arith
-kept-total (kinds.Cattle c) totals.«nh3_nlivestock» = omega arith
-kept-total (kinds.Pigs p) totals.«nh3_nlivestock» = omega arith
-kept-total i totals.«n2_ngrazing» = promise-kept i «n2_ngrazing»
-kept-total i totals.«no_ngrazing» = promise-kept i «no_ngrazing»
-kept-total i totals.«n2o_ngrazing» = promise-kept i «n2o_ngrazing»
-kept-total i totals.«n_remain_grazing» = promise-kept i «n_remain_grazing»
-kept-total i totals.«tan_remain_grazing» = promise-kept i «tan_remain_grazing»
+abbrev keeps : ℕ → Errors → Bool
+keeps grams e = leb (e .below) (grams * millionths) && leb (e .above) (grams * millionths)
+
+is-kept : (grams : ℕ) (e : Errors) → T (keeps grams e) → Kept grams e
+is-kept grams e t =
+    let below = leb (e .below) (grams * millionths) in
+    let above = leb (e .above) (grams * millionths) in
+    record { kept-below = leb→le _ _ (both-left below above t); kept-above = leb→le _ _ (both-right below above t) }
+
+-- the errors of each of a list keep the bound that stands in its place
+module _ {X : Type 0} (errors : X → Errors) where
+  abbrev keep : List ℕ → List X → Bool
+  keep [] [] = true
+  keep [] (x ∷ xs) = false
+  keep (b ∷ bs) [] = false
+  keep (b ∷ bs) (x ∷ xs) = keeps b (errors x) && keep bs xs
+
+  -- and past the last, what is promised of the others
+  kept-at : (bs : List ℕ) (xs : List X) → T (keep bs xs) → (d : X) → T (keeps promised (errors d)) → (n : ℕ)
+      → Kept (getD bs n promised) (errors (getD xs n d))
+  kept-at [] [] t d k n = is-kept promised (errors d) k
+  kept-at [] (x ∷ xs) t d k n = absurd t
+  kept-at (b ∷ bs) [] t d k n = absurd t
+  kept-at (b ∷ bs) (x ∷ xs) t d k zero = is-kept b (errors x) (both-left (keeps b (errors x)) (keep bs xs) t)
+  kept-at (b ∷ bs) (x ∷ xs) t d k (suc n) = kept-at bs xs (both-right (keeps b (errors x)) (keep bs xs) t) d k n
+
+abbrev bounds : Inputs → List ℕ
+bounds i = saidOf promised (widened i) texts
+
+abbrev errors : Inputs → List Errors
+errors i = saidOf exactly (errorsOf i) texts
+
+abbrev totalBounds : List ℕ
+totalBounds = saidOf promised widenedTotals totalTexts
+
+figures-keep : (i : Inputs) → T (keep (λ e. e) (bounds i) (errors i))
+figures-keep (kinds.Roughage r) = tt
+figures-keep (kinds.Cattle c) = tt
+figures-keep (kinds.Pigs p) = tt
+
+totals-keep : (i : Inputs) → T (keep (together i) totalBounds addends)
+unfolding errorsAt
+totals-keep (kinds.Roughage r) = tt
+totals-keep (kinds.Cattle c) = tt
+totals-keep (kinds.Pigs p) = tt
+
+-- a figure's errors keep what is promised of it
+pub promise-kept : (i : Inputs) (n : ℕ) → Kept (promisedAt i n) (errorsAt i n)
+unfolding promisedAt errorsAt
+promise-kept i n = kept-at (λ e. e) (bounds i) (errors i) (figures-keep i) exactly tt n
+
+-- what a herd brings into a total keeps what is promised of that
+pub kept-total : (i : Inputs) (t : ℕ) → Kept (promisedOfTotal t) (totalErrors i t)
+unfolding promisedOfTotal totalErrors
+kept-total i t = kept-at (together i) totalBounds addends (totals-keep i) [] tt t
+
+-- ---- every entry is of a name
+
+-- each entry is of one of these names, in their order: so none is misspelt, and none stands twice
+abbrev named : {X : Type 0} → List String → List (Entry X) → Bool
+named [] [] = true
+named [] (e ∷ es) = false
+named (t ∷ names) [] = true
+named (t ∷ names) (e ∷ es) = pick (eqt t (e .name)) (named names es) (named names (e ∷ es))
+
+pub entries-named : (i : Inputs) → T (named texts (errorsOf i) && named texts (widened i))
+entries-named (kinds.Roughage r) = tt
+entries-named (kinds.Cattle c) = tt
+entries-named (kinds.Pigs p) = tt
+
+pub total-bounds-named : T (named totalTexts widenedTotals)
+total-bounds-named = tt

@@ -1,0 +1,124 @@
+-- Demand 1: a file of any bytes gets either the farm's figures or exactly one numbered refusal with its record number, always the first that
+-- applies in the written order; a refusal leaves the lent buffer untouched. And any two results that a call's contract allows are equal.
+-- What a call says is told in 01's numbers, by `says` of crate `farm` and `saysOf` of crate `listing`; what the checks of a record say, by
+-- `herd-says` and `farm-says` of crate `farm`.
+-- Assumes nothing.
+use Prim.Native.Nat.{ℕ, _≤_, _<_}
+use mathlib.Core.Path.{_≡_, refl, sym, ap, _∙_}
+use mathlib.Core.Bool.{Bool, true, false}
+use mathlib.Core.List.{List, _++_}
+use native.Mathlib.Omega.{arith}
+use borrow.Author.Tests.{leb-true, leb-false}
+use lib.Dec.{leb}
+use lib.ListN.{length, drop}
+use Rattle.base.specs.Pick.{pick}
+use Rattle.base.proofs.Clash.{clash}
+use Rattle.farm.specs.declared.Farm.{Farm}
+use Rattle.farm.specs.declared.Fault.{Fault}
+use Rattle.farm.specs.declared.Fault.the-variants.{BufferTooShort}
+use Rattle.farm.specs.declared.Checked.{Checked}
+use Rattle.farm.specs.declared.Checked.the-variants as checks
+use Rattle.farm.specs.Refusals.{number, Says, accepts, gives, refuses, says}
+use Rattle.reader.specs.declared.FileAnswer.{FileAnswer}
+use Rattle.reader.specs.Files.{readOf, accepted, refused}
+use Rattle.rules.specs.Rules.{KeepsRules, Record}
+use Rattle.rules.specs.Refusals.{First, AppliesAt, too-long, broken, wrong, missing, Applies, not-four-fields, bad-label, not-in-the-list, standard-forbidden, bad-value, earlier-label, no-room-for-herd, other-kind, given-already}
+use Rattle.rules.proofs.Accepts.{accepts-exactly}
+use Rattle.rules.proofs.Refuses.{Outcome, takes, gives as gives-first, outcome}
+use Rattle.rules.proofs.Runs.{answered}
+use Rattle.listing.specs.declared.Written.{Written}
+use Rattle.listing.specs.declared.Written.the-variants.{Length, Refused}
+use Rattle.listing.specs.Answer.{leaves, answers, saysOf}
+use Rattle.calls.specs.Listings.{Call, Called, left, said}
+
+-- ---- a file
+
+-- what a file gets: the farm that it says, by the rules; or the first refusal in the written order
+pub data Gets (s : List ℕ) : FileAnswer → Type 0 where
+  farm : {f : Farm} → KeepsRules s f → Gets s (accepted f)
+  refusal : {n : ℕ} {fault : Fault} → First s n fault → Gets s (refused n fault)
+
+pub demand-1 : (s : List ℕ) → Gets s (readOf s)
+demand-1 s = by (readOf s) refl (outcome (answered s))
+  where
+    by : (x : FileAnswer) → readOf s ≡ x → Outcome s x → Gets s x
+    by x e (takes {f = f} none) = farm (accepts-exactly s f .0 e)
+    by x e (gives-first r) = refusal r
+
+-- and what is said of it
+pub data FileSays (s : List ℕ) : Says → Type 0 where
+  fine : {f : Farm} → KeepsRules s f → FileSays s accepts
+  first : {n : ℕ} {fault : Fault} → First s n fault → FileSays s (refuses (number fault) n)
+
+pub demand-1-says : (s : List ℕ) → FileSays s (says (readOf s .checked))
+demand-1-says s = by (demand-1 s)
+  where
+    by : {a : FileAnswer} → Gets s a → FileSays s (says (a .checked))
+    by (farm keeps) = fine keeps
+    by (refusal r) = first r
+
+-- 01: "13 belongs to the writing calls alone"
+of-a-record : {before : List Record} {cs : Record} {fault : Fault} → Applies before cs fault → number fault < 13
+of-a-record (not-four-fields a) = omega arith
+of-a-record (bad-label a) = omega arith
+of-a-record (not-in-the-list a) = omega arith
+of-a-record (standard-forbidden a b c) = omega arith
+of-a-record (bad-value a b) = omega arith
+of-a-record (earlier-label a b) = omega arith
+of-a-record (no-room-for-herd a b) = omega arith
+of-a-record (other-kind a b c d e) = omega arith
+of-a-record (given-already a b) = omega arith
+
+of-a-file : {s : List ℕ} {n : ℕ} {fault : Fault} → AppliesAt s n fault → number fault < 13
+of-a-file (too-long a) = omega arith
+of-a-file (broken a) = omega arith
+of-a-file (wrong a b) = of-a-record b
+of-a-file (missing before cs after a b) = omega arith
+
+pub never-13 : {s : List ℕ} {n : ℕ} {fault : Fault} → First s n fault → number fault < 13
+never-13 r = of-a-file (r .applies)
+
+-- ---- a writing call
+
+-- what it says: the listing's length; what its checks or reading refuse; 13 only where they find nothing
+pub data CallSays (c : Call) (old : List ℕ) : Says → Type 0 where
+  listed : says (c .checked) ≡ accepts → length (c .listing) ≤ length old → CallSays c old (gives (length (c .listing)))
+  too-short : says (c .checked) ≡ accepts → length old < length (c .listing) → CallSays c old (refuses 13 0)
+  as-found : {k n : ℕ} → says (c .checked) ≡ refuses k n → CallSays c old (refuses k n)
+
+module _ (c : Call) (old : List ℕ) where
+  by-room : says (c .checked) ≡ accepts → (t : Bool) → leb (length (c .listing)) (length old) ≡ t
+      → CallSays c old (saysOf (pick t (Length (length (c .listing))) (Refused BufferTooShort 0)))
+  by-room a true e = listed a (leb-true _ _ e)
+  by-room a false e = too-short a (leb-false _ _ e)
+
+  by-finding : (k : Checked) → c .checked ≡ k → CallSays c old (saysOf (said k (c .listing) old))
+  unfolding answers
+  by-finding checks.Accepted e = by-room (ap says e) (leb (length (c .listing)) (length old)) refl
+  by-finding (checks.Refused fault n) e = as-found (ap says e)
+
+pub call-says : {c : Call} {old new : List ℕ} {r : Written} → Called c old new r → CallSays c old (saysOf r)
+call-says {c} {old} w = rw (w .answer) (by-finding c old (c .checked) refl)
+
+-- one that says a refusal, 13 too, leaves the buffer as it was
+fits-or-not : (listing old : List ℕ) (t : Bool) (k n : ℕ) → saysOf (pick t (Length (length listing)) (Refused BufferTooShort 0)) ≡ refuses k n
+    → pick t (listing ++ drop (length listing) old) old ≡ old
+fits-or-not listing old true k n e = clash cc
+fits-or-not listing old false k n e = refl
+
+by-checks : (c : Checked) (listing old : List ℕ) (k n : ℕ) → saysOf (said c listing old) ≡ refuses k n → left c listing old ≡ old
+unfolding leaves answers
+by-checks checks.Accepted listing old k n e = fits-or-not listing old (leb (length listing) (length old)) k n e
+by-checks (checks.Refused f m) listing old k n e = refl
+
+pub refusal-leaves : {c : Call} {old new : List ℕ} {r : Written} (k n : ℕ) → Called c old new r → saysOf r ≡ refuses k n → new ≡ old
+refusal-leaves {c} {old} {new} {r} k n w e = w .buffer ∙ by-checks (c .checked) (c .listing) old k n (sym (ap saysOf (w .answer)) ∙ e)
+
+-- any two results that a writing call's contract allows are equal, and so are the bytes that it leaves; every other call's contract says
+-- what its result is
+pub record Same (new new′ : List ℕ) (r r′ : Written) : Type 0 where
+  pub bytes : new ≡ new′
+  pub answer : r ≡ r′
+
+pub one-result : {c : Call} {old new new′ : List ℕ} {r r′ : Written} → Called c old new r → Called c old new′ r′ → Same new new′ r r′
+one-result w v = record { bytes = w .buffer ∙ sym (v .buffer); answer = w .answer ∙ sym (v .answer) }

@@ -1,0 +1,61 @@
+-- Demand 3: for every record that a call accepts, each figure that it gives lies within 10 grams of its exact value, and each total within
+-- 10 grams for each herd; below zero too. And so for every herd and the totals of a file that is read. What is promised is a table (crate
+-- `nearness`, specs/Promised): 10 grams, but for the names with a row of their own.
+-- Assumes nothing.
+use Prim.Native.Nat.{ℕ, _*_}
+use mathlib.Core.Path.{_≡_, sym, _∙_}
+use mathlib.Core.List.{List, map}
+use lib.ListN.{length}
+use Rattle.cut.specs.Frac.{Within}
+use Rattle.base.specs.Each.{Each}
+use Rattle.base.proofs.Each.{each-map}
+use Rattle.farm.specs.declared.Herd.{Herd}
+use Rattle.farm.specs.declared.Farm.{Farm}
+use Rattle.farm.specs.declared.Checked.the-variants.{Accepted}
+use Rattle.farm.specs.Checks.{checkHerd, checkFarm, herdsOf}
+use Rattle.farm.proofs.Accepts.{farm-each}
+use Rattle.flows.specs.declared.Inputs.{Inputs}
+use Rattle.outputs.specs.Grams.{at}
+use Rattle.model.specs.Typed.{typedOf}
+use Rattle.model.specs.Answers.{herdAnswer, farmAnswer}
+use Rattle.model.proofs.Sound.{typed-sound}
+use Rattle.nearness.specs.Promised.{promisedAt, promisedOfTotal}
+use Rattle.nearness.specs.Exact.{exactAt, exactOfTotal}
+use Rattle.nearness.proofs.Herd.{within-herd}
+use Rattle.nearness.proofs.Farm.{within-totals}
+use Rattle.reader.specs.Files.{readOf, accepted}
+use Rattle.rules.proofs.Passing.{accepted-passes}
+use Rattle.calls.proofs.RecordSteps.{herd-checked, herd-figured, farm-checked}
+
+-- ---- a herd's record: every figure, by its number
+
+abbrev pub FiguresWithin : Herd → Type 0
+FiguresWithin h = (n : ℕ) → Within (promisedAt (typedOf h) n) (at (herdAnswer h .figures .grams) n) (exactAt (typedOf h) n)
+
+pub demand-3-herd : (h : Herd) → herdAnswer h .checked ≡ Accepted → FiguresWithin h
+demand-3-herd h e n =
+    let p = sym (herd-checked h) ∙ e in
+    rw (herd-figured h p) (within-herd (typedOf h) (typed-sound h p) n)
+
+-- ---- a farm's record: every total, by its number
+
+-- the typed inputs of a farm's herds, in order
+abbrev pub typedHerds : Farm → List Inputs
+typedHerds f = map typedOf (herdsOf f)
+
+abbrev pub TotalsWithin : Farm → Type 0
+TotalsWithin f = (t : ℕ) → Within (promisedOfTotal t * length (herdsOf f)) (at (farmAnswer f .totals .grams) t) (exactOfTotal (typedHerds f) t)
+
+pub demand-3-farm : (f : Farm) → farmAnswer f .checked ≡ Accepted → TotalsWithin f
+unfolding farmAnswer
+demand-3-farm f e t =
+    let p : checkFarm f ≡ Accepted = sym (farm-checked f) ∙ e in
+    rw p (within-totals typedOf (herdsOf f) (each-map typed-sound (farm-each f p)) t)
+
+-- ---- a file: the farm that is read passes the record checks, so both hold of it
+
+pub demand-3-file-herds : (s : List ℕ) (f : Farm) → readOf s ≡ accepted f → Each FiguresWithin (herdsOf f)
+demand-3-file-herds s f e = each-map (λ h p. demand-3-herd h (herd-checked h ∙ p)) (farm-each f (accepted-passes s f e))
+
+pub demand-3-file-totals : (s : List ℕ) (f : Farm) → readOf s ≡ accepted f → TotalsWithin f
+demand-3-file-totals s f e = demand-3-farm f (farm-checked f ∙ accepted-passes s f e)

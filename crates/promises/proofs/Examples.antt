@@ -1,0 +1,56 @@
+-- 01, The listing: its example, from the file's bytes to the listing's.
+-- Assumes nothing.
+use Prim.Native.Nat.{ℕ}
+use Prim.Native.String.{String}
+use mathlib.Core.Path.{_≡_, refl}
+use mathlib.Core.List.{List, [], _∷_}
+use lib.ListN.{replicate}
+use Rattle.base.specs.Text.{bytes}
+use Rattle.inputs.specs.declared.Kind.the-variants.{Pigs}
+use Rattle.farm.specs.declared.Given.the-variants.{Value}
+use Rattle.farm.specs.declared.Slot.{Slot}
+use Rattle.farm.specs.declared.Herd.{Herd}
+use Rattle.farm.specs.declared.Checked.the-variants.{Accepted}
+use Rattle.farm.specs.Labels.{labelOf}
+use Rattle.farm.specs.Herds.{noSlot}
+use Rattle.reader.specs.Files.{readOf, accepted}
+use Rattle.rules.specs.Rules.{farmOf}
+use Rattle.rules.proofs.Accepts.{accepts-exactly}
+use Rattle.rules.proofs.Examples.{pigs-keep}
+use Rattle.model.specs.Typed.{typedOf, pigsOf, housingAt}
+use Rattle.listing.specs.Listing.{each}
+use Rattle.listing.proofs.Examples.{pigLines, pig-listing}
+use Rattle.calls.specs.Listings.{fileHerdCall, listingAt}
+
+-- the file
+abbrev pub pigFile : List String
+pigFile =
+    "P1,Livestock::FatteningPigs::Excretion,animals,10\r\n"
+    ∷ "P1,Livestock::FatteningPigs::Excretion,inp_n_excretion,13\r\n"
+    ∷ "P1,Livestock::FatteningPigs::Excretion,tan_fraction,70\r\n"
+    ∷ "P1,Livestock::FatteningPigs::Housing::Type,housing_type,Outdoor\r\n"
+    ∷ []
+
+abbrev slot : ℕ → Slot
+slot v = record { given = Value v }
+
+-- the herd that it says
+abbrev pigHerd : Herd
+pigHerd =
+    record {
+      label = labelOf (bytes "P1");
+      kind = Pigs;
+      slots = slot 10 ∷ slot 13000 ∷ slot 7000 ∷ slot 4 ∷ replicate 5 noSlot;
+    }
+
+pigs-read : readOf (each bytes pigFile) ≡ accepted (farmOf (pigHerd ∷ []))
+pigs-read = accepts-exactly (each bytes pigFile) (farmOf (pigHerd ∷ [])) .1 pigs-keep
+
+pigs-listed : listingAt (farmOf (pigHerd ∷ [])) 0 ≡ each bytes pigLines
+unfolding typedOf pigsOf housingAt labelOf
+pigs-listed = pig-listing (pigHerd .label) refl
+
+-- the herd call on 01's file, for its first herd: accepted, with 01's lines
+pub pig-file-listed : fileHerdCall (each bytes pigFile) 0 ≡ record { checked = Accepted; listing = each bytes pigLines }
+unfolding fileHerdCall
+pig-file-listed = rw (pigs-read, pigs-listed)
