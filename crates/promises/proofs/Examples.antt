@@ -17,7 +17,8 @@ use Rattle.reader.specs.Files.{readOf, accepted}
 use Rattle.rules.specs.Rules.{farmOf}
 use Rattle.rules.proofs.Accepts.{accepts-exactly}
 use Rattle.rules.proofs.Examples.{pigs-keep}
-use Rattle.model.specs.Typed.{typedOf, pigsOf, housingAt}
+use Rattle.kinds.specs.Choices.{housingAt}
+use Rattle.typed.specs.Typed.{typedOf, pigsOf}
 use Rattle.listing.specs.Listing.{each}
 use Rattle.listing.proofs.Examples.{pigLines, pig-listing}
 use Rattle.calls.specs.Listings.{fileHerdCall, listingAt}
