@@ -8,8 +8,8 @@ use native.Mathlib.Omega.{arith}
 use lib.ListN.{length, getD, drop, length-take}
 use lib.Seq.{getD-take}
 use lib.IntN.{ℤ}
-use Rattle.cut.specs.Total.{addUp}
 use Rattle.base.proofs.Each.{each-getD}
+use Rattle.cut.specs.Total.{addUp}
 use Rattle.farm.specs.declared.Herd.{Herd}
 use Rattle.farm.specs.declared.Farm.{Farm}
 use Rattle.farm.specs.declared.Fault.{Fault}
@@ -18,18 +18,18 @@ use Rattle.farm.specs.declared.Checked.the-variants.{Accepted, Refused}
 use Rattle.farm.specs.Checks.{checkHerd, checkFarm, herdsOf}
 use Rattle.farm.proofs.Accepts.{farm-count, farm-each}
 use Rattle.farm.proofs.Left.{taken-at, taken-end}
-use Rattle.flows.specs.declared.Inputs.{Inputs}
-use Rattle.flows.specs.Sound.{Sound}
+use Rattle.kinds.specs.declared.Inputs.{Inputs}
+use Rattle.kinds.specs.Sound.{Sound}
+use Rattle.typed.specs.Typed.{typedOf}
+use Rattle.typed.proofs.Sound.{typed-sound}
 use Rattle.outputs.specs.declared.Figures.{Figures}
 use Rattle.outputs.specs.declared.Totals.{Totals}
 use Rattle.outputs.specs.Grams.{To, figureMost, plusGrams, zeros, noFigures, summed, totalGrams, totalsOf}
 use Rattle.outputs.proofs.Adding.{plus-to, widen, zeros-to, totals-of-sum}
 use Rattle.model.specs.declared.HerdNotes.{HerdNotes}
-use Rattle.model.specs.Typed.{typedOf}
 use Rattle.model.specs.Herd.{figuresOf}
 use Rattle.model.specs.Notes.{notesOf, noNotes}
 use Rattle.model.specs.Answers.{Added, herdFigures, herdAnswer, farmAnswer}
-use Rattle.model.proofs.Sound.{typed-sound}
 use Rattle.model.proofs.Bounds.{most, figures-to}
 
 -- figures of which the grams are none

@@ -3,25 +3,28 @@ use Prim.Native.Nat.{ℕ, _+_, _-_, _≤_}
 use native.Mathlib.Omega.{arith}
 use lib.IntN.{pos, natAbs, _-ℤ_}
 use Rattle.cut.proofs.Signed.{abs-sub}
-use Rattle.flows.specs.declared.Rates.{Rates}
-use Rattle.flows.specs.declared.Inputs.{Inputs}
-use Rattle.flows.specs.Arithmetic.{cutting}
-use Rattle.flows.specs.Sound.{Sound}
-use Rattle.flows.specs.Excretion.{ExcretionIn}
-use Rattle.flows.specs.Yard.{intoYard, nh3OnYard, throughYard}
-use Rattle.flows.specs.Grazing.{cattleRates, roughageRates, pigRates, cattleIntoGrazing, roughageIntoGrazing, pigsIntoGrazing, gas, onPasture, afterGases}
-use Rattle.flows.specs.Housing.{nh3InHousing, throughHousing, throughDoor}
-use Rattle.flows.specs.Bounds.{Modest, ModestRates}
-use Rattle.flows.proofs.OnYard.{yard-modest, yard-keeps-tan}
-use Rattle.flows.proofs.OnPasture.{gases-le}
-use Rattle.flows.proofs.InHousing.{housing-keeps-tan}
-use Rattle.flows.proofs.Into.{cattle-pasture-modest, roughage-pasture-modest, roughage-housing-modest, pig-pasture-modest, cattle-rates-modest, roughage-rates-modest, pig-rates-modest}
+use Rattle.amounts.specs.Arithmetic.{cutting}
+use Rattle.amounts.specs.Bounds.{Modest}
+use Rattle.kinds.specs.declared.Inputs.{Inputs}
+use Rattle.kinds.specs.Sound.{Sound}
+use Rattle.rates.specs.declared.Rates.{Rates}
+use Rattle.rates.specs.Rates.{roughageRates, pigsRates}
+use Rattle.rates.specs.Bounds.{ModestRates}
+use Rattle.rates.proofs.Modest.{roughage-rates-modest, pigs-rates-modest}
+use Rattle.excretion.specs.Excretion.{ExcretionIn}
+use Rattle.yard.specs.Yard.{intoYard, nh3OnYard, throughYard}
+use Rattle.yard.proofs.OnYard.{yard-modest, nh3-on-yard-le}
+use Rattle.pasture.specs.Pasture.{outdoorIntoGrazing, roughageIntoGrazing, pigsIntoGrazing, gas, onPasture, afterGases}
+use Rattle.pasture.proofs.OnPasture.{gases-le}
+use Rattle.pasture.proofs.Into.{outdoor-pasture-modest, roughage-pasture-modest, roughage-housing-modest, pigs-pasture-modest}
+use Rattle.housing.specs.Housing.{nh3InHousing, throughHousing, throughDoor}
+use Rattle.housing.proofs.InHousing.{housing-keeps-tan}
 use Rattle.outputs.specs.Sections.{FiguresIn}
 use Rattle.outputs.specs.Names.{excretion, yard, grazing, housing}
 use Rattle.outputs.specs.Grams.{gramsOf, To}
 use Rattle.outputs.proofs.Bounds.{SectionTo, sections-to}
 use Rattle.model.specs.Herd.{figuresOf}
-use Rattle.model.proofs.Sound.{Made, of-roughage, of-cattle, of-pigs, made}
+use Rattle.model.proofs.Made.{Made, of-roughage, of-outdoor, of-pigs, made}
 
 -- what no figure of a sound herd is above
 abbrev pub most : ℕ
@@ -62,7 +65,7 @@ pasture-to r n tan hr m =
 
 -- ---- kind by kind
 
-made-to : {f : FiguresIn cutting} → Made f → To most (gramsOf f)
+pub made-to : {f : FiguresIn cutting} → Made f → To most (gramsOf f)
 made-to (of-roughage r e s m) =
     let n = e .«n_excretion» in
     let tan = e .«tan_excretion» in
@@ -71,20 +74,20 @@ made-to (of-roughage r e s m) =
     sections-to most _ (excretion-to e m) (omega arith)
     (pasture-to roughageRates (roughageIntoGrazing cutting r n) (roughageIntoGrazing cutting r tan) roughage-rates-modest (roughage-pasture-modest r s n tan m))
     (housing-to n′ tan′ (nh3InHousing cutting r tan′) (roughage-housing-modest r s n tan m) (omega (arith, housing-keeps-tan r n′ tan′)))
-made-to (of-cattle c e s m) =
+made-to (of-outdoor r o e hr s m) =
     let n = e .«n_excretion» in
     let tan = e .«tan_excretion» in
     sections-to most _ (excretion-to e m)
-    (yard-to (intoYard cutting c n) (intoYard cutting c tan) (nh3OnYard cutting c (intoYard cutting c tan)) (yard-modest c s n tan m)
-    (omega (arith, yard-keeps-tan c s n tan)))
-    (pasture-to cattleRates (cattleIntoGrazing cutting c n) (cattleIntoGrazing cutting c tan) cattle-rates-modest (cattle-pasture-modest c s n tan m))
-    (door-to n tan (n - intoYard cutting c n - cattleIntoGrazing cutting c n) (tan - intoYard cutting c tan - cattleIntoGrazing cutting c tan) m
+    (yard-to (intoYard cutting o n) (intoYard cutting o tan) (nh3OnYard cutting o (intoYard cutting o tan)) (yard-modest o s n tan m)
+    (nh3-on-yard-le o s (intoYard cutting o tan)))
+    (pasture-to r (outdoorIntoGrazing cutting o n) (outdoorIntoGrazing cutting o tan) hr (outdoor-pasture-modest o s n tan m))
+    (door-to n tan (n - intoYard cutting o n - outdoorIntoGrazing cutting o n) (tan - intoYard cutting o tan - outdoorIntoGrazing cutting o tan) m
     (omega arith) (omega arith))
 made-to (of-pigs t e m) =
     let n = e .«n_excretion» in
     let tan = e .«tan_excretion» in
     sections-to most _ (excretion-to e m) (omega arith)
-    (pasture-to pigRates (pigsIntoGrazing cutting t n) (pigsIntoGrazing cutting t tan) pig-rates-modest (pig-pasture-modest t n tan m))
+    (pasture-to pigsRates (pigsIntoGrazing cutting t n) (pigsIntoGrazing cutting t tan) pigs-rates-modest (pigs-pasture-modest t n tan m))
     (door-to n tan (n - pigsIntoGrazing cutting t n) (tan - pigsIntoGrazing cutting t tan) m (omega arith) (omega arith))
 
 pub figures-to : (i : Inputs) → Sound i → To most (figuresOf i .grams)

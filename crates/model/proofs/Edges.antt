@@ -10,22 +10,22 @@ use lib.IntN.{ℤ, pos, negsuc}
 use Rattle.base.specs.Each.{Each, none, more}
 use Rattle.tables.specs.Standards.{standardOf, _kg}
 use Rattle.tables.specs.Growth.{kOf, withinDay, kAt, nearest, growthNum, growthDen, expNum, expDen}
-use Rattle.flows.specs.declared.Entered.{Entered}
-use Rattle.flows.specs.declared.Entered.the-variants.{Standard, Number}
-use Rattle.flows.specs.declared.ExerciseYard.{ExerciseYard}
-use Rattle.flows.specs.declared.ExerciseYard.the-variants.{NotAvailable, Partly, Exclusively}
-use Rattle.flows.specs.declared.Floor.the-variants.{Solid}
-use Rattle.flows.specs.declared.HousingType.the-variants.{Outdoor}
-use Rattle.flows.specs.declared.Inputs.{Inputs}
-use Rattle.flows.specs.declared.Inputs.the-variants.{Roughage, Cattle, Pigs}
-use Rattle.flows.specs.Arithmetic.{cutting}
-use Rattle.flows.specs.Units.{billionths}
-use Rattle.flows.specs.Yard.{«days_with_grazing_and_yard», «share_excretion_with_grazing», yardTime}
-use Rattle.flows.specs.Grazing.{cattleGrazingTime, roughageGrazingTime}
-use Rattle.flows.specs.Housing.{«c_grazing»}
+use Rattle.amounts.specs.Arithmetic.{cutting}
+use Rattle.amounts.specs.Units.{billionths}
+use Rattle.kinds.specs.declared.Entered.{Entered}
+use Rattle.kinds.specs.declared.Entered.the-variants.{Standard, Number}
+use Rattle.kinds.specs.declared.ExerciseYard.{ExerciseYard}
+use Rattle.kinds.specs.declared.ExerciseYard.the-variants.{NotAvailable, Partly, Exclusively}
+use Rattle.kinds.specs.declared.Floor.the-variants.{Solid}
+use Rattle.kinds.specs.declared.HousingType.the-variants.{Outdoor}
+use Rattle.kinds.specs.declared.Inputs.{Inputs}
+use Rattle.kinds.specs.declared.Inputs.the-variants.{Roughage, Cattle, Pigs}
+use Rattle.yard.specs.Yard.{«days_with_grazing_and_yard», shareLowered, «share_excretion_with_grazing», yardTime}
+use Rattle.pasture.specs.Pasture.{outdoorGrazingTime, roughageGrazingTime}
+use Rattle.housing.specs.Housing.{«c_grazing»}
+use Rattle.outputs.specs.Grams.{figure}
 use Rattle.model.specs.Herd.{figuresOf}
 use Rattle.model.specs.Notes.{notesOf}
-use Rattle.outputs.specs.Grams.{figure}
 
 -- one line of the table: a herd's figure under a name, a herd's note on its share or on its N, k at so many tenths of an hour, or c at so
 -- many days and tenths of an hour
@@ -50,12 +50,14 @@ cattle tan yard-days yard days hours =
       animals = 10;
       «inp_n_excretion» = 73 kg;
       «tan_fraction» = tan;
-      «yard_days» = yard-days;
-      «exercise_yard» = yard;
-      «floor_properties_exercise_yard» = Solid;
-      «free_correction_factor» = 0;
-      «grazing_days» = days;
-      «grazing_hours» = hours;
+      outdoor = record {
+        «yard_days» = yard-days;
+        «exercise_yard» = yard;
+        «floor_properties_exercise_yard» = Solid;
+        «free_correction_factor» = 0;
+        «grazing_days» = days;
+        «grazing_hours» = hours;
+      };
     })
 
 -- the cattle rows marked C: TAN 60 percent, yard 365 days, 12 hours
@@ -150,5 +152,5 @@ table =
     ∷ []
 
 pub edges : Each Holds table
-unfolding figuresOf notesOf yardTime cattleGrazingTime roughageGrazingTime «days_with_grazing_and_yard» «share_excretion_with_grazing» standardOf kOf withinDay kAt nearest growthNum growthDen expNum expDen
+unfolding figuresOf notesOf yardTime outdoorGrazingTime roughageGrazingTime «days_with_grazing_and_yard» shareLowered «share_excretion_with_grazing» standardOf kOf withinDay kAt nearest growthNum growthDen expNum expDen
 edges = more (figure-is refl) (more (figure-is refl) (more (figure-is refl) (more (figure-is refl) (more (figure-is refl) (more (figure-is refl) (more (figure-is refl) (more (figure-is refl) (more (figure-is refl) (more (figure-is refl) (more (figure-is refl) (more (figure-is refl) (more (figure-is refl) (more (figure-is refl) (more (figure-is refl) (more (figure-is refl) (more (figure-is refl) (more (lowered-is refl) (more (figure-is refl) (more (lowered-is refl) (more (figure-is refl) (more (figure-is refl) (more (figure-is refl) (more (figure-is refl) (more (figure-is refl) (more (figure-is refl) (more (figure-is refl) (more (figure-is refl) (more (figure-is refl) (more (figure-is refl) (more (figure-is refl) (more (figure-is refl) (more (figure-is refl) (more (figure-is refl) (more (figure-is refl) (more (figure-is refl) (more (figure-is refl) (more (figure-is refl) (more (figure-is refl) (more (figure-is refl) (more (figure-is refl) (more (figure-is refl) (more (figure-is refl) (more (k-is refl) (more (note-is refl) (more (note-is refl) (more (note-is refl) (more (note-is refl) (more (c-is refl) none))))))))))))))))))))))))))))))))))))))))))))))))

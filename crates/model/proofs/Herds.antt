@@ -6,40 +6,78 @@ use mathlib.Core.Path.{_≡_, ap, subst, sym, _∙_}
 use mathlib.Core.List.{List}
 use native.Mathlib.Omega.{arith}
 use lib.IntN.{ℤ}
-use Rattle.flows.specs.declared.Excretion.{Excretion}
-use Rattle.flows.specs.declared.Yard.{Yard}
-use Rattle.flows.specs.declared.Grazing.{Grazing}
-use Rattle.flows.specs.declared.Housing.{Housing}
-use Rattle.flows.specs.declared.Roughage.{Roughage}
-use Rattle.flows.specs.declared.Cattle.{Cattle}
-use Rattle.flows.specs.declared.Pigs.{Pigs}
-use Rattle.flows.specs.declared.Inputs.{Inputs}
-use Rattle.flows.specs.declared.Inputs.the-variants as kinds
-use Rattle.flows.specs.Arithmetic.{cutting}
-use Rattle.flows.specs.Units.{tenThousandths}
-use Rattle.flows.specs.Sound.{SoundRoughage, SoundCattle, SoundPigs, Sound, roughage, cattle, pigs, mostAnimals, mostGrams}
-use Rattle.flows.specs.Excretion.{excreted, ofExcretion, «n_excretion_animal», tanFraction}
-use Rattle.flows.specs.Yard.{onYard, noYard, ofYard}
-use Rattle.flows.specs.Grazing.{cattleGrazing, roughageGrazing, pigGrazing, ofGrazing}
-use Rattle.flows.specs.Housing.{inHousing, throughDoor, ofHousing}
-use Rattle.flows.specs.Bounds.{Modest}
-use Rattle.flows.proofs.Excreted.{excretion-modest, roughage-grams-le, roughage-fraction-le}
-use Rattle.flows.proofs.Into.{cattle-into-le, roughage-into-le, roughage-housing-modest, pig-into-le}
+use Rattle.amounts.specs.Arithmetic.{cutting}
+use Rattle.amounts.specs.Units.{tenThousandths}
+use Rattle.amounts.specs.Bounds.{Modest}
+use Rattle.kinds.specs.declared.Outdoor.{Outdoor}
+use Rattle.kinds.specs.declared.Roughage.{Roughage}
+use Rattle.kinds.specs.declared.Cattle.{Cattle}
+use Rattle.kinds.specs.declared.Pigs.{Pigs}
+use Rattle.kinds.specs.declared.Inputs.{Inputs}
+use Rattle.kinds.specs.declared.Inputs.the-variants as kinds
+use Rattle.kinds.specs.Sound.{SoundOutdoor, SoundRoughage, SoundCattle, SoundPigs, Sound, roughage, cattle, pigs, mostGrams}
+use Rattle.rates.specs.declared.Rates.{Rates}
+use Rattle.rates.specs.Rates.{cattleRates}
+use Rattle.rates.specs.Bounds.{ModestRates, RatesOf}
+use Rattle.excretion.specs.declared.Excretion.{Excretion}
+use Rattle.excretion.specs.Excretion.{excreted, ofExcretion, «n_excretion_animal», tanFraction}
+use Rattle.excretion.proofs.Modest.{excretion-modest, roughage-grams-le, roughage-fraction-le}
+use Rattle.yard.specs.declared.Yard.{Yard}
+use Rattle.yard.specs.Yard.{onYard, noYard, ofYard}
+use Rattle.pasture.specs.declared.Grazing.{Grazing}
+use Rattle.pasture.specs.Pasture.{outdoorGrazing, roughageGrazing, pigsGrazing, ofGrazing}
+use Rattle.pasture.proofs.Into.{outdoor-into-le, roughage-into-le, roughage-housing-modest, pigs-into-le}
+use Rattle.housing.specs.declared.Housing.{Housing}
+use Rattle.housing.specs.Housing.{inHousing, throughDoor, ofHousing}
 use Rattle.outputs.specs.declared.Figures.{Figures}
 use Rattle.outputs.specs.Sections.{FiguresIn, together}
 use Rattle.outputs.specs.Grams.{gramsOf, To, figureMost}
 use Rattle.outputs.proofs.Adding.{widen}
-use Rattle.model.specs.Herd.{ofRoughage, roughageOn, ofCattle, cattleOn, ofPigs, pigsOn, figuresIn, figuresOf}
-use Rattle.model.proofs.Bounds.{most, figures-to}
+use Rattle.model.specs.Herd.{ofRoughage, roughageOn, outdoorOn, ofCattle, ofPigs, pigsOn, figuresIn, figuresOf}
+use Rattle.model.proofs.Made.{Made, of-outdoor, made}
+use Rattle.model.proofs.Bounds.{most, made-to}
 
--- sections that are those of sound inputs are small, and give their figures
-module _ (i : Inputs) (s : Sound i) (e : Excretion) (y : Yard) (g : Grazing) (h : Housing) (is : together e y g h ≡ figuresIn cutting i) where
+-- sections that are those of some figures are small, and give them
+module _ {f : FiguresIn cutting} (m : Made f) (e : Excretion) (y : Yard) (g : Grazing) (h : Housing) (is : together e y g h ≡ f) where
   small : To figureMost (gramsOf (together e y g h))
-  unfolding figuresOf
-  small = subst (λ (f : FiguresIn cutting). To figureMost (gramsOf f)) (sym is) (widen most figureMost (figures-to i s) (omega arith))
+  small = subst (λ (f : FiguresIn cutting). To figureMost (gramsOf f)) (sym is) (widen most figureMost (made-to m) (omega arith))
 
-  are-grams : (f : Figures) → f .grams ≡ gramsOf (together e y g h) → f .grams ≡ gramsOf (figuresIn cutting i)
-  are-grams f q = q ∙ ap gramsOf is
+  are-grams : (r : Figures) → r .grams ≡ gramsOf (together e y g h) → r .grams ≡ gramsOf f
+  are-grams r q = q ∙ ap gramsOf is
+
+-- ---- a herd with a yard
+module _ (r : Rates) (o : Outdoor) (hr : ModestRates r) (s : SoundOutdoor o) (e : Excretion) (m : Modest (e .«n_excretion») (e .«tan_excretion»))
+    (y : Yard) (g : Grazing) (qy : ofYard y ≡ onYard cutting o (e .«n_excretion») (e .«tan_excretion»))
+    (qg : ofGrazing g ≡ outdoorGrazing cutting r o (e .«n_excretion») (e .«tan_excretion»)) where
+  outdoor-n : y .«n_into_yard» + g .«n_into_grazing» ≤ e .«n_excretion»
+  outdoor-n = rw (ap (λ x. x .«n_into_yard») qy, ap (λ x. x .«n_into_grazing») qg) (outdoor-into-le o s (e .«n_excretion»))
+
+  outdoor-tan : y .«tan_into_yard» + g .«tan_into_grazing» ≤ e .«tan_excretion»
+  outdoor-tan = rw (ap (λ x. x .«tan_into_yard») qy, ap (λ x. x .«tan_into_grazing») qg) (outdoor-into-le o s (e .«tan_excretion»))
+
+  pub yard-in-n : y .«n_into_yard» ≤ e .«n_excretion»
+  yard-in-n = omega (arith, outdoor-n)
+
+  pub yard-in-tan : y .«tan_into_yard» ≤ e .«tan_excretion»
+  yard-in-tan = omega (arith, outdoor-tan)
+
+  pub grazing-in-n : g .«n_into_grazing» ≤ e .«n_excretion» - y .«n_into_yard»
+  grazing-in-n = omega (arith, outdoor-n)
+
+  pub grazing-in-tan : g .«tan_into_grazing» ≤ e .«tan_excretion» - y .«tan_into_yard»
+  grazing-in-tan = omega (arith, outdoor-tan)
+
+  module _ (h : Housing)
+      (qh : ofHousing h ≡ throughDoor cutting (e .«n_excretion» - y .«n_into_yard» - g .«n_into_grazing») (e .«tan_excretion» - y .«tan_into_yard» - g .«tan_into_grazing»)) where
+    is-outdoor : together e y g h ≡ outdoorOn cutting r o (ofExcretion e)
+    is-outdoor =
+        cc (ap (λ x. x .«n_into_yard») qy, ap (λ x. x .«tan_into_yard») qy, ap (λ x. x .«n_into_grazing») qg, ap (λ x. x .«tan_into_grazing») qg)
+
+    pub outdoor-small : To figureMost (gramsOf (together e y g h))
+    outdoor-small = small (of-outdoor r o (ofExcretion e) hr s m) e y g h is-outdoor
+
+    pub outdoor-grams : (f : Figures) → f .grams ≡ gramsOf (together e y g h) → f .grams ≡ gramsOf (outdoorOn cutting r o (ofExcretion e))
+    outdoor-grams = are-grams (of-outdoor r o (ofExcretion e) hr s m) e y g h is-outdoor
 
 -- ---- cattle
 module _ (c : Cattle) (s : SoundCattle c) (e : Excretion)
@@ -47,39 +85,11 @@ module _ (c : Cattle) (s : SoundCattle c) (e : Excretion)
   pub cattle-modest : Modest (e .«n_excretion») (e .«tan_excretion»)
   cattle-modest = excretion-modest (c .animals) (c .«inp_n_excretion») (c .«tan_fraction») (s .animals) (s .grams) (s .fraction) e q
 
-  module _ (y : Yard) (g : Grazing) (qy : ofYard y ≡ onYard cutting c (e .«n_excretion») (e .«tan_excretion»))
-      (qg : ofGrazing g ≡ cattleGrazing cutting c (e .«n_excretion») (e .«tan_excretion»)) where
-    cattle-n : y .«n_into_yard» + g .«n_into_grazing» ≤ e .«n_excretion»
-    cattle-n = rw (ap (λ x. x .«n_into_yard») qy, ap (λ x. x .«n_into_grazing») qg) (cattle-into-le c s (e .«n_excretion»))
-
-    cattle-tan : y .«tan_into_yard» + g .«tan_into_grazing» ≤ e .«tan_excretion»
-    cattle-tan = rw (ap (λ x. x .«tan_into_yard») qy, ap (λ x. x .«tan_into_grazing») qg) (cattle-into-le c s (e .«tan_excretion»))
-
-    pub yard-in-n : y .«n_into_yard» ≤ e .«n_excretion»
-    yard-in-n = omega (arith, cattle-n)
-
-    pub yard-in-tan : y .«tan_into_yard» ≤ e .«tan_excretion»
-    yard-in-tan = omega (arith, cattle-tan)
-
-    pub grazing-in-n : g .«n_into_grazing» ≤ e .«n_excretion» - y .«n_into_yard»
-    grazing-in-n = omega (arith, cattle-n)
-
-    pub grazing-in-tan : g .«tan_into_grazing» ≤ e .«tan_excretion» - y .«tan_into_yard»
-    grazing-in-tan = omega (arith, cattle-tan)
-
-    module _ (h : Housing)
-        (qh : ofHousing h ≡ throughDoor cutting (e .«n_excretion» - y .«n_into_yard» - g .«n_into_grazing») (e .«tan_excretion» - y .«tan_into_yard» - g .«tan_into_grazing»)) where
-      is-cattle : together e y g h ≡ ofCattle cutting c
-      is-cattle =
-          let d : together e y g h ≡ cattleOn cutting c (ofExcretion e) =
-          cc (ap (λ x. x .«n_into_yard») qy, ap (λ x. x .«tan_into_yard») qy, ap (λ x. x .«n_into_grazing») qg, ap (λ x. x .«tan_into_grazing») qg) in
-          d ∙ ap (cattleOn cutting c) q
-
-      pub cattle-small : To figureMost (gramsOf (together e y g h))
-      cattle-small = small (kinds.Cattle c) (cattle s) e y g h is-cattle
-
-      pub cattle-grams : (f : Figures) → f .grams ≡ gramsOf (together e y g h) → f .grams ≡ gramsOf (ofCattle cutting c)
-      cattle-grams = are-grams (kinds.Cattle c) (cattle s) e y g h is-cattle
+  pub cattle-grams : (r : Rates) (f : Figures) → RatesOf cattleRates r → f .grams ≡ gramsOf (outdoorOn cutting r (c .outdoor) (ofExcretion e))
+      → f .grams ≡ gramsOf (ofCattle cutting c)
+  cattle-grams r f er p =
+      p ∙ ap (λ x. gramsOf (outdoorOn cutting x (c .outdoor) (ofExcretion e))) (er .is)
+      ∙ ap (λ x. gramsOf (outdoorOn cutting cattleRates (c .outdoor) x)) q
 
 -- ---- roughage-consuming animals
 module _ (r : Roughage) (s : SoundRoughage r) (grams fraction : ℕ)
@@ -115,10 +125,10 @@ module _ (r : Roughage) (s : SoundRoughage r) (grams fraction : ℕ)
             d ∙ ap (roughageOn cutting r) (rw (← qn, ← qt) q)
 
         pub roughage-small : To figureMost (gramsOf (together e y g h))
-        roughage-small = small (kinds.Roughage r) (roughage s) e y g h is-roughage
+        roughage-small = small (made (roughage s)) e y g h is-roughage
 
         pub roughage-grams : (f : Figures) → f .grams ≡ gramsOf (together e y g h) → f .grams ≡ gramsOf (ofRoughage cutting r)
-        roughage-grams = are-grams (kinds.Roughage r) (roughage s) e y g h is-roughage
+        roughage-grams = are-grams (made (roughage s)) e y g h is-roughage
 
 -- ---- pigs
 module _ (p : Pigs) (s : SoundPigs p) (e : Excretion)
@@ -126,12 +136,12 @@ module _ (p : Pigs) (s : SoundPigs p) (e : Excretion)
   pub pigs-modest : Modest (e .«n_excretion») (e .«tan_excretion»)
   pigs-modest = excretion-modest (p .animals) (p .«inp_n_excretion») (p .«tan_fraction») (s .animals) (s .grams) (s .fraction) e q
 
-  module _ (g : Grazing) (qg : ofGrazing g ≡ pigGrazing cutting (p .«housing_type») (e .«n_excretion») (e .«tan_excretion»)) where
+  module _ (g : Grazing) (qg : ofGrazing g ≡ pigsGrazing cutting (p .«housing_type») (e .«n_excretion») (e .«tan_excretion»)) where
     pub pigs-n : g .«n_into_grazing» ≤ e .«n_excretion»
-    pigs-n = rw (ap (λ x. x .«n_into_grazing») qg) (pig-into-le (p .«housing_type») (e .«n_excretion»))
+    pigs-n = rw (ap (λ x. x .«n_into_grazing») qg) (pigs-into-le (p .«housing_type») (e .«n_excretion»))
 
     pub pigs-tan : g .«tan_into_grazing» ≤ e .«tan_excretion»
-    pigs-tan = rw (ap (λ x. x .«tan_into_grazing») qg) (pig-into-le (p .«housing_type») (e .«tan_excretion»))
+    pigs-tan = rw (ap (λ x. x .«tan_into_grazing») qg) (pigs-into-le (p .«housing_type») (e .«tan_excretion»))
 
     module _ (y : Yard) (h : Housing) (qy : ofYard y ≡ noYard cutting)
         (qh : ofHousing h ≡ throughDoor cutting (e .«n_excretion» - g .«n_into_grazing») (e .«tan_excretion» - g .«tan_into_grazing»)) where
@@ -142,10 +152,10 @@ module _ (p : Pigs) (s : SoundPigs p) (e : Excretion)
           d ∙ ap (pigsOn cutting (p .«housing_type»)) q
 
       pub pigs-small : To figureMost (gramsOf (together e y g h))
-      pigs-small = small (kinds.Pigs p) (pigs s) e y g h is-pigs
+      pigs-small = small (made (pigs s)) e y g h is-pigs
 
       pub pigs-grams : (f : Figures) → f .grams ≡ gramsOf (together e y g h) → f .grams ≡ gramsOf (ofPigs cutting p)
-      pigs-grams = are-grams (kinds.Pigs p) (pigs s) e y g h is-pigs
+      pigs-grams = are-grams (made (pigs s)) e y g h is-pigs
 
 -- ---- any kind
 module _ (i : Inputs) (s : Sound i) where
@@ -184,7 +194,9 @@ figures-of-cattle i c = figures-are i (kinds.Cattle c)
 pub figures-of-pigs : (i : Inputs) (p : Pigs) (f : Figures) → f .grams ≡ gramsOf (ofPigs cutting p) → i ≡ kinds.Pigs p → f ≡ figuresOf i
 figures-of-pigs i p = figures-are i (kinds.Pigs p)
 
-pub ruleset cattle-steps = (cattle-modest, yard-in-n, yard-in-tan, grazing-in-n, grazing-in-tan, cattle-small, cattle-grams)
+pub ruleset outdoor-steps = (yard-in-n, yard-in-tan, grazing-in-n, grazing-in-tan, outdoor-small, outdoor-grams)
+
+pub ruleset cattle-steps = (cattle-modest, cattle-grams)
 
 pub ruleset roughage-steps = (grams-within, fraction-within, roughage-modest, roughage-n, roughage-tan, housed-modest, roughage-small, roughage-grams)
 

@@ -20,27 +20,30 @@ use Rattle.farm.specs.declared.Farm.{Farm}
 use Rattle.farm.specs.declared.Checked.the-variants.{Accepted}
 use Rattle.farm.specs.Checks.{checkHerd, checkFarm, herdsOf}
 use Rattle.farm.proofs.Accepts.{farm-each}
-use Rattle.flows.specs.declared.Roughage.{Roughage}
-use Rattle.flows.specs.declared.Inputs.{Inputs}
-use Rattle.flows.specs.declared.Inputs.the-variants as kinds
-use Rattle.flows.specs.Arithmetic.{cutting}
-use Rattle.flows.specs.Sound.{SoundRoughage, Sound}
-use Rattle.flows.specs.Excretion.{ExcretionIn}
-use Rattle.flows.specs.Grazing.{cattleRates, roughageRates, pigRates, cattleIntoGrazing, roughageIntoGrazing, pigsIntoGrazing}
-use Rattle.flows.specs.Bounds.{Modest}
-use Rattle.flows.proofs.OnYard.{yard-keeps-n, yard-keeps-tan}
-use Rattle.flows.proofs.OnPasture.{pasture-keeps-n, pasture-keeps-tan}
-use Rattle.flows.proofs.InHousing.{housing-keeps-n, housing-keeps-tan}
-use Rattle.flows.proofs.Into.{cattle-into-le, roughage-into-le, pig-into-le, cattle-pasture-modest, roughage-pasture-modest, roughage-housing-modest, pig-pasture-modest, cattle-rates-modest, roughage-rates-modest, pig-rates-modest}
+use Rattle.amounts.specs.Arithmetic.{cutting}
+use Rattle.amounts.specs.Bounds.{Modest}
+use Rattle.kinds.specs.declared.Roughage.{Roughage}
+use Rattle.kinds.specs.declared.Inputs.{Inputs}
+use Rattle.kinds.specs.declared.Inputs.the-variants as kinds
+use Rattle.kinds.specs.Sound.{SoundRoughage, Sound}
+use Rattle.rates.specs.Rates.{roughageRates, pigsRates}
+use Rattle.rates.proofs.Modest.{roughage-rates-modest, pigs-rates-modest}
+use Rattle.excretion.specs.Excretion.{ExcretionIn}
+use Rattle.yard.proofs.OnYard.{yard-keeps-n, yard-keeps-tan}
+use Rattle.pasture.specs.Pasture.{outdoorIntoGrazing, roughageIntoGrazing, pigsIntoGrazing}
+use Rattle.pasture.proofs.OnPasture.{pasture-keeps-n, pasture-keeps-tan}
+use Rattle.pasture.proofs.Into.{outdoor-into-le, roughage-into-le, pigs-into-le, outdoor-pasture-modest, roughage-pasture-modest, roughage-housing-modest, pigs-pasture-modest}
+use Rattle.housing.proofs.InHousing.{housing-keeps-n, housing-keeps-tan}
+use Rattle.typed.specs.Typed.{typedOf}
+use Rattle.typed.proofs.Sound.{typed-sound}
 use Rattle.outputs.specs.declared.Figures.{Figures}
 use Rattle.outputs.specs.Sections.{FiguresIn}
 use Rattle.outputs.specs.Grams.{gramsOf, figure, total, totalsOf}
 use Rattle.outputs.proofs.Alone.{isAlone, totals-balance}
-use Rattle.model.specs.Typed.{typedOf}
 use Rattle.model.specs.Herd.{roughageOn, figuresOf}
 use Rattle.model.specs.Answers.{herdFigures, farmAnswer}
 use Rattle.model.specs.Kept.{Balance, Balanced, farmBalances, yardBalances, Keeps, KeepsHousing, KeepsTotals}
-use Rattle.model.proofs.Sound.{typed-sound, Made, of-roughage, of-cattle, of-pigs, made, roughage-starts}
+use Rattle.model.proofs.Made.{Made, of-roughage, of-outdoor, of-pigs, made, roughage-starts}
 
 -- ---- a herd
 
@@ -90,19 +93,19 @@ made-keeps (of-roughage r e s m) =
     (pasture-keeps-n roughageRates (roughageIntoGrazing cutting r n) (roughageIntoGrazing cutting r tan) roughage-rates-modest (roughage-pasture-modest r s n tan m))
     (pasture-keeps-tan roughageRates (roughageIntoGrazing cutting r n) (roughageIntoGrazing cutting r tan))
     refl refl
-made-keeps (of-cattle c e s m) =
+made-keeps (of-outdoor r o e hr s m) =
     let n = e .«n_excretion» in
     let tan = e .«tan_excretion» in
-    keeps-from _ (omega (arith, cattle-into-le c s n)) (omega (arith, cattle-into-le c s tan))
-    (pasture-keeps-n cattleRates (cattleIntoGrazing cutting c n) (cattleIntoGrazing cutting c tan) cattle-rates-modest (cattle-pasture-modest c s n tan m))
-    (pasture-keeps-tan cattleRates (cattleIntoGrazing cutting c n) (cattleIntoGrazing cutting c tan))
-    (yard-keeps-n c s n tan m) (yard-keeps-tan c s n tan)
+    keeps-from _ (omega (arith, outdoor-into-le o s n)) (omega (arith, outdoor-into-le o s tan))
+    (pasture-keeps-n r (outdoorIntoGrazing cutting o n) (outdoorIntoGrazing cutting o tan) hr (outdoor-pasture-modest o s n tan m))
+    (pasture-keeps-tan r (outdoorIntoGrazing cutting o n) (outdoorIntoGrazing cutting o tan))
+    (yard-keeps-n o s n tan m) (yard-keeps-tan o s n tan)
 made-keeps (of-pigs t e m) =
     let n = e .«n_excretion» in
     let tan = e .«tan_excretion» in
-    keeps-from _ (omega (arith, pig-into-le t n)) (omega (arith, pig-into-le t tan))
-    (pasture-keeps-n pigRates (pigsIntoGrazing cutting t n) (pigsIntoGrazing cutting t tan) pig-rates-modest (pig-pasture-modest t n tan m))
-    (pasture-keeps-tan pigRates (pigsIntoGrazing cutting t n) (pigsIntoGrazing cutting t tan))
+    keeps-from _ (omega (arith, pigs-into-le t n)) (omega (arith, pigs-into-le t tan))
+    (pasture-keeps-n pigsRates (pigsIntoGrazing cutting t n) (pigsIntoGrazing cutting t tan) pigs-rates-modest (pigs-pasture-modest t n tan m))
+    (pasture-keeps-tan pigsRates (pigsIntoGrazing cutting t n) (pigsIntoGrazing cutting t tan))
     refl refl
 
 pub kept : (i : Inputs) → Sound i → Keeps (figuresOf i)

@@ -1,9 +1,7 @@
-pub mod Named
 pub mod Edges
 pub mod Herds
-pub mod Choices
 pub mod NoteSteps
-pub mod Sound
+pub mod Made
 pub mod Bounds
 pub mod AnswerSteps
 pub mod Kept

@@ -12,18 +12,17 @@ use Rattle.base.proofs.Clash.{clash}
 use Rattle.cut.proofs.Products.{mul-fits}
 use Rattle.tables.specs.Standards.{standardOf}
 use Rattle.tables.proofs.Standards.{standard-most}
-use Rattle.flows.specs.declared.Entered.{Entered}
-use Rattle.flows.specs.declared.Entered.the-variants.{Standard, Number}
-use Rattle.flows.specs.declared.Roughage.{Roughage}
-use Rattle.flows.specs.declared.Cattle.{Cattle}
-use Rattle.flows.specs.declared.Pigs.{Pigs}
-use Rattle.flows.specs.declared.Inputs.{Inputs}
-use Rattle.flows.specs.declared.Inputs.the-variants as kinds
-use Rattle.flows.specs.Units.{tenThousandths}
-use Rattle.flows.specs.Sound.{EnteredTo, standard, number, mostGrams}
-use Rattle.flows.specs.Yard.{bothOf, shareOf}
+use Rattle.amounts.specs.Units.{tenThousandths}
+use Rattle.kinds.specs.declared.Entered.{Entered}
+use Rattle.kinds.specs.declared.Entered.the-variants.{Standard, Number}
+use Rattle.kinds.specs.declared.Roughage.{Roughage}
+use Rattle.kinds.specs.declared.Cattle.{Cattle}
+use Rattle.kinds.specs.declared.Pigs.{Pigs}
+use Rattle.kinds.specs.declared.Inputs.{Inputs}
+use Rattle.kinds.specs.declared.Inputs.the-variants as kinds
+use Rattle.kinds.specs.Sound.{EnteredTo, standard, number, mostGrams}
 use Rattle.model.specs.declared.HerdNotes.{HerdNotes}
-use Rattle.model.specs.Notes.{offStandard, offShare, shareLowered, roughageNotes, cattleNotes, noNotes, notesOf}
+use Rattle.model.specs.Notes.{offStandard, offShare, roughageNotes, cattleNotes, noNotes, notesOf}
 
 -- a number that was entered is in range
 pub entered-most : (m : ℕ) (e : Entered) (n : ℕ) → EnteredTo m e → e ≡ Number n → n ≤ m
@@ -60,13 +59,6 @@ module _ (e : Entered) (fraction : ℕ) (q : e ≡ Number fraction) where
   pub tan-other : 4000 ≤ fraction + 2000 → ltb 6000 fraction ≡ offShare e
   tan-other h = rw (q, le-ltb (fraction + 2000) 4000 h)
 
-module _ (c : Cattle) (both share : ℕ) (qb : both ≡ bothOf c) where
-  pub no-both : both ≡ 0 → false ≡ shareLowered c
-  no-both z = rw (← qb, z)
-
-  pub some-both : (both ≡ 0 → ⊥) → share ≡ shareOf c → ltb 2 share ≡ shareLowered c
-  some-both n qs = rw (← qb, ← qs, lt-ltb 0 both (omega arith))
-
 module _ (n : HerdNotes) (i : Inputs) where
   pub notes-of-roughage : (r : Roughage) → n ≡ roughageNotes r → i ≡ kinds.Roughage r → n ≡ notesOf i
   unfolding notesOf
@@ -83,4 +75,4 @@ module _ (n : HerdNotes) (i : Inputs) where
 pub ruleset kind-notes = (notes-of-roughage, notes-of-cattle, notes-of-pigs)
 
 pub ruleset note-steps =
-    (entered-fits, standard-fits, fraction-fits, n-standard, tan-standard, n-below, n-other, tan-below, tan-other, no-both, some-both)
+    (entered-fits, standard-fits, fraction-fits, n-standard, tan-standard, n-below, n-other, tan-below, tan-other)

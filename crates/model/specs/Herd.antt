@@ -1,15 +1,18 @@
 -- A herd's figures, kind by kind: excretion, yard, pasture and housing. Once over any arithmetic, and then on whole grams. What goes into the housing is found here, from the other parts: "Into housing is what remains." (01, Steps and cuts.)
-use Rattle.flows.specs.declared.Roughage.{Roughage}
-use Rattle.flows.specs.declared.Cattle.{Cattle}
-use Rattle.flows.specs.declared.Pigs.{Pigs}
-use Rattle.flows.specs.declared.HousingType.{HousingType}
-use Rattle.flows.specs.declared.Inputs.{Inputs}
-use Rattle.flows.specs.declared.Inputs.the-variants as kinds
-use Rattle.flows.specs.Arithmetic.{Arithmetic, cutting}
-use Rattle.flows.specs.Excretion.{ExcretionIn, excreted, «n_excretion_animal», tanFraction}
-use Rattle.flows.specs.Yard.{YardIn, onYard, noYard}
-use Rattle.flows.specs.Grazing.{GrazingIn, cattleGrazing, roughageGrazing, pigGrazing}
-use Rattle.flows.specs.Housing.{inHousing, throughDoor}
+use Rattle.amounts.specs.Arithmetic.{Arithmetic, cutting}
+use Rattle.kinds.specs.declared.Outdoor.{Outdoor}
+use Rattle.kinds.specs.declared.Roughage.{Roughage}
+use Rattle.kinds.specs.declared.Cattle.{Cattle}
+use Rattle.kinds.specs.declared.Pigs.{Pigs}
+use Rattle.kinds.specs.declared.HousingType.{HousingType}
+use Rattle.kinds.specs.declared.Inputs.{Inputs}
+use Rattle.kinds.specs.declared.Inputs.the-variants as kinds
+use Rattle.rates.specs.declared.Rates.{Rates}
+use Rattle.rates.specs.Rates.{cattleRates}
+use Rattle.excretion.specs.Excretion.{ExcretionIn, excreted, «n_excretion_animal», tanFraction}
+use Rattle.yard.specs.Yard.{YardIn, onYard, noYard}
+use Rattle.pasture.specs.Pasture.{GrazingIn, outdoorGrazing, roughageGrazing, pigsGrazing}
+use Rattle.housing.specs.Housing.{inHousing, throughDoor}
 use Rattle.outputs.specs.declared.Figures.{Figures}
 use Rattle.outputs.specs.Sections.{FiguresIn}
 use Rattle.outputs.specs.Grams.{gramsOf}
@@ -37,9 +40,9 @@ module _ (A : Arithmetic) where
       roughageOn r
       (excreted A (r .animals) («n_excretion_animal» (r .animalcategory) (r .«inp_n_excretion»)) (tanFraction (r .«tan_fraction»)))
 
-  -- 2.22, 2.33 to 2.35; into the housing (2.23) goes what yard and pasture leave
-  abbrev pub cattleFrom : ExcretionIn A → YardIn A → GrazingIn A → FiguresIn A
-  cattleFrom e y g =
+  -- a kind with the module `Outdoor`: 2.33 to 2.35, at its rates; into the housing (2.23) goes what yard and pasture leave
+  abbrev pub outdoorFrom : ExcretionIn A → YardIn A → GrazingIn A → FiguresIn A
+  outdoorFrom e y g =
       record {
         excretion = e;
         yard = y;
@@ -50,14 +53,15 @@ module _ (A : Arithmetic) where
             (e .«tan_excretion» ⊖ y .«tan_into_yard» ⊖ g .«tan_into_grazing»);
       }
 
-  abbrev pub cattleOn : Cattle → ExcretionIn A → FiguresIn A
-  cattleOn c e =
-      cattleFrom e
-      (onYard A c (e .«n_excretion») (e .«tan_excretion»))
-      (cattleGrazing A c (e .«n_excretion») (e .«tan_excretion»))
+  abbrev pub outdoorOn : Rates → Outdoor → ExcretionIn A → FiguresIn A
+  outdoorOn r o e =
+      outdoorFrom e
+      (onYard A o (e .«n_excretion») (e .«tan_excretion»))
+      (outdoorGrazing A r o (e .«n_excretion») (e .«tan_excretion»))
 
+  -- 2.22
   abbrev pub ofCattle : Cattle → FiguresIn A
-  ofCattle c = cattleOn c (excreted A (c .animals) (c .«inp_n_excretion») (c .«tan_fraction»))
+  ofCattle c = outdoorOn cattleRates (c .outdoor) (excreted A (c .animals) (c .«inp_n_excretion») (c .«tan_fraction»))
 
   -- 2.50, 2.61; into the housing (2.51) goes what the pasture leaves
   abbrev pub pigsFrom : ExcretionIn A → GrazingIn A → FiguresIn A
@@ -71,7 +75,7 @@ module _ (A : Arithmetic) where
 
   abbrev pub pigsOn : HousingType → ExcretionIn A → FiguresIn A
   pigsOn t e =
-      pigsFrom e (pigGrazing A t (e .«n_excretion») (e .«tan_excretion»))
+      pigsFrom e (pigsGrazing A t (e .«n_excretion») (e .«tan_excretion»))
 
   abbrev pub ofPigs : Pigs → FiguresIn A
   ofPigs p = pigsOn (p .«housing_type») (excreted A (p .animals) (p .«inp_n_excretion») (p .«tan_fraction»))

@@ -1,16 +1,16 @@
 -- 01, "Notes": each a yes or no beside a herd's figures. `standard` gives none, and a kind that lacks the input gives none.
 use Prim.Native.Nat.{ℕ, _+_, _*_}
-use mathlib.Core.Bool.{Bool, false, not, _&&_, _||_}
+use mathlib.Core.Bool.{Bool, false, not, _||_}
 use lib.Dec.{ltb, eqb}
 use Rattle.tables.specs.Standards.{standardOf, «share_Nsol»}
-use Rattle.flows.specs.declared.Entered.{Entered}
-use Rattle.flows.specs.declared.Entered.the-variants.{Standard, Number}
-use Rattle.flows.specs.declared.Roughage.{Roughage}
-use Rattle.flows.specs.declared.Cattle.{Cattle}
-use Rattle.flows.specs.declared.Inputs.{Inputs}
-use Rattle.flows.specs.declared.Inputs.the-variants as kinds
+use Rattle.kinds.specs.declared.Entered.{Entered}
+use Rattle.kinds.specs.declared.Entered.the-variants.{Standard, Number}
+use Rattle.kinds.specs.declared.Roughage.{Roughage}
+use Rattle.kinds.specs.declared.Cattle.{Cattle}
+use Rattle.kinds.specs.declared.Inputs.{Inputs}
+use Rattle.kinds.specs.declared.Inputs.the-variants as kinds
+use Rattle.yard.specs.Yard.{shareLowered}
 use Rattle.model.specs.declared.HerdNotes.{HerdNotes}
-use Rattle.flows.specs.Yard.{bothOf, shareOf, «share_available_roughage_is_partly_supplied_in_the_exercise_yard»}
 
 -- 2.84, n_excretion_animal: below 0.7 or above 1.3 of the standard, in tenths
 abbrev pub offStandard : ℕ → Entered → Bool
@@ -26,10 +26,6 @@ offShare (Number fraction) = ltb (fraction + 2000) «share_Nsol» || ltb («shar
 abbrev pub freeEntered : ℕ → Bool
 freeEntered free = not (eqb free 0)
 
--- 2.34, share_excretion_with_grazing: days with both, and a share above 0.2
-abbrev pub shareLowered : Cattle → Bool
-shareLowered c = ltb 0 (bothOf c) && ltb «share_available_roughage_is_partly_supplied_in_the_exercise_yard» (shareOf c)
-
 abbrev pub noted : Bool → Bool → Bool → Bool → HerdNotes
 noted n tan free share = record { «n_off_standard» = n; «tan_off_standard» = tan; «free_factor» = free; «share_lowered» = share }
 
@@ -37,8 +33,9 @@ abbrev pub roughageNotes : Roughage → HerdNotes
 roughageNotes r =
     noted (offStandard (r .animalcategory) (r .«inp_n_excretion»)) (offShare (r .«tan_fraction»)) (freeEntered (r .«free_correction_factor»)) false
 
+-- the share is lowered: 2.34, share_excretion_with_grazing
 abbrev pub cattleNotes : Cattle → HerdNotes
-cattleNotes c = noted false false (freeEntered (c .«free_correction_factor»)) (shareLowered c)
+cattleNotes c = noted false false (freeEntered (c .outdoor .«free_correction_factor»)) (shareLowered (c .outdoor))
 
 abbrev pub noNotes : HerdNotes
 noNotes = noted false false false false

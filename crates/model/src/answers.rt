@@ -3,7 +3,6 @@ use crate::FarmAnswer;
 use crate::HerdAnswer;
 use crate::herd;
 use crate::notes;
-use crate::typed;
 use farm::Checked;
 use farm::Farm;
 use farm::Herd;

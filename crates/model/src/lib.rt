@@ -1,5 +1,4 @@
-// From a farm's records to its figures: a checked herd as typed inputs, a herd's figures and notes, a farm's totals.
-pub mod typed; // a herd's record as the complete inputs of its kind
+// From a farm's records to its answers: a herd's figures and notes, a farm's totals.
 pub mod herd; // a herd's figures, kind by kind
 pub mod notes; // what an adviser is told beside the figures
 pub mod answers; // a record's figures or its refusal

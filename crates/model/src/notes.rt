@@ -1,18 +1,16 @@
 // What an adviser is told beside the figures.
 use crate::HerdNotes;
-use flows::Cattle;
-use flows::Entered;
-use flows::Inputs;
-use flows::Roughage;
-use flows::yards;
+use amounts::TENTHS;
+use kinds::Cattle;
+use kinds::Entered;
+use kinds::Inputs;
+use kinds::Roughage;
 ghost use mathlib.Core.Path.{_≡_};
-ghost use Rattle.flows.specs.Sound.{EnteredTo, SoundRoughage, SoundCattle, Sound, mostGrams};
-ghost use Rattle.flows.specs.Units.{tenThousandths};
-ghost use Rattle.model.specs.Notes.{offStandard, offShare, shareLowered, roughageNotes, cattleNotes, noNotes, notesOf};
+ghost use Rattle.amounts.specs.Units.{tenThousandths};
+ghost use Rattle.kinds.specs.Sound.{EnteredTo, SoundRoughage, SoundCattle, Sound, mostGrams};
+ghost use Rattle.model.specs.Notes.{offStandard, offShare, roughageNotes, cattleNotes, noNotes, notesOf};
 
 // Below 0.7 or above 1.3 of the standard, in tenths; off the share by more than 0.2, in ten-thousandths.
-const TENTHS: u64 = 10;
-
 const LOW: u64 = 7;
 
 const HIGH: u64 = 13;
@@ -46,17 +44,6 @@ fn tan_off_standard(entered: Entered) -> bool
     tables::SHARE_NSOL + OFF < fraction
 }
 
-fn share_lowered(c: Cattle) -> bool
-    requires { ⌜ SoundCattle c ⌝ }
-    ensures { λ r. ⌜ r ≡ shareLowered c ⌝ }
-{
-    let yard = c.exercise_yard;
-    if yards::days_with_grazing_and_yard(c.grazing_days, c.yard_days) == 0 {
-        return false;
-    }
-    yards::SHARE_PARTLY < yards::share_excretion(yard)
-}
-
 fn roughage_notes(r: Roughage) -> HerdNotes
     requires { ⌜ SoundRoughage r ⌝ }
     ensures { λ n. ⌜ n ≡ roughageNotes r ⌝ }
@@ -75,11 +62,12 @@ fn cattle_notes(c: Cattle) -> HerdNotes
     requires { ⌜ SoundCattle c ⌝ }
     ensures { λ n. ⌜ n ≡ cattleNotes c ⌝ }
 {
+    let outdoor = c.outdoor;
     HerdNotes {
         n_off_standard: false,
         tan_off_standard: false,
-        free_factor: c.free_correction_factor != 0,
-        share_lowered: share_lowered(c),
+        free_factor: outdoor.free_correction_factor != 0,
+        share_lowered: yard::share_lowered(outdoor),
     }
 }
 

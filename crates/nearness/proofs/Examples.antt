@@ -8,35 +8,35 @@ use Prim.Native.String.{String}
 use native.Mathlib.Omega.{arith}
 use lib.Dec.{T, leb, le→leb, lit<, lit≤}
 use lib.IntN.{ℤ, pos, negsuc, _-ℤ_, _*ℤ_, natAbs}
+use Rattle.base.specs.Each.{Each, none, more}
+use Rattle.base.proofs.Each.{each-map}
 use Rattle.cut.specs.Cut.{_cutBy_}
 use Rattle.cut.specs.Frac as F
 use Rattle.cut.specs.Frac.{Frac, whole, per, _⊗_, Within}
-use Rattle.base.specs.Each.{Each, none, more}
 use Rattle.cut.proofs.Signed.{dn}
-use Rattle.base.proofs.Each.{each-map}
 use Rattle.tables.specs.Standards.{_kg}
 use Rattle.tables.specs.Growth.{expNum, expDen, growthNum, growthDen, kOf, withinDay, kAt, nearest}
-use Rattle.flows.specs.declared.Entered.the-variants.{Number}
-use Rattle.flows.specs.declared.ExerciseYard.the-variants.{Partly, Exclusively}
-use Rattle.flows.specs.declared.Floor.the-variants.{Solid}
-use Rattle.flows.specs.declared.HousingType.the-variants.{Outdoor}
-use Rattle.flows.specs.declared.Inputs.{Inputs}
-use Rattle.flows.specs.declared.Inputs.the-variants.{Roughage, Cattle, Pigs}
-use Rattle.flows.specs.Units.{billionths}
-use Rattle.flows.specs.Arithmetic.{Arithmetic}
-use Rattle.flows.specs.Portion.{portion}
-use Rattle.flows.specs.Yard.{«days_with_grazing_and_yard», «share_excretion_with_grazing», yardTime}
-use Rattle.flows.specs.Grazing.{cattleGrazingTime, roughageGrazingTime, gas}
-use Rattle.flows.specs.Sound.{Sound, roughage, cattle, pigs, number}
+use Rattle.amounts.specs.Units.{billionths}
+use Rattle.amounts.specs.Arithmetic.{Arithmetic}
+use Rattle.amounts.specs.Portion.{portion}
+use Rattle.kinds.specs.declared.Entered.the-variants.{Number}
+use Rattle.kinds.specs.declared.ExerciseYard.the-variants.{Partly, Exclusively}
+use Rattle.kinds.specs.declared.Floor.the-variants.{Solid}
+use Rattle.kinds.specs.declared.HousingType.the-variants.{Outdoor}
+use Rattle.kinds.specs.declared.Inputs.{Inputs}
+use Rattle.kinds.specs.declared.Inputs.the-variants.{Roughage, Cattle, Pigs}
+use Rattle.kinds.specs.Sound.{Sound, roughage, cattle, pigs, number}
+use Rattle.yard.specs.Yard.{«days_with_grazing_and_yard», shareLowered, «share_excretion_with_grazing», yardTime}
+use Rattle.pasture.specs.Pasture.{outdoorGrazingTime, roughageGrazingTime, gas}
 use Rattle.outputs.specs.Names.{texts, totalTexts, totalNumber}
 use Rattle.outputs.specs.Grams.{at, figure, total, farmTotal, totalsOf}
 use Rattle.model.specs.Herd.{figuresIn, figuresOf}
 use Rattle.model.proofs.Edges.{C, row4}
 use Rattle.nearness.specs.ByName.{saidOf, saidAt}
 use Rattle.nearness.specs.Promised.{promised, _within_, promisedAt, promisedOfTotal}
+use Rattle.nearness.specs.Exact.{exact, exactOf, exactAt, exactFigure, exactOfTotal}
 use Rattle.nearness.proofs.Herd.{within-herd, within-figure}
 use Rattle.nearness.proofs.Farm.{within-farm, within-total}
-use Rattle.nearness.specs.Exact.{exact, exactOf, exactAt, exactFigure, exactOfTotal}
 
 -- what is off by more than e is not within e: the test computes
 off : (e : ℕ) (x : ℤ) (q : Frac) → Within e x q → T (leb (natAbs (x *ℤ pos (q .den) -ℤ q .num)) (e * q .den))
@@ -71,16 +71,16 @@ eleven-grams = off promised (pos 0) (whole 11)
 -- ---- below zero: 01's row 4, whose TAN remaining is -5226 grams, and exactly -5226.8
 
 pub row4-figure : figure "tan_remain_grazing" (figuresOf row4) ≡ negsuc 5225
-unfolding figuresOf yardTime cattleGrazingTime «days_with_grazing_and_yard» «share_excretion_with_grazing»
+unfolding figuresOf yardTime outdoorGrazingTime «days_with_grazing_and_yard» shareLowered «share_excretion_with_grazing»
 row4-figure = refl
 
 pub row4-below-zero : 0 < dn (exactFigure "tan_remain_grazing" row4 .num)
-unfolding exactOf exactAt yardTime cattleGrazingTime «days_with_grazing_and_yard» «share_excretion_with_grazing»
+unfolding exactOf exactAt yardTime outdoorGrazingTime «days_with_grazing_and_yard» shareLowered «share_excretion_with_grazing»
 row4-below-zero = lit< tt
 
 pub row4-exact : exactFigure "tan_remain_grazing" row4 .num *ℤ pos 10
     ≡ negsuc 52267 *ℤ pos (exactFigure "tan_remain_grazing" row4 .den)
-unfolding exactOf exactAt yardTime cattleGrazingTime «days_with_grazing_and_yard» «share_excretion_with_grazing»
+unfolding exactOf exactAt yardTime outdoorGrazingTime «days_with_grazing_and_yard» shareLowered «share_excretion_with_grazing»
 row4-exact = refl
 
 pub row4-within : Within promised (figure "tan_remain_grazing" (figuresOf row4)) (exactFigure "tan_remain_grazing" row4)
@@ -111,12 +111,14 @@ largestCattle =
       animals = 10000;
       «inp_n_excretion» = 200 kg;
       «tan_fraction» = 10000;
-      «yard_days» = 365;
-      «exercise_yard» = Exclusively;
-      «floor_properties_exercise_yard» = Solid;
-      «free_correction_factor» = 0;
-      «grazing_days» = 200;
-      «grazing_hours» = 235;
+      outdoor = record {
+        «yard_days» = 365;
+        «exercise_yard» = Exclusively;
+        «floor_properties_exercise_yard» = Solid;
+        «free_correction_factor» = 0;
+        «grazing_days» = 200;
+        «grazing_hours» = 235;
+      };
     })
 
 abbrev largestPigs : Inputs
@@ -131,7 +133,12 @@ roughage-sound =
 
 cattle-sound : Sound largestCattle
 cattle-sound =
-    cattle (record { animals = lit≤ tt; grams = lit≤ tt; fraction = lit≤ tt; yard = lit≤ tt; free = lit≤ tt; days = lit≤ tt; hours = lit≤ tt })
+    cattle (record {
+      animals = lit≤ tt;
+      grams = lit≤ tt;
+      fraction = lit≤ tt;
+      outdoor = record { yard = lit≤ tt; free = lit≤ tt; days = lit≤ tt; hours = lit≤ tt };
+    })
 
 pigs-sound : Sound largestPigs
 pigs-sound = pigs (record { animals = lit≤ tt; grams = lit≤ tt; fraction = lit≤ tt })
@@ -222,7 +229,7 @@ abbrev atOtherRate : Frac
 atOtherRate = gas exact (exactFigure "tan_into_grazing" row1) 840
 
 pub with-other-rate : Within promised (figure "nh3_ngrazing" (figuresOf row1)) atOtherRate → ⊥
-unfolding figuresOf exactOf exactAt yardTime cattleGrazingTime «days_with_grazing_and_yard» «share_excretion_with_grazing»
+unfolding figuresOf exactOf exactAt yardTime outdoorGrazingTime «days_with_grazing_and_yard» shareLowered «share_excretion_with_grazing»
 with-other-rate = off promised (figure "nh3_ngrazing" (figuresOf row1)) atOtherRate
 
 -- a cut before the multiplication: 400 of 3650 parts of a ton

@@ -3,14 +3,14 @@ use Prim.Native.Nat.{ℕ, _*_, _≤_}
 use lib.Dec.{lit<}
 use lib.IntN.{pos}
 use Rattle.cut.proofs.Near.{Near, near-whole}
-use Rattle.flows.specs.Units.{tenThousandths}
-use Rattle.flows.specs.Arithmetic.{cutting}
-use Rattle.flows.specs.Bounds.{Modest}
-use Rattle.flows.specs.Excretion.{ExcretionIn, excreted}
-use Rattle.flows.specs.Sound.{mostAnimals, mostGrams}
-use Rattle.flows.proofs.Excreted.{excreted-modest}
-use Rattle.nearness.proofs.Laws.{near-share}
+use Rattle.amounts.specs.Units.{tenThousandths}
+use Rattle.amounts.specs.Arithmetic.{cutting}
+use Rattle.amounts.specs.Bounds.{Modest}
+use Rattle.kinds.specs.Sound.{mostAnimals, mostGrams}
+use Rattle.excretion.specs.Excretion.{ExcretionIn, excreted}
+use Rattle.excretion.proofs.Modest.{excreted-modest}
 use Rattle.nearness.specs.Exact.{exact}
+use Rattle.nearness.proofs.Laws.{near-share}
 
 pub record NearExcretion (e : ExcretionIn cutting) (e′ : ExcretionIn exact) : Type 0 where
   pub n-near : Near 0 0 (pos (e .«n_excretion»)) (e′ .«n_excretion»)

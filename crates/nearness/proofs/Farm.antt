@@ -9,14 +9,14 @@ use borrow.Author.Tests.{ltb-true, ltb-false}
 use lib.Dec.{ltb}
 use lib.ListN.{length, length-map, getD, List·getD-eq-default}
 use lib.IntN.{ℤ, pos, _+ℤ_}
-use Rattle.cut.specs.Frac.{Frac, _⊕_, Within}
 use Rattle.base.specs.Each.{Each, none, more}
-use Rattle.cut.specs.Total.{addUp, signedTotal, exactTotal}
 use Rattle.base.proofs.Each.{each-of, each-map}
+use Rattle.cut.specs.Frac.{Frac, _⊕_, Within}
+use Rattle.cut.specs.Total.{addUp, signedTotal, exactTotal}
 use Rattle.cut.proofs.Near.{near-whole, near-weaken}
 use Rattle.cut.proofs.Totals.{addUp-map, TotalNear, near-signed-total, near-total-add, total-within}
-use Rattle.flows.specs.declared.Inputs.{Inputs}
-use Rattle.flows.specs.Sound.{Sound}
+use Rattle.kinds.specs.declared.Inputs.{Inputs}
+use Rattle.kinds.specs.Sound.{Sound}
 use Rattle.outputs.specs.declared.Figures.{Figures}
 use Rattle.outputs.specs.declared.Totals.{Totals}
 use Rattle.outputs.specs.Names.{totals, totalNumber, addends}
@@ -25,9 +25,9 @@ use Rattle.outputs.proofs.ByNumber.{by-number-at, by-number-past}
 use Rattle.model.specs.Herd.{figuresOf}
 use Rattle.nearness.specs.Promised.{promisedOfTotal}
 use Rattle.nearness.specs.Errors.{Errors, errorsAt, totalErrors}
+use Rattle.nearness.specs.Exact.{exactAt, exactOfTotal}
 use Rattle.nearness.proofs.Table.{kept-total}
 use Rattle.nearness.proofs.Herd.{near-herd}
-use Rattle.nearness.specs.Exact.{exactAt, exactOfTotal}
 
 -- as near as each herd's errors together allow
 abbrev pub TotalNearBy : (Inputs → Errors) → List Inputs → ℤ → Frac → Type 0

@@ -6,9 +6,9 @@ use lib.ListN.{length, getD, replicate}
 use lib.IntN.{ℤ, pos}
 use Rattle.cut.specs.Frac.{Frac, whole}
 use Rattle.cut.proofs.Near.{Near, near-whole}
-use Rattle.flows.specs.Arithmetic.{Arithmetic, cutting}
-use Rattle.flows.specs.Yard.{noYard}
-use Rattle.flows.specs.Housing.{throughDoor}
+use Rattle.amounts.specs.Arithmetic.{Arithmetic, cutting}
+use Rattle.yard.specs.Yard.{noYard}
+use Rattle.housing.specs.Housing.{throughDoor}
 use Rattle.outputs.specs.Sections.{FiguresIn}
 use Rattle.outputs.specs.Names.{Field, yard, housing, figures, texts}
 use Rattle.outputs.specs.Grams.{gramsOf, at}

@@ -4,22 +4,22 @@ use Prim.Native.Nat.{ℕ}
 use Prim.Native.String.{String}
 use Rattle.cut.specs.Frac.{Within}
 use Rattle.cut.proofs.Near.{near-within}
-use Rattle.flows.specs.declared.Inputs.{Inputs}
-use Rattle.flows.specs.declared.Inputs.the-variants as kinds
-use Rattle.flows.specs.Sound.{Sound, roughage, cattle, pigs}
-use Rattle.flows.proofs.Excreted.{roughage-grams-le, roughage-fraction-le}
+use Rattle.kinds.specs.declared.Inputs.{Inputs}
+use Rattle.kinds.specs.declared.Inputs.the-variants as kinds
+use Rattle.kinds.specs.Sound.{Sound, roughage, cattle, pigs}
+use Rattle.excretion.proofs.Modest.{roughage-grams-le, roughage-fraction-le}
 use Rattle.outputs.specs.Names.{number}
 use Rattle.outputs.specs.Grams.{at, figure}
 use Rattle.model.specs.Herd.{figuresOf}
 use Rattle.nearness.specs.Promised.{promisedAt}
 use Rattle.nearness.specs.Errors.{errorsAt}
+use Rattle.nearness.specs.Exact.{exactOf, exactAt, exactFigure}
 use Rattle.nearness.proofs.Laws.{NearBy}
 use Rattle.nearness.proofs.Table.{promise-kept}
 use Rattle.nearness.proofs.Excretion.{near-excreted}
 use Rattle.nearness.proofs.Roughage.{near-roughage}
-use Rattle.nearness.proofs.Cattle.{near-cattle}
+use Rattle.nearness.proofs.Outdoor.{near-cattle}
 use Rattle.nearness.proofs.Pigs.{near-pigs}
-use Rattle.nearness.specs.Exact.{exactOf, exactAt, exactFigure}
 
 pub near-herd : (i : Inputs) → Sound i → (n : ℕ) → NearBy (errorsAt i n) (at (figuresOf i .grams) n) (exactAt i n)
 unfolding errorsAt figuresOf exactOf exactAt

@@ -12,17 +12,17 @@ use Rattle.base.specs.Pick.{pick}
 use Rattle.cut.specs.Frac.{Frac, whole, per, _atMost_}
 use Rattle.cut.proofs.Signed.{dn}
 use Rattle.cut.proofs.Near.{Near, near-whole, near-weaken, near-add, near-mul, near-div-to, near-at-most, near-factor}
+use Rattle.tables.specs.Growth.{mostK}
 use Rattle.tables.proofs.Growth.{k-most}
-use Rattle.flows.specs.declared.Roughage.{Roughage}
-use Rattle.flows.specs.Units.{percent, thousandths, billionths, year, day}
-use Rattle.flows.specs.Arithmetic.{Arithmetic, cutting}
-use Rattle.flows.specs.Portion.{portion}
-use Rattle.flows.specs.Housing.{«er_housing», «c_grazing», «ef_nh3_nhousing», nh3InHousing}
-use Rattle.flows.specs.Bounds.{mostGrowth}
-use Rattle.flows.specs.Sound.{SoundRoughage, mostAnimals, mostGrams}
-use Rattle.flows.proofs.InHousing.{factor-le}
-use Rattle.nearness.proofs.Laws.{near-share, near-rate, near-k}
+use Rattle.amounts.specs.Units.{percent, thousandths, billionths, year, day}
+use Rattle.amounts.specs.Arithmetic.{Arithmetic, cutting}
+use Rattle.amounts.specs.Portion.{portion}
+use Rattle.kinds.specs.declared.Roughage.{Roughage}
+use Rattle.kinds.specs.Sound.{SoundRoughage, mostAnimals, mostGrams}
+use Rattle.housing.specs.Housing.{«er_housing», «c_grazing», «ef_nh3_nhousing», nh3InHousing}
+use Rattle.housing.proofs.InHousing.{factor-le}
 use Rattle.nearness.specs.Exact.{exact}
+use Rattle.nearness.proofs.Laws.{near-share, near-rate, near-k}
 
 -- what goes into the housing on other days, on grazing days, and on all, in tenths of an hour
 abbrev otherDays : ℕ → ℕ
@@ -55,7 +55,7 @@ module _ (days hours : ℕ) (hd : days ≤ year) (hh : hours ≤ day) where
   near-mean some =
       near-div-to 1500000 500000 (allDays days hours) (omega arith) (omega (arith, days-add-up)) (omega (arith, days-add-up))
       (near-add (near-whole (otherDays days * billionths))
-      (near-mul (grazingDays days hours) mostGrowth (mostGrowth + 1) (le-refl (grazingDays days hours)) (k-most hours) (lit≤ tt) refl
+      (near-mul (grazingDays days hours) mostK (mostK + 1) (le-refl (grazingDays days hours)) (k-most hours) (lit≤ tt) refl
       (near-whole (grazingDays days hours)) (near-k hours hh)))
 
   near-c-by : (b : Bool) → ltb (days * hours) (year * day) ≡ b

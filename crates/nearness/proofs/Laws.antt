@@ -9,9 +9,9 @@ use Rattle.cut.specs.Frac.{Frac, per, whole, _⊗_}
 use Rattle.cut.proofs.Near.{Near, near-whole, near-weaken, near-part, near-cut-to, near-nearest, near-same, near-shares2}
 use Rattle.tables.specs.Growth.{kOf, growthNum, growthDen}
 use Rattle.tables.proofs.Growth.{k-nearest, growthDen-above}
-use Rattle.flows.specs.Units.{day, billionths}
-use Rattle.flows.specs.Arithmetic.{cutting}
-use Rattle.flows.specs.Portion.{portion}
+use Rattle.amounts.specs.Units.{day, billionths}
+use Rattle.amounts.specs.Arithmetic.{cutting}
+use Rattle.amounts.specs.Portion.{portion}
 use Rattle.nearness.specs.Errors.{Errors}
 use Rattle.nearness.specs.Exact.{exact}
 

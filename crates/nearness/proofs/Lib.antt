@@ -4,7 +4,7 @@ pub mod Excretion
 pub mod Pasture
 pub mod Housing
 pub mod Roughage
-pub mod Cattle
+pub mod Outdoor
 pub mod Pigs
 pub mod Table
 pub mod Herd

@@ -5,16 +5,17 @@ use lib.Dec.{lit<}
 use lib.IntN.{pos}
 use Rattle.cut.specs.Frac.{Frac}
 use Rattle.cut.proofs.Near.{Near, near-sub, near-rest}
-use Rattle.flows.specs.declared.Rates.{Rates}
-use Rattle.flows.specs.Units.{tenThousandths}
-use Rattle.flows.specs.Arithmetic.{cutting}
-use Rattle.flows.specs.Grazing.{gas, onPasture}
-use Rattle.flows.specs.Bounds.{Modest, ModestRates}
-use Rattle.flows.proofs.OnPasture.{gases-le}
+use Rattle.amounts.specs.Units.{tenThousandths}
+use Rattle.amounts.specs.Arithmetic.{cutting}
+use Rattle.amounts.specs.Bounds.{Modest}
+use Rattle.rates.specs.declared.Rates.{Rates}
+use Rattle.rates.specs.Bounds.{ModestRates}
+use Rattle.pasture.specs.Pasture.{gas, onPasture}
+use Rattle.pasture.proofs.OnPasture.{gases-le}
 use Rattle.outputs.specs.Names.{grazing}
+use Rattle.nearness.specs.Exact.{exact}
 use Rattle.nearness.proofs.Laws.{rateBelow, rateAbove, near-rate}
 use Rattle.nearness.proofs.Figures.{NearSection, end, _then_}
-use Rattle.nearness.specs.Exact.{exact}
 
 -- the errors of a gas at a rate, from those of what it is emitted from
 abbrev pub gasBelow : ℕ → ℕ → ℕ

@@ -3,18 +3,20 @@ use Prim.Native.Nat.{ℕ, zero-le}
 use lib.IntN.{pos}
 use Rattle.cut.specs.Frac.{Frac}
 use Rattle.cut.proofs.Near.{Near, near-whole, near-weaken, near-rest}
-use Rattle.flows.specs.declared.HousingType.{HousingType}
-use Rattle.flows.specs.declared.HousingType.the-variants.{SlurryConventional, SlurryLabel, SlurryLabelOpen, DeepLitter, Outdoor}
-use Rattle.flows.specs.Arithmetic.{cutting}
-use Rattle.flows.specs.Excretion.{ExcretionIn}
-use Rattle.flows.specs.Grazing.{pigRates, pigsIntoGrazing}
-use Rattle.flows.proofs.Into.{pig-into-le, pig-pasture-modest, pig-rates-modest}
+use Rattle.amounts.specs.Arithmetic.{cutting}
+use Rattle.kinds.specs.declared.HousingType.{HousingType}
+use Rattle.kinds.specs.declared.HousingType.the-variants.{SlurryConventional, SlurryLabel, SlurryLabelOpen, DeepLitter, Outdoor}
+use Rattle.rates.specs.Rates.{pigsRates}
+use Rattle.rates.proofs.Modest.{pigs-rates-modest}
+use Rattle.excretion.specs.Excretion.{ExcretionIn}
+use Rattle.pasture.specs.Pasture.{pigsIntoGrazing}
+use Rattle.pasture.proofs.Into.{pigs-into-le, pigs-pasture-modest}
 use Rattle.model.specs.Herd.{pigsOn}
 use Rattle.nearness.specs.Errors.{pigsErrors}
+use Rattle.nearness.specs.Exact.{exact}
 use Rattle.nearness.proofs.Figures.{_then_, near-at, NearFigures, _and_, near-no-yard, near-door}
 use Rattle.nearness.proofs.Excretion.{NearExcretion}
 use Rattle.nearness.proofs.Pasture.{near-grazing}
-use Rattle.nearness.specs.Exact.{exact}
 
 -- onto the pasture goes all or nothing
 near-into-grazing : (t : HousingType) {lo hi x : ℕ} {q : Frac} → Near lo hi (pos x) q
@@ -38,7 +40,7 @@ module _ (t : HousingType) (e : ExcretionIn cutting) (e′ : ExcretionIn exact) 
       (near .n-near
       then near .tan-near
       then near-no-yard
-      and near-grazing pigRates n-on tan-on pig-rates-modest (pig-pasture-modest t _ _ (near .modest))
+      and near-grazing pigsRates n-on tan-on pigs-rates-modest (pigs-pasture-modest t _ _ (near .modest))
       and near-door
-      (near-rest (pig-into-le t (e .«n_excretion»)) (near .n-near) n-on)
-      (near-rest (pig-into-le t (e .«tan_excretion»)) (near .tan-near) tan-on))
+      (near-rest (pigs-into-le t (e .«n_excretion»)) (near .n-near) n-on)
+      (near-rest (pigs-into-le t (e .«tan_excretion»)) (near .tan-near) tan-on))

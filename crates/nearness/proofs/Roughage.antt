@@ -6,26 +6,28 @@ use lib.IntN.{pos}
 use Rattle.cut.specs.Frac.{Frac, _⊖_}
 use Rattle.cut.proofs.Near.{Near, near-rest}
 use Rattle.cut.proofs.Shares.{part-le}
-use Rattle.flows.specs.declared.Roughage.{Roughage}
-use Rattle.flows.specs.Units.{billionths, year, day}
-use Rattle.flows.specs.Arithmetic.{cutting}
-use Rattle.flows.specs.Excretion.{ExcretionIn}
-use Rattle.flows.specs.Grazing.{roughageRates, roughageGrazingTime, roughageIntoGrazing}
-use Rattle.flows.specs.Housing.{«ef_nh3_nhousing», nh3InHousing}
-use Rattle.flows.specs.Bounds.{Modest}
-use Rattle.flows.specs.Sound.{SoundRoughage}
-use Rattle.flows.proofs.Times.{roughage-grazing-time-le}
-use Rattle.flows.proofs.InHousing.{factor-le}
-use Rattle.flows.proofs.Into.{roughage-into-le, roughage-pasture-modest, roughage-housing-modest, roughage-rates-modest}
+use Rattle.amounts.specs.Units.{billionths, year, day}
+use Rattle.amounts.specs.Arithmetic.{cutting}
+use Rattle.amounts.specs.Bounds.{Modest}
+use Rattle.kinds.specs.declared.Roughage.{Roughage}
+use Rattle.kinds.specs.Sound.{SoundRoughage}
+use Rattle.rates.specs.Rates.{roughageRates}
+use Rattle.rates.proofs.Modest.{roughage-rates-modest}
+use Rattle.excretion.specs.Excretion.{ExcretionIn}
+use Rattle.pasture.specs.Pasture.{roughageGrazingTime, roughageIntoGrazing}
+use Rattle.pasture.proofs.Times.{roughage-grazing-time-le}
+use Rattle.pasture.proofs.Into.{roughage-into-le, roughage-pasture-modest, roughage-housing-modest}
+use Rattle.housing.specs.Housing.{«ef_nh3_nhousing», nh3InHousing}
+use Rattle.housing.proofs.InHousing.{factor-le}
 use Rattle.model.specs.Herd.{roughageOn}
 use Rattle.nearness.specs.ByName.{said}
 use Rattle.nearness.specs.Errors.{exactly, roughageErrors}
+use Rattle.nearness.specs.Exact.{exact}
 use Rattle.nearness.proofs.Laws.{NearBy, near-share}
 use Rattle.nearness.proofs.Figures.{end, _then_, near-at, NearFigures, _and_, near-no-yard}
 use Rattle.nearness.proofs.Excretion.{NearExcretion}
 use Rattle.nearness.proofs.Pasture.{near-grazing}
 use Rattle.nearness.proofs.Housing.{near-nh3-in-housing}
-use Rattle.nearness.specs.Exact.{exact}
 
 -- ---- where an amount goes, N as TAN
 

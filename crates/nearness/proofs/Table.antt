@@ -10,8 +10,8 @@ use lib.ListN.{getD}
 use lib.Text.{eqt}
 use Rattle.base.specs.Pick.{pick}
 use Rattle.base.proofs.Table.{both-left, both-right}
-use Rattle.flows.specs.declared.Inputs.{Inputs}
-use Rattle.flows.specs.declared.Inputs.the-variants as kinds
+use Rattle.kinds.specs.declared.Inputs.{Inputs}
+use Rattle.kinds.specs.declared.Inputs.the-variants as kinds
 use Rattle.outputs.specs.Names.{texts, totalTexts, addends}
 use Rattle.nearness.specs.ByName.{Entry, saidOf}
 use Rattle.nearness.specs.Promised.{promised, widened, widenedTotals, promisedAt, promisedOfTotal}

@@ -6,8 +6,8 @@ use Prim.Native.String.{String}
 use mathlib.Core.List.{List, [], _∷_}
 use lib.ListN.{getD}
 use Rattle.cut.specs.Total.{total}
-use Rattle.flows.specs.declared.Inputs.{Inputs}
-use Rattle.flows.specs.declared.Inputs.the-variants as kinds
+use Rattle.kinds.specs.declared.Inputs.{Inputs}
+use Rattle.kinds.specs.declared.Inputs.the-variants as kinds
 use Rattle.outputs.specs.Names.{texts, addends}
 use Rattle.nearness.specs.ByName.{Entry, saidAt}
 

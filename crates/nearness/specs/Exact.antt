@@ -1,4 +1,4 @@
--- What the exact value of a figure and of a total is: the formulas of crates `flows` and `model`, under the names of crate
+-- What the exact value of a figure and of a total is: the formulas of crates `excretion` to `model`, under the names of crate
 -- `outputs`, on the arithmetic below in place of `cutting`. Fractions are "never cut" and "exp taken as its series terms 0 to 20"
 -- (01, Steps and cuts).
 use Prim.Native.Nat.{ℕ, _*_}
@@ -9,9 +9,9 @@ use Rattle.cut.specs.Frac as F
 use Rattle.cut.specs.Frac.{Frac}
 use Rattle.cut.specs.Total.{exactTotal}
 use Rattle.tables.specs.Growth.{growthNum, growthDen}
-use Rattle.flows.specs.declared.Inputs.{Inputs}
-use Rattle.flows.specs.Units.{billionths}
-use Rattle.flows.specs.Arithmetic.{Arithmetic}
+use Rattle.amounts.specs.Units.{billionths}
+use Rattle.amounts.specs.Arithmetic.{Arithmetic}
+use Rattle.kinds.specs.declared.Inputs.{Inputs}
 use Rattle.outputs.specs.Sections.{FiguresIn}
 use Rattle.outputs.specs.Names.{figures, number, addends}
 use Rattle.model.specs.Herd.{figuresIn}

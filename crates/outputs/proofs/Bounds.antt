@@ -3,7 +3,7 @@ use Prim.Native.Nat.{ℕ, zero, suc, _≤_}
 use mathlib.Core.List.{List, [], _∷_, _++_, map}
 use native.Mathlib.Omega.{arith}
 use lib.IntN.{ℤ, natAbs}
-use Rattle.flows.specs.Arithmetic.{Arithmetic, cutting}
+use Rattle.amounts.specs.Arithmetic.{Arithmetic, cutting}
 use Rattle.outputs.specs.Sections.{FiguresIn}
 use Rattle.outputs.specs.Names.{Field, excretion, yard, grazing, housing}
 use Rattle.outputs.specs.Grams.{at, gramsOf, To}

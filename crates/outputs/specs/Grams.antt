@@ -7,7 +7,7 @@ use mathlib.Core.List.{List, [], _∷_}
 use lib.ListN.{length, getD}
 use lib.IntN.{ℤ, pos, natAbs, _+ℤ_}
 use Rattle.cut.specs.Total.{addUp, signedTotal}
-use Rattle.flows.specs.Arithmetic.{cutting}
+use Rattle.amounts.specs.Arithmetic.{cutting}
 use Rattle.outputs.specs.declared.Figures.{Figures}
 use Rattle.outputs.specs.declared.Totals.{Totals}
 use Rattle.outputs.specs.Sections.{FiguresIn}

@@ -6,11 +6,11 @@ use Prim.Native.String.{String}
 use mathlib.Core.List.{List, [], _∷_, _++_, map}
 use lib.Text.{eqt}
 use Rattle.base.specs.Pick.{pick}
-use Rattle.flows.specs.Arithmetic.{Arithmetic}
-use Rattle.flows.specs.Excretion.{ExcretionIn}
-use Rattle.flows.specs.Yard.{YardIn}
-use Rattle.flows.specs.Grazing.{GrazingIn}
-use Rattle.flows.specs.Housing.{HousingIn}
+use Rattle.amounts.specs.Arithmetic.{Arithmetic}
+use Rattle.excretion.specs.Excretion.{ExcretionIn}
+use Rattle.yard.specs.Yard.{YardIn}
+use Rattle.pasture.specs.Pasture.{GrazingIn}
+use Rattle.housing.specs.Housing.{HousingIn}
 use Rattle.outputs.specs.Sections.{FiguresIn}
 
 -- a name: its text, its section, and its figure in any arithmetic

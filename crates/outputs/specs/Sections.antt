@@ -1,14 +1,14 @@
 -- A herd's figures as the sections of 001 give them, over any arithmetic; and the structs of the code as such sections on whole grams.
 -- To be believed: a figure is a field of its section, under its name in 001.
-use Rattle.flows.specs.declared.Excretion.{Excretion}
-use Rattle.flows.specs.declared.Yard.{Yard}
-use Rattle.flows.specs.declared.Grazing.{Grazing}
-use Rattle.flows.specs.declared.Housing.{Housing}
-use Rattle.flows.specs.Arithmetic.{Arithmetic, cutting}
-use Rattle.flows.specs.Excretion.{ExcretionIn, ofExcretion}
-use Rattle.flows.specs.Yard.{YardIn, ofYard}
-use Rattle.flows.specs.Grazing.{GrazingIn, ofGrazing}
-use Rattle.flows.specs.Housing.{HousingIn, ofHousing}
+use Rattle.amounts.specs.Arithmetic.{Arithmetic, cutting}
+use Rattle.excretion.specs.declared.Excretion.{Excretion}
+use Rattle.excretion.specs.Excretion.{ExcretionIn, ofExcretion}
+use Rattle.yard.specs.declared.Yard.{Yard}
+use Rattle.yard.specs.Yard.{YardIn, ofYard}
+use Rattle.pasture.specs.declared.Grazing.{Grazing}
+use Rattle.pasture.specs.Pasture.{GrazingIn, ofGrazing}
+use Rattle.housing.specs.declared.Housing.{Housing}
+use Rattle.housing.specs.Housing.{HousingIn, ofHousing}
 
 pub record FiguresIn (A : Arithmetic) : Type 0 where
   pub excretion : ExcretionIn A

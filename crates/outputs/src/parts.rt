@@ -1,9 +1,9 @@
 // The sections of 001 in one array. A field meets its number here, and nowhere else in the code.
 use crate::Figures;
-use flows::Excretion;
-use flows::Grazing;
-use flows::Housing;
-use flows::Yard;
+use excretion::Excretion;
+use housing::Housing;
+use pasture::Grazing;
+use yard::Yard;
 ghost use mathlib.Core.Path.{_≡_};
 ghost use Rattle.outputs.specs.Sections.{together};
 ghost use Rattle.outputs.specs.Grams.{gramsOf, To, figureMost};

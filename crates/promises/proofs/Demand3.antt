@@ -6,25 +6,25 @@ use Prim.Native.Nat.{ℕ, _*_}
 use mathlib.Core.Path.{_≡_, sym, _∙_}
 use mathlib.Core.List.{List, map}
 use lib.ListN.{length}
-use Rattle.cut.specs.Frac.{Within}
 use Rattle.base.specs.Each.{Each}
 use Rattle.base.proofs.Each.{each-map}
+use Rattle.cut.specs.Frac.{Within}
 use Rattle.farm.specs.declared.Herd.{Herd}
 use Rattle.farm.specs.declared.Farm.{Farm}
 use Rattle.farm.specs.declared.Checked.the-variants.{Accepted}
 use Rattle.farm.specs.Checks.{checkHerd, checkFarm, herdsOf}
 use Rattle.farm.proofs.Accepts.{farm-each}
-use Rattle.flows.specs.declared.Inputs.{Inputs}
+use Rattle.reader.specs.Files.{readOf, accepted}
+use Rattle.rules.proofs.Passing.{accepted-passes}
+use Rattle.kinds.specs.declared.Inputs.{Inputs}
+use Rattle.typed.specs.Typed.{typedOf}
+use Rattle.typed.proofs.Sound.{typed-sound}
 use Rattle.outputs.specs.Grams.{at}
-use Rattle.model.specs.Typed.{typedOf}
 use Rattle.model.specs.Answers.{herdAnswer, farmAnswer}
-use Rattle.model.proofs.Sound.{typed-sound}
 use Rattle.nearness.specs.Promised.{promisedAt, promisedOfTotal}
 use Rattle.nearness.specs.Exact.{exactAt, exactOfTotal}
 use Rattle.nearness.proofs.Herd.{within-herd}
 use Rattle.nearness.proofs.Farm.{within-totals}
-use Rattle.reader.specs.Files.{readOf, accepted}
-use Rattle.rules.proofs.Passing.{accepted-passes}
 use Rattle.calls.proofs.RecordSteps.{herd-checked, herd-figured, farm-checked}
 
 -- ---- a herd's record: every figure, by its number

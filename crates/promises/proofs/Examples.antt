@@ -18,7 +18,8 @@ use Rattle.rules.specs.Rules.{farmOf}
 use Rattle.rules.proofs.Accepts.{accepts-exactly}
 use Rattle.rules.proofs.Examples.{pigs-keep}
 use Rattle.outputs.specs.declared.Figures.{Figures}
-use Rattle.model.specs.Typed.{typedOf, pigsOf, housingAt}
+use Rattle.kinds.specs.Choices.{housingAt}
+use Rattle.typed.specs.Typed.{typedOf, pigsOf}
 use Rattle.model.specs.Herd.{figuresOf}
 use Rattle.model.specs.Answers.{herdFigures}
 use Rattle.listing.specs.Listing.{each, herdListing}

@@ -6,7 +6,7 @@ use native.Mathlib.Nat.{mul-le-mul-left, mul-le-mul-right, pow-le-pow-left, add-
 use native.Mathlib.Omega.{arith}
 use lib.Dec.{lit<}
 use borrow.Author.Tests.{le-leb}
-use Rattle.tables.specs.Growth.{expNum, expDen, lastTerm, «k_grazing_b», growthNum, growthDen, nearest, kAt, withinDay, kOf, NearestK}
+use Rattle.tables.specs.Growth.{expNum, expDen, lastTerm, «k_grazing_b», growthNum, growthDen, nearest, kAt, withinDay, kOf, mostK, NearestK}
 use Rattle.tables.proofs.Entries.{withinDay-le}
 
 pub growthDen-above : 0 < growthDen
@@ -41,11 +41,11 @@ unfolding kAt growthNum
 kAt-rises h = rises _ growthDen growthDen-above (mul-le-mul-left _ (exp-rises 100000 lastTerm (mul-le-mul-left «k_grazing_b» h)))
 
 -- k at 24 hours
-k-all-day : kAt 240 ≡ 2630568546
+k-all-day : kAt 240 ≡ mostK
 unfolding kAt nearest growthNum growthDen expNum expDen
 k-all-day = refl
 
-pub k-most : (t : ℕ) → kOf t ≤ 2630568546
+pub k-most : (t : ℕ) → kOf t ≤ mostK
 unfolding kOf
 k-most t = omega (arith, k-all-day, kAt-rises (withinDay-le t))
 

@@ -45,6 +45,10 @@ withinDay t = pick (leb t 240) t 240
 unfoldable pub kOf : ℕ → ℕ
 kOf t = kAt (withinDay t)
 
+-- k at 24 hours: no k is above it (`k-most`)
+abbrev pub mostK : ℕ
+mostK = 2630568546
+
 -- k is a whole number of billionths nearest to the exact growth: they differ by half a billionth at most
 pub record NearestK (t k : ℕ) : Type 0 where
   pub low : 2 * 10 ^ 9 * growthNum t ≤ 2 * k * growthDen + growthDen

@@ -5,11 +5,11 @@ use borrow.Author.Needs.{needs}
 use Rattle.model.proofs.herd.pigs_figures.Statement.{statement}
 use Rattle.model.proofs.herd.pigs_figures.Tie as tie
 
-excretion-requires : tie.Need-excretion-requires
-excretion-requires c κs = search (needs, pigs-steps)
+excreted-requires : tie.Need-excreted-requires
+excreted-requires c κs = search (needs, pigs-steps)
 
-pig-grazing-requires : tie.Need-pig-grazing-requires
-pig-grazing-requires c κs = search (needs, pigs-steps)
+pigs-grazing-requires : tie.Need-pigs-grazing-requires
+pigs-grazing-requires c κs = search (needs, pigs-steps)
 
 sub-n : tie.Need-sub-n
 sub-n c = search (needs, pigs-steps)
@@ -33,8 +33,8 @@ pub pigs-figures-spec : {M : Type 1} → statement M
 pigs-figures-spec =
     tie.close
     (tie.spec
-    excretion-requires
-    pig-grazing-requires
+    excreted-requires
+    pigs-grazing-requires
     sub-n
     sub-tan
     no-yard-requires

@@ -11,8 +11,8 @@ n-excretion-animal-requires c κs = search needs
 tan-fraction-requires : tie.Need-tan-fraction-requires
 tan-fraction-requires c κs = search needs
 
-excretion-requires : tie.Need-excretion-requires
-excretion-requires c κs = search (needs, roughage-steps)
+excreted-requires : tie.Need-excreted-requires
+excreted-requires c κs = search (needs, roughage-steps)
 
 roughage-grazing-requires : tie.Need-roughage-grazing-requires
 roughage-grazing-requires c κs = search (needs, roughage-steps)
@@ -41,7 +41,7 @@ roughage-figures-spec =
     (tie.spec
     n-excretion-animal-requires
     tan-fraction-requires
-    excretion-requires
+    excreted-requires
     roughage-grazing-requires
     sub-n
     sub-tan

@@ -1,0 +1,57 @@
+-- A portion of an amount, and the rest of it: what the code's cut division needs, and that the TAN stays no more than the N.
+-- Assumes nothing.
+use mathlib.Core.Path.{_≡_, refl}
+use Prim.Native.Nat.{ℕ, _+_, _-_, _*_, _/_, _≤_, _<_, _^_}
+use native.Mathlib.Nat.{mul-le-mul-left, le-refl, le-trans, add-mul-div-right}
+use native.Mathlib.Omega.{arith}
+use mir.Syntax.{w64}
+use mir.Val.{Fits}
+use Rattle.cut.specs.declared.Quotient.{Quotient}
+use Rattle.cut.specs.Cut.{quotientOf}
+use Rattle.cut.proofs.Products.{mul-fits}
+use Rattle.cut.proofs.Shares.{cut-mono, part-le, part-mono}
+use Rattle.amounts.specs.Units.{billionths}
+use Rattle.amounts.specs.Arithmetic.{cutting}
+use Rattle.amounts.specs.Portion.{portion}
+use Rattle.amounts.specs.Bounds.{Fit, PortionOf, Modest}
+
+-- ---- the code's step
+
+module _ (amount shares of : ℕ) (fit : Fit amount shares of) where
+  pub product-fits : Fits w64 (amount * shares)
+  product-fits = mul-fits (2 ^ 32) billionths tt (omega arith) (omega arith)
+
+  pub is-portion : (q : Quotient) → q ≡ quotientOf (amount * shares) of → PortionOf amount shares of q
+  is-portion q e = record { cut = e; is = rw e refl; most = rw e (part-le amount shares of (fit .within)) }
+
+pub ruleset portion-steps = (product-fits, is-portion)
+
+-- ---- the same portion of the N and of the TAN in it
+
+module _ (n tan shares of : ℕ) (m : Modest n tan) where
+  tan-in-n : portion cutting tan shares of ≤ portion cutting n shares of
+  tan-in-n = part-mono of {x = tan} {y = n} {m = shares} {n = shares} (m .tan-most) (le-refl shares)
+
+  pub modest-share : shares ≤ of → Modest (portion cutting n shares of) (portion cutting tan shares of)
+  modest-share h = record { n-most = le-trans (part-le n shares of h) (m .n-most); tan-most = tan-in-n }
+
+  -- of two portions that the code has made
+  pub modest-portion : (a b : Quotient) → PortionOf n shares of a → PortionOf tan shares of b → Modest (a .whole) (b .whole)
+  modest-portion a b p q = record { n-most = omega arith; tan-most = omega (arith, tan-in-n) }
+
+-- ---- the rest: a larger amount has no smaller rest
+
+portion-grows : (x e shares of : ℕ) → 0 < of → shares ≤ of → (x + e) * shares / of ≤ x * shares / of + e
+portion-grows x e shares of h k =
+    let c : (x + e) * shares / of ≤ (x * shares + e * of) / of = cut-mono of (omega (arith, mul-le-mul-left e k)) in
+    omega (arith, add-mul-div-right (x * shares) e h)
+
+rest-grows : (x y shares of : ℕ) → 0 < of → shares ≤ of → x ≤ y → x - x * shares / of ≤ y - y * shares / of
+rest-grows x y shares of h k l =
+    let e : x + (y - x) ≡ y = omega arith in
+    let g : y * shares / of ≤ x * shares / of + (y - x) = rw e at (portion-grows x (y - x) shares of h k) in
+    omega arith
+
+pub modest-rest : (n tan shares of : ℕ) → Modest n tan → 0 < of → shares ≤ of → Modest (n - portion cutting n shares of) (tan - portion cutting tan shares of)
+modest-rest n tan shares of m h k =
+    record { n-most = omega (arith, m .n-most); tan-most = rest-grows tan n shares of h k (m .tan-most) }

@@ -1,0 +1,4 @@
+pub mod Units
+pub mod Arithmetic
+pub mod Portion
+pub mod Bounds

@@ -1,0 +1,46 @@
+// The units of the formulas, and a portion of an amount with one cut. Every division of the formulas is that of `portion`, but for
+// c_grazing, which cuts a sum.
+use cut::Quotient;
+ghost use Rattle.amounts.specs.Bounds.{Modest, Fit, PortionOf, PortionsOf};
+
+// Days of a year; a day, in tenths of an hour; a year of such days.
+pub const YEAR: u64 = 365;
+
+pub const DAY: u64 = 240;
+
+pub const YEAR_OF_HOURS: u64 = DAY * YEAR;
+
+// What makes the whole of a share, in each unit.
+pub const TENTHS: u64 = 10;
+
+pub const PERCENT: u64 = 100;
+
+pub const THOUSANDTHS: u64 = 1000;
+
+pub const TEN_THOUSANDTHS: u64 = 10000;
+
+pub const BILLIONTHS: u64 = 1000000000;
+
+// The same portion of the N and of the TAN in it.
+pub struct Parts {
+    pub n: Quotient,
+    pub tan: Quotient,
+}
+
+// `shares` of the `of` that make the whole.
+pub fn portion(amount: u64, shares: u64, of: u64) -> Quotient
+    requires { ⌜ Fit amount shares of ⌝ }
+    ensures { λ q. ⌜ PortionOf amount shares of q ⌝ }
+{
+    cut::cut(amount * shares, of)
+}
+
+pub fn portions(n: u64, tan: u64, shares: u64, of: u64) -> Parts
+    requires { ⌜ Modest n tan × Fit n shares of ⌝ }
+    ensures { λ r. ⌜ PortionsOf n tan shares of r ⌝ }
+{
+    Parts {
+        n: portion(n, shares, of),
+        tan: portion(tan, shares, of),
+    }
+}

@@ -1,0 +1,61 @@
+-- What the animals excrete is modest: the N of the largest herd fits, and the TAN is no more than the N. Assumes nothing.
+use mathlib.Core.Path.{_≡_, refl, ap}
+use Prim.Native.Nat.{ℕ, _*_, _≤_}
+use native.Mathlib.Omega.{arith}
+use mir.Syntax.{w64}
+use mir.Val.{Fits}
+use Rattle.cut.specs.declared.Quotient.{Quotient}
+use Rattle.cut.proofs.Products.{mul-to}
+use Rattle.cut.proofs.Shares.{part-le}
+use Rattle.tables.proofs.Standards.{standard-most}
+use Rattle.amounts.specs.Units.{tenThousandths}
+use Rattle.amounts.specs.Arithmetic.{cutting}
+use Rattle.amounts.specs.Bounds.{mostN, Modest, Fit, PortionOf}
+use Rattle.kinds.specs.declared.Entered.{Entered}
+use Rattle.kinds.specs.declared.Roughage.{Roughage}
+use Rattle.kinds.specs.Sound.{mostAnimals, mostGrams, EnteredTo, standard, number, SoundRoughage}
+use Rattle.excretion.specs.declared.Excretion.{Excretion}
+use Rattle.excretion.specs.Excretion.{«n_excretion_animal», tanFraction, ExcretionIn, excreted, ofExcretion}
+
+-- ---- what a roughage herd enters, or leaves to the standard
+
+grams-le : (category : ℕ) {entered : Entered} → EnteredTo mostGrams entered → «n_excretion_animal» category entered ≤ mostGrams
+grams-le category standard = omega (arith, standard-most category)
+grams-le category (number h) = h
+
+fraction-le : {entered : Entered} → EnteredTo tenThousandths entered → tanFraction entered ≤ tenThousandths
+fraction-le standard = omega arith
+fraction-le (number h) = h
+
+module _ (r : Roughage) (s : SoundRoughage r) where
+  pub roughage-grams-le : «n_excretion_animal» (r .animalcategory) (r .«inp_n_excretion») ≤ mostGrams
+  roughage-grams-le = grams-le (r .animalcategory) (s .grams)
+
+  pub roughage-fraction-le : tanFraction (r .«tan_fraction») ≤ tenThousandths
+  roughage-fraction-le = fraction-le (s .fraction)
+
+-- ---- N and TAN
+
+module _ (animals grams fraction : ℕ) (ha : animals ≤ mostAnimals) (hg : grams ≤ mostGrams) (hf : fraction ≤ tenThousandths) where
+  n-le : animals * grams ≤ mostN
+  n-le = mul-to mostAnimals mostGrams tt ha hg
+
+  pub excreted-modest : Modest (excreted cutting animals grams fraction .«n_excretion») (excreted cutting animals grams fraction .«tan_excretion»)
+  excreted-modest = record { n-most = n-le; tan-most = part-le (animals * grams) fraction tenThousandths hf }
+
+  -- so is what the code's struct holds
+  pub excretion-modest : (e : Excretion) → ofExcretion e ≡ excreted cutting animals grams fraction → Modest (e .«n_excretion») (e .«tan_excretion»)
+  excretion-modest e is = rw (ap (λ x. x .«n_excretion») is, ap (λ x. x .«tan_excretion») is) excreted-modest
+
+  -- the code's steps
+  pub n-fits : Fits w64 (animals * grams)
+  n-fits = omega (arith, n-le)
+
+  pub fraction-fit : Fit (animals * grams) fraction tenThousandths
+  fraction-fit = record { amount-most = omega (arith, n-le); of-most = omega arith; above = omega arith; within = hf }
+
+  pub is-excretion : (tan : Quotient) → PortionOf (animals * grams) fraction tenThousandths tan
+      → _≡_ {A = ExcretionIn cutting} (record { «n_excretion» = animals * grams; «tan_excretion» = tan .whole }) (excreted cutting animals grams fraction)
+  is-excretion tan p = rw (p .is) refl
+
+pub ruleset excretion-steps = (n-fits, fraction-fit, is-excretion)

@@ -1,0 +1,38 @@
+-- 2.22, 2.50 and 2.84: what the animals of a herd excrete in a year.
+use Prim.Native.Nat.{ℕ, _*_}
+use Rattle.tables.specs.Standards.{standardOf, «share_Nsol»}
+use Rattle.amounts.specs.Units.{tenThousandths}
+use Rattle.amounts.specs.Arithmetic.{Arithmetic, cutting}
+use Rattle.amounts.specs.Portion.{portion}
+use Rattle.kinds.specs.declared.Entered.{Entered}
+use Rattle.kinds.specs.declared.Entered.the-variants.{Standard, Number}
+use Rattle.excretion.specs.declared.Excretion.{Excretion}
+
+-- 2.84, n_excretion_animal: the category's standard, unless a number is entered
+abbrev pub «n_excretion_animal» : ℕ → Entered → ℕ
+«n_excretion_animal» category Standard = standardOf category
+«n_excretion_animal» category (Number grams) = grams
+
+-- 2.84, tan_excretion: share_Nsol of the category, unless a number is entered
+abbrev pub tanFraction : Entered → ℕ
+tanFraction Standard = «share_Nsol»
+tanFraction (Number fraction) = fraction
+
+pub record ExcretionIn (A : Arithmetic) : Type 0 where
+  pub «n_excretion» : A .Amount
+  pub «tan_excretion» : A .Amount
+
+module _ (A : Arithmetic) where
+  open Arithmetic A using (whole)
+
+  -- 2.22, 2.50, 2.84, n_excretion and tan_excretion: head by grams a head, and the fraction of it
+  abbrev pub excreted : ℕ → ℕ → ℕ → ExcretionIn A
+  excreted animals grams fraction =
+      record {
+        «n_excretion» = whole (animals * grams);
+        «tan_excretion» = portion A (whole (animals * grams)) fraction tenThousandths;
+      }
+
+-- the code's struct, on whole grams
+abbrev pub ofExcretion : Excretion → ExcretionIn cutting
+ofExcretion e = record { «n_excretion» = e .«n_excretion»; «tan_excretion» = e .«tan_excretion» }

@@ -1,0 +1,47 @@
+// 2.22, 2.50 and 2.84: what the animals of a herd excrete in a year.
+use amounts::TEN_THOUSANDTHS;
+use kinds::Entered;
+ghost use mathlib.Core.Path.{_≡_};
+ghost use Prim.Native.Nat.{_≤_};
+ghost use Rattle.amounts.specs.Units.{tenThousandths};
+ghost use Rattle.amounts.specs.Arithmetic.{cutting};
+ghost use Rattle.kinds.specs.Sound.{mostAnimals, mostGrams};
+ghost use Rattle.excretion.specs.Excretion.{«n_excretion_animal», tanFraction, excreted, ofExcretion};
+
+pub struct Excretion {
+    pub n_excretion: u64,
+    pub tan_excretion: u64,
+}
+
+// Grams a head: the category's standard, unless a number is entered.
+pub fn n_excretion_animal(category: u64, entered: Entered) -> u64
+    ensures { λ r. ⌜ r ≡ «n_excretion_animal» category entered ⌝ }
+{
+    match entered {
+        Entered::Standard => tables::standard(category),
+        Entered::Number(grams) => grams,
+    }
+}
+
+// The soluble fraction, in ten-thousandths: share_Nsol, unless a number is entered.
+pub fn tan_fraction(entered: Entered) -> u64
+    ensures { λ r. ⌜ r ≡ tanFraction entered ⌝ }
+{
+    match entered {
+        Entered::Standard => tables::SHARE_NSOL,
+        Entered::Number(fraction) => fraction,
+    }
+}
+
+// So many animals, each of which excretes so many grams, and the soluble fraction of it.
+pub fn excreted(animals: u64, grams: u64, fraction: u64) -> Excretion
+    requires { ⌜ (animals ≤ mostAnimals) × (grams ≤ mostGrams) × (fraction ≤ tenThousandths) ⌝ }
+    ensures { λ r. ⌜ ofExcretion r ≡ excreted cutting animals grams fraction ⌝ }
+{
+    let n = animals * grams;
+    let tan = amounts::portion(n, fraction, TEN_THOUSANDTHS).whole;
+    Excretion {
+        n_excretion: n,
+        tan_excretion: tan,
+    }
+}

@@ -1,9 +1,0 @@
-pub mod Units
-pub mod Arithmetic
-pub mod Sound
-pub mod Portion
-pub mod Excretion
-pub mod Yard
-pub mod Grazing
-pub mod Housing
-pub mod Bounds

@@ -1,0 +1,88 @@
+-- The flow through the housing door, and 2.85 to 2.87: the housing of other roughage-consuming animals and its ammonia.
+use Prim.Native.Nat.{ℕ, _-_, _*_}
+use lib.Dec.{ltb}
+use Rattle.base.specs.Pick.{pick}
+use Rattle.amounts.specs.Units.{percent, thousandths, billionths, year, day}
+use Rattle.amounts.specs.Arithmetic.{Arithmetic, cutting}
+use Rattle.amounts.specs.Portion.{portion}
+use Rattle.kinds.specs.declared.Roughage.{Roughage}
+use Rattle.housing.specs.declared.Housing.{Housing}
+
+-- 2.85, er_housing, 0.275, in thousandths
+abbrev pub «er_housing» : ℕ
+«er_housing» = 275
+
+-- 2.86, c_free_factor_housing, in percent: 1 less the free factor
+abbrev pub «c_free_factor_housing» : ℕ → ℕ
+«c_free_factor_housing» free = percent - free
+
+pub record HousingIn (A : Arithmetic) : Type 0 where
+  pub «n_into_housing» : A .Amount
+  pub «tan_into_housing» : A .Amount
+  pub «nh3_nhousing» : A .Amount
+  pub «n_outhousing» : A .Amount
+  pub «tan_outhousing» : A .Amount
+
+module _ (A : Arithmetic) where
+  open Arithmetic A using (Amount, whole, _⊕_, _⊖_, _⊗_, _over_, _atMost_, k)
+
+  infixl 7 _⊗_
+  infixl 6 _⊕_
+  infixl 6 _⊖_
+  infixl 5 _over_
+  infixl 4 _atMost_
+  -- 2.87, c_grazing, in billionths: below a whole year on pasture, the hours in the housing, those of grazing days times k, over the hours in
+  -- the housing; else 1
+  abbrev pub «c_grazing» : ℕ → ℕ → Amount
+  «c_grazing» days hours =
+      pick (ltb (days * hours) (year * day))
+      (whole ((year - days) * day * billionths) ⊕ whole (days * (day - hours)) ⊗ k hours over year * day - hours * days)
+      (whole billionths)
+
+  -- 2.85, ef_nh3_nhousing, in billionths: er_housing, then the free factor, then the ceiling of 1
+  abbrev pub «ef_nh3_nhousing» : Roughage → Amount
+  «ef_nh3_nhousing» r =
+      portion A (portion A («c_grazing» (r .«grazing_days») (r .«grazing_hours»)) «er_housing» thousandths)
+      («c_free_factor_housing» (r .«free_correction_factor»)) percent
+      atMost billionths
+
+  -- 2.85, nh3_nhousing
+  abbrev pub nh3InHousing : Roughage → Amount → Amount
+  nh3InHousing r tan = tan ⊗ «ef_nh3_nhousing» r over billionths
+
+  -- 2.85, n_outhousing and tan_outhousing: what came in, what is emitted there, what goes out
+  abbrev pub throughHousing : Amount → Amount → Amount → HousingIn A
+  throughHousing n tan nh3 =
+      record {
+        «n_into_housing» = n;
+        «tan_into_housing» = tan;
+        «nh3_nhousing» = nh3;
+        «n_outhousing» = n ⊖ nh3;
+        «tan_outhousing» = tan ⊖ nh3;
+      }
+
+  -- the housing of a roughage herd into which so much N and TAN goes
+  abbrev pub inHousing : Roughage → Amount → Amount → HousingIn A
+  inHousing r n tan = throughHousing n tan (nh3InHousing r tan)
+
+  -- 01 leaves the housing of cattle and pigs out: only the flow through the door
+  abbrev pub throughDoor : Amount → Amount → HousingIn A
+  throughDoor n tan =
+      record {
+        «n_into_housing» = n;
+        «tan_into_housing» = tan;
+        «nh3_nhousing» = whole 0;
+        «n_outhousing» = whole 0;
+        «tan_outhousing» = whole 0;
+      }
+
+-- the code's struct, on whole grams
+abbrev pub ofHousing : Housing → HousingIn cutting
+ofHousing h =
+    record {
+      «n_into_housing» = h .«n_into_housing»;
+      «tan_into_housing» = h .«tan_into_housing»;
+      «nh3_nhousing» = h .«nh3_nhousing»;
+      «n_outhousing» = h .«n_outhousing»;
+      «tan_outhousing» = h .«tan_outhousing»;
+    }

@@ -1,0 +1,84 @@
+// The flow through the housing door, and 2.85 to 2.87: the housing of other roughage-consuming animals and its ammonia. Factors are in
+// billionths. The coefficient 0.9989 that 2.87 prints stands in no formula there, and none here.
+use amounts::BILLIONTHS;
+use amounts::DAY;
+use amounts::PERCENT;
+use amounts::THOUSANDTHS;
+use amounts::YEAR;
+use amounts::YEAR_OF_HOURS;
+use kinds::Roughage;
+ghost use mathlib.Core.Path.{_≡_};
+ghost use Prim.Native.Nat.{_≤_};
+ghost use Rattle.tables.specs.Growth.{mostK};
+ghost use Rattle.amounts.specs.Units.{billionths, year, day};
+ghost use Rattle.amounts.specs.Arithmetic.{cutting};
+ghost use Rattle.amounts.specs.Bounds.{Modest, UpTo};
+ghost use Rattle.kinds.specs.Sound.{SoundRoughage};
+ghost use Rattle.housing.specs.Housing.{«c_grazing», «ef_nh3_nhousing», inHousing, throughDoor, ofHousing};
+
+pub struct Housing {
+    pub n_into_housing: u64,
+    pub tan_into_housing: u64,
+    pub nh3_nhousing: u64,
+    pub n_outhousing: u64,
+    pub tan_outhousing: u64,
+}
+
+// er_housing, in thousandths.
+const ER_HOUSING: u64 = 275;
+
+// How much more of the TAN is emitted for the hours on pasture.
+fn c_grazing(days: u64, hours: u64) -> u64
+    requires { ⌜ (days ≤ year) × (hours ≤ day) ⌝ }
+    ensures { λ r. ⌜ UpTo mostK («c_grazing» cutting days hours) r ⌝ }
+{
+    if days * hours < YEAR_OF_HOURS {
+        let other_days = (YEAR - days) * DAY * BILLIONTHS;
+        let grazing_days = days * (DAY - hours) * tables::k(hours);
+        return cut::cut(other_days + grazing_days, YEAR_OF_HOURS - hours * days).whole;
+    }
+    BILLIONTHS
+}
+
+// The part of the TAN that the housing emits: the rate, then the free factor, then the ceiling of 1.
+fn ef_nh3_nhousing(r: Roughage) -> u64
+    requires { ⌜ SoundRoughage r ⌝ }
+    ensures { λ f. ⌜ UpTo billionths («ef_nh3_nhousing» cutting r) f ⌝ }
+{
+    let c = c_grazing(r.grazing_days, r.grazing_hours);
+    let rate = amounts::portion(c, ER_HOUSING, THOUSANDTHS).whole;
+    let factor = amounts::portion(rate, PERCENT - r.free_correction_factor, PERCENT).whole;
+    if BILLIONTHS < factor {
+        return BILLIONTHS;
+    }
+    factor
+}
+
+// The housing of a roughage herd into which so much N and TAN goes.
+pub fn in_housing(r: Roughage, n: u64, tan: u64) -> Housing
+    requires { ⌜ SoundRoughage r × Modest n tan ⌝ }
+    ensures { λ h. ⌜ ofHousing h ≡ inHousing cutting r n tan ⌝ }
+{
+    let factor = ef_nh3_nhousing(r);
+    let nh3 = amounts::portion(tan, factor, BILLIONTHS).whole;
+    Housing {
+        n_into_housing: n,
+        tan_into_housing: tan,
+        nh3_nhousing: nh3,
+        n_outhousing: n - nh3,
+        tan_outhousing: tan - nh3,
+    }
+}
+
+// Only the flow through the door.
+pub fn through_door(n: u64, tan: u64) -> Housing
+    ensures { λ h. ⌜ ofHousing h ≡ throughDoor cutting n tan ⌝ }
+{
+    Housing {
+        n_into_housing: n,
+        tan_into_housing: tan,
+        nh3_nhousing: 0,
+        n_outhousing: 0,
+        tan_outhousing: 0,
+    }
+}

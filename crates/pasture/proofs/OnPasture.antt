@@ -1,0 +1,79 @@
+-- The pasture: the four gases together are no more than the N, and nothing is lost on the way. Assumes nothing.
+use mathlib.Core.Path.{_≡_, refl, sym, ap, _∙_}
+use Prim.Native.Nat.{ℕ, _+_, _-_, _≤_, _<_, _^_}
+use native.Mathlib.Nat.{mul-le-mul-left, mul-le-mul-right}
+use native.Mathlib.Omega.{arith}
+use lib.IntN.{ℤ, pos, negℤ, _+ℤ_, _-ℤ_, +ℤ-assoc, negℤ-+ℤ, -ℤ-+ℤ-cancel}
+use lib.Signed.{mag}
+use mir.Syntax.{w64}
+use mir.Val.{toZ, ofZ}
+use Rattle.cut.specs.declared.Quotient.{Quotient}
+use Rattle.cut.proofs.Signed.{kept}
+use Rattle.amounts.specs.Units.{tenThousandths}
+use Rattle.amounts.specs.Arithmetic.{cutting}
+use Rattle.amounts.specs.Bounds.{Modest, PortionOf}
+use Rattle.rates.specs.declared.Rates.{Rates}
+use Rattle.rates.specs.Bounds.{ModestRates}
+use Rattle.pasture.specs.declared.Gases.{Gases}
+use Rattle.pasture.specs.Pasture.{GrazingIn, gas, onPasture}
+use Rattle.pasture.specs.Bounds.{Emitted}
+
+-- ---- what is taken together is taken one by one
+
+less-less : (z : ℤ) (a b : ℕ) → z -ℤ pos (a + b) ≡ z -ℤ pos a -ℤ pos b
+less-less z a b = ap (λ (y : ℤ). z +ℤ y) (negℤ-+ℤ (pos a) (pos b)) ∙ sym (+ℤ-assoc z (negℤ (pos a)) (negℤ (pos b)))
+
+less-all : (z : ℤ) (a b c d : ℕ) → z -ℤ pos (a + b + c + d) ≡ z -ℤ pos a -ℤ pos b -ℤ pos c -ℤ pos d
+less-all z a b c d =
+    less-less z (a + b + c) d
+    ∙ ap (λ (y : ℤ). y -ℤ pos d) (less-less z (a + b) c ∙ ap (λ (y : ℤ). y -ℤ pos c) (less-less z a b))
+
+rest-all : (n a b c d : ℕ) → n - (a + b + c + d) ≡ n - a - b - c - d
+rest-all n a b c d = omega arith
+
+-- ---- the four gases
+
+module _ (r : Rates) (n tan : ℕ) where
+  pub gases-le : ModestRates r → Modest n tan
+      → gas cutting tan (r .nh3) + gas cutting n (r .n2) + gas cutting n (r .no) + gas cutting n (r .n2o) ≤ n
+  gases-le h m = omega (arith, mul-le-mul-right (r .nh3) (m .tan-most), mul-le-mul-left n (h .together))
+
+  -- ---- conservation: what comes onto the pasture remains there or is emitted
+
+  pub pasture-keeps-n : ModestRates r → Modest n tan
+      → onPasture cutting r n tan .«n_into_grazing»
+      ≡ onPasture cutting r n tan .«n_remain_grazing»
+      + (onPasture cutting r n tan .«nh3_ngrazing» + onPasture cutting r n tan .«n2_ngrazing» + onPasture cutting r n tan .«no_ngrazing» + onPasture cutting r n tan .«n2o_ngrazing»)
+  pasture-keeps-n h m = omega (arith, gases-le h m)
+
+  pub pasture-keeps-tan : pos (onPasture cutting r n tan .«tan_into_grazing»)
+      ≡ onPasture cutting r n tan .«tan_remain_grazing»
+      +ℤ pos (onPasture cutting r n tan .«nh3_ngrazing» + onPasture cutting r n tan .«n2_ngrazing» + onPasture cutting r n tan .«no_ngrazing» + onPasture cutting r n tan .«n2o_ngrazing»)
+  pasture-keeps-tan = rest-back (pos tan) (gas cutting tan (r .nh3)) (gas cutting n (r .n2)) (gas cutting n (r .no)) (gas cutting n (r .n2o))
+    where
+      rest-back : (z : ℤ) (a b c d : ℕ) → z ≡ z -ℤ pos a -ℤ pos b -ℤ pos c -ℤ pos d +ℤ pos (a + b + c + d)
+      rest-back z a b c d = rw (← less-all z a b c d) (sym (-ℤ-+ℤ-cancel z (pos (a + b + c + d))))
+
+  -- ---- the code's steps
+
+  pub emitted : (nh3 n2 nO n2o : Quotient) → ModestRates r → Modest n tan
+      → PortionOf tan (r .nh3) tenThousandths nh3 → PortionOf n (r .n2) tenThousandths n2
+      → PortionOf n (r .no) tenThousandths nO → PortionOf n (r .n2o) tenThousandths n2o
+      → Emitted r n tan (record { nh3 = nh3 .whole; n2 = n2 .whole; no = nO .whole; n2o = n2o .whole })
+  emitted nh3 n2 nO n2o h m p q s t =
+      record { is = cc (p .is, q .is, s .is, t .is); together = omega (arith, gases-le h m, p .is, q .is, s .is, t .is) }
+
+  pub remains : (g : Gases) (left : ℤ) → Emitted r n tan g → mag left < 2 ^ 63 → left ≡ pos tan -ℤ pos (g .nh3 + g .n2 + g .no + g .n2o)
+      → _≡_ {A = GrazingIn cutting} (record {
+        «n_into_grazing» = n;
+        «tan_into_grazing» = tan;
+        «nh3_ngrazing» = g .nh3;
+        «n2_ngrazing» = g .n2;
+        «no_ngrazing» = g .no;
+        «n2o_ngrazing» = g .n2o;
+        «n_remain_grazing» = n - (g .nh3 + g .n2 + g .no + g .n2o);
+        «tan_remain_grazing» = toZ w64 (ofZ w64 left);
+      })
+      (onPasture cutting r n tan)
+  remains g left e fits el =
+      rw (kept left fits, el, less-all (pos tan) (g .nh3) (g .n2) (g .no) (g .n2o), rest-all n (g .nh3) (g .n2) (g .no) (g .n2o), e .is) refl

@@ -1,0 +1,2 @@
+pub mod Pasture
+pub mod Bounds

@@ -1,0 +1,124 @@
+// 2.35, 2.61 and 2.88: what is excreted on pasture, the gases from it and what remains. The model takes every gas from the TAN too, so
+// what remains of that may be below zero, and is not lifted.
+use amounts::DAY;
+use amounts::TEN_THOUSANDTHS;
+use amounts::TENTHS;
+use amounts::YEAR;
+use amounts::YEAR_OF_HOURS;
+use kinds::HousingType;
+use kinds::Outdoor;
+use kinds::Roughage;
+use rates::Rates;
+ghost use mathlib.Core.Path.{_≡_};
+ghost use Prim.Native.Nat.{_*_};
+ghost use Rattle.amounts.specs.Units.{tenths, year, day};
+ghost use Rattle.amounts.specs.Arithmetic.{cutting};
+ghost use Rattle.amounts.specs.Bounds.{Modest, UpTo};
+ghost use Rattle.kinds.specs.Sound.{SoundOutdoor, SoundRoughage};
+ghost use Rattle.rates.specs.Bounds.{ModestRates};
+ghost use Rattle.pasture.specs.Pasture.{outdoorGrazingTime, onPasture, pigsIntoGrazing, outdoorGrazing, roughageGrazing, pigsGrazing, ofGrazing};
+ghost use Rattle.pasture.specs.Bounds.{Emitted};
+
+// What a pasture emits.
+struct Gases {
+    nh3: u64,
+    n2: u64,
+    no: u64,
+    n2o: u64,
+}
+
+pub struct Grazing {
+    pub n_into_grazing: u64,
+    pub tan_into_grazing: u64,
+    pub nh3_ngrazing: u64,
+    pub n2_ngrazing: u64,
+    pub no_ngrazing: u64,
+    pub n2o_ngrazing: u64,
+    pub n_remain_grazing: u64,
+    pub tan_remain_grazing: i64,
+}
+
+// A year of days of 24 hours, in tenths of an hour and tenths of a day.
+const YEAR_OF_SHARED_HOURS: u64 = DAY * (TENTHS * YEAR);
+
+// The part of the year that a herd with a yard is on pasture.
+fn outdoor_grazing_time(o: Outdoor) -> u64
+    requires { ⌜ SoundOutdoor o ⌝ }
+    ensures { λ r. ⌜ UpTo (day * (tenths * year)) (outdoorGrazingTime o) r ⌝ }
+{
+    let both = yard::days_with_grazing_and_yard(o);
+    let shared = yard::share_excretion_with_grazing(o);
+    o.grazing_hours * ((o.grazing_days - both) * TENTHS + (TENTHS - shared) * both)
+}
+
+// What a pasture emits onto which so much N and TAN comes.
+fn gases_of(r: Rates, n: u64, tan: u64) -> Gases
+    requires { ⌜ ModestRates r × Modest n tan ⌝ }
+    ensures { λ g. ⌜ Emitted r n tan g ⌝ }
+{
+    let nh3 = amounts::portion(tan, r.nh3, TEN_THOUSANDTHS).whole;
+    let n2 = amounts::portion(n, r.n2, TEN_THOUSANDTHS).whole;
+    let no = amounts::portion(n, r.no, TEN_THOUSANDTHS).whole;
+    let n2o = amounts::portion(n, r.n2o, TEN_THOUSANDTHS).whole;
+    Gases { nh3, n2, no, n2o }
+}
+
+// The pasture onto which so much N and TAN comes.
+fn on_pasture(r: Rates, n: u64, tan: u64) -> Grazing
+    requires { ⌜ ModestRates r × Modest n tan ⌝ }
+    ensures { λ g. ⌜ ofGrazing g ≡ onPasture cutting r n tan ⌝ }
+{
+    let g = gases_of(r, n, tan);
+    let all = g.nh3 + g.n2 + g.no + g.n2o;
+    Grazing {
+        n_into_grazing: n,
+        tan_into_grazing: tan,
+        nh3_ngrazing: g.nh3,
+        n2_ngrazing: g.n2,
+        no_ngrazing: g.no,
+        n2o_ngrazing: g.n2o,
+        n_remain_grazing: n - all,
+        tan_remain_grazing: cut::less(tan, all),
+    }
+}
+
+// The pasture of a herd with a yard, at its kind's rates, where the herd excretes so much N and TAN.
+pub fn outdoor_grazing(r: Rates, o: Outdoor, n: u64, tan: u64) -> Grazing
+    requires { ⌜ ModestRates r × SoundOutdoor o × Modest n tan ⌝ }
+    ensures { λ g. ⌜ ofGrazing g ≡ outdoorGrazing cutting r o n tan ⌝ }
+{
+    let into = amounts::portions(n, tan, outdoor_grazing_time(o), YEAR_OF_SHARED_HOURS);
+    on_pasture(r, into.n.whole, into.tan.whole)
+}
+
+// The pasture of a roughage herd.
+pub fn roughage_grazing(h: Roughage, n: u64, tan: u64) -> Grazing
+    requires { ⌜ SoundRoughage h × Modest n tan ⌝ }
+    ensures { λ g. ⌜ ofGrazing g ≡ roughageGrazing cutting h n tan ⌝ }
+{
+    let into = amounts::portions(n, tan, h.grazing_hours * h.grazing_days, YEAR_OF_HOURS);
+    on_pasture(rates::roughage_rates(), into.n.whole, into.tan.whole)
+}
+
+// What pigs put on pasture of an amount: outdoors all, else nothing.
+fn pigs_into_grazing(housing: HousingType, amount: u64) -> u64
+    ensures { λ r. ⌜ r ≡ pigsIntoGrazing cutting housing amount ⌝ }
+{
+    match housing {
+        HousingType::SlurryConventional => 0,
+        HousingType::SlurryLabel => 0,
+        HousingType::SlurryLabelOpen => 0,
+        HousingType::DeepLitter => 0,
+        HousingType::Outdoor => amount,
+    }
+}
+
+// The pasture of a pig herd.
+pub fn pigs_grazing(housing: HousingType, n: u64, tan: u64) -> Grazing
+    requires { ⌜ Modest n tan ⌝ }
+    ensures { λ g. ⌜ ofGrazing g ≡ pigsGrazing cutting housing n tan ⌝ }
+{
+    let n_into = pigs_into_grazing(housing, n);
+    let tan_into = pigs_into_grazing(housing, tan);
+    on_pasture(rates::pigs_rates(), n_into, tan_into)
+}

@@ -1,0 +1,97 @@
+-- A herd's record that passes the checks gives sound inputs: what stands in a slot is a value of the form of its input, so each number is in
+-- its range (01, "Ranges").
+-- Assumes nothing.
+use Prim.Native.Nat.{ℕ, zero, suc, _≤_, _<_}
+use mathlib.Core.Path.{_≡_}
+use mathlib.Core.Bool.{true}
+use mathlib.Core.List.{List, [], _∷_}
+use native.Mathlib.Omega.{arith}
+use lib.ListN.{length, getD}
+use borrow.Author.Needs.{zero≤}
+use borrow.Author.Tests.{leb-true, ltb-true}
+use Rattle.inputs.specs.declared.Kind.{Kind}
+use Rattle.inputs.specs.declared.Kind.the-variants as kinds
+use Rattle.inputs.specs.declared.Form.{Form}
+use Rattle.inputs.specs.declared.Form.the-variants.{Number, OrStandard, NoStandard, OneOf}
+use Rattle.inputs.specs.Inputs.{Row, rowsOf, noRow}
+use Rattle.farm.specs.declared.Given.{Given}
+use Rattle.farm.specs.declared.Given.the-variants.{Missing, Standard, Value}
+use Rattle.farm.specs.declared.Slot.{Slot}
+use Rattle.farm.specs.declared.Herd.{Herd}
+use Rattle.farm.specs.declared.Checked.the-variants.{Accepted}
+use Rattle.farm.specs.Checks.{fits, checkHerd}
+use Rattle.farm.specs.Accepts.{Passes}
+use Rattle.farm.specs.Herds.{noSlot}
+use Rattle.farm.proofs.Accepts.{passes}
+use Rattle.kinds.specs.Sound.{EnteredTo, standard, number, Sound, roughage, cattle, pigs}
+use Rattle.typed.specs.Typed.{numberIn, enteredIn, givenAt, numberAt, enteredAt, roughageOf, outdoorOf, cattleOf, pigsOf, typedAs, typedOf}
+
+-- ---- a slot
+
+-- the most that a number of the form may be
+abbrev mostOf : Form → ℕ
+mostOf (Number d m) = m
+mostOf (OrStandard d m) = m
+mostOf (NoStandard d m) = m
+mostOf (OneOf from count) = count
+
+value-to : (form : Form) (v : ℕ) → fits form (Value v) ≡ true → v ≤ mostOf form
+value-to (Number d m) v e = leb-true v m e
+value-to (OrStandard d m) v e = leb-true v m e
+value-to (NoStandard d m) v e = leb-true v m e
+value-to (OneOf from count) v e = omega (arith, ltb-true v count e)
+
+number-to : (form : Form) (g : Given) → fits form g ≡ true → numberIn g ≤ mostOf form
+number-to form Missing e = zero≤
+number-to form Standard e = zero≤
+number-to form (Value v) e = value-to form v e
+
+entered-to : (form : Form) (g : Given) → fits form g ≡ true → EnteredTo (mostOf form) (enteredIn g)
+entered-to form Missing e = number zero≤
+entered-to form Standard e = standard
+entered-to form (Value v) e = number (value-to form v e)
+
+-- ---- the slot of each input
+
+fits-at : (rows : List Row) (slots : List Slot) (i : ℕ) → Passes rows slots → i < length rows → fits (getD rows i noRow .form) (getD slots i noSlot .given) ≡ true
+fits-at (row ∷ rows) (s ∷ slots) zero (Passes.next m f p) h = f
+fits-at (row ∷ rows) (s ∷ slots) (suc i) (Passes.next m f p) h = fits-at rows slots i p (omega arith)
+fits-at [] slots i p h = absurd (omega arith)
+
+module _ (k : Kind) (h : Herd) (p : Passes (rowsOf k) (h .slots)) where
+  number-at : (i : ℕ) → i < length (rowsOf k) → numberAt h i ≤ mostOf (getD (rowsOf k) i noRow .form)
+  number-at i l = number-to (getD (rowsOf k) i noRow .form) (givenAt h i) (fits-at (rowsOf k) (h .slots) i p l)
+
+  entered-at : (i : ℕ) → i < length (rowsOf k) → EnteredTo (mostOf (getD (rowsOf k) i noRow .form)) (enteredAt h i)
+  entered-at i l = entered-to (getD (rowsOf k) i noRow .form) (givenAt h i) (fits-at (rowsOf k) (h .slots) i p l)
+
+-- ---- each kind
+
+typed-as : (k : Kind) (h : Herd) → Passes (rowsOf k) (h .slots) → Sound (typedAs k h)
+unfolding roughageOf outdoorOf cattleOf pigsOf
+typed-as kinds.Roughage h p =
+    let n = number-at kinds.Roughage h p in
+    let e = entered-at kinds.Roughage h p in
+    roughage (record {
+      animals = n 1 (omega arith);
+      grams = e 2 (omega arith);
+      fraction = e 3 (omega arith);
+      free = n 4 (omega arith);
+      days = n 5 (omega arith);
+      hours = n 6 (omega arith);
+    })
+typed-as kinds.Cattle h p =
+    let n = number-at kinds.Cattle h p in
+    cattle (record {
+      animals = n 0 (omega arith);
+      grams = n 1 (omega arith);
+      fraction = n 2 (omega arith);
+      outdoor = record { yard = n 3 (omega arith); free = n 6 (omega arith); days = n 7 (omega arith); hours = n 8 (omega arith) };
+    })
+typed-as kinds.Pigs h p =
+    let n = number-at kinds.Pigs h p in
+    pigs (record { animals = n 0 (omega arith); grams = n 1 (omega arith); fraction = n 2 (omega arith) })
+
+pub typed-sound : (h : Herd) → checkHerd h ≡ Accepted → Sound (typedOf h)
+unfolding typedOf
+typed-sound h e = typed-as (h .kind) h (passes h e)

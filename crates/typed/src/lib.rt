@@ -1,0 +1,115 @@
+// A herd's record as the complete inputs of its kind. The slots are told by their places in 01's list. What is missing reads as 0; no record
+// that passes the checks has that.
+use farm::Given;
+use farm::Herd;
+use inputs::Kind;
+use kinds::Cattle;
+use kinds::Entered;
+use kinds::Inputs;
+use kinds::Outdoor;
+use kinds::Pigs;
+use kinds::Roughage;
+use kinds::choices;
+ghost use mathlib.Core.Path.{_≡_};
+ghost use Prim.Native.Nat.{_<_};
+ghost use Rattle.inputs.specs.declared.Kind.the-variants as kinds;
+ghost use Rattle.typed.specs.Typed.{numberIn, enteredIn, numberAt, enteredAt, roughageOf, outdoorOf, cattleOf, pigsOf, typedOf};
+
+fn number_in(given: Given) -> u64
+    ensures { λ r. ⌜ r ≡ numberIn given ⌝ }
+{
+    match given {
+        Given::Missing => 0,
+        Given::Standard => 0,
+        Given::Value(v) => v as u64,
+    }
+}
+
+fn entered_in(given: Given) -> Entered
+    ensures { λ r. ⌜ r ≡ enteredIn given ⌝ }
+{
+    match given {
+        Given::Missing => Entered::Number(0),
+        Given::Standard => Entered::Standard,
+        Given::Value(v) => Entered::Number(v as u64),
+    }
+}
+
+// The number in a slot.
+fn number_at(h: Herd, place: usize) -> u64
+    requires { ⌜ place < 9 ⌝ }
+    ensures { λ r. ⌜ r ≡ numberAt h place ⌝ }
+{
+    let slot = h.slots[place];
+    let given = slot.given;
+    number_in(given)
+}
+
+fn entered_at(h: Herd, place: usize) -> Entered
+    requires { ⌜ place < 9 ⌝ }
+    ensures { λ r. ⌜ r ≡ enteredAt h place ⌝ }
+{
+    let slot = h.slots[place];
+    let given = slot.given;
+    entered_in(given)
+}
+
+fn roughage_of(h: Herd) -> Roughage
+    ensures { λ r. ⌜ r ≡ roughageOf h ⌝ }
+{
+    Roughage {
+        animalcategory: number_at(h, 0),
+        animals: number_at(h, 1),
+        inp_n_excretion: entered_at(h, 2),
+        tan_fraction: entered_at(h, 3),
+        free_correction_factor: number_at(h, 4),
+        grazing_days: number_at(h, 5),
+        grazing_hours: number_at(h, 6),
+    }
+}
+
+fn outdoor_of(h: Herd) -> Outdoor
+    ensures { λ r. ⌜ r ≡ outdoorOf kinds.Cattle h ⌝ }
+{
+    Outdoor {
+        yard_days: number_at(h, 3),
+        exercise_yard: choices::yard_at(number_at(h, 4)),
+        floor_properties_exercise_yard: choices::floor_at(number_at(h, 5)),
+        free_correction_factor: number_at(h, 6),
+        grazing_days: number_at(h, 7),
+        grazing_hours: number_at(h, 8),
+    }
+}
+
+fn cattle_of(h: Herd) -> Cattle
+    ensures { λ r. ⌜ r ≡ cattleOf h ⌝ }
+{
+    Cattle {
+        animals: number_at(h, 0),
+        inp_n_excretion: number_at(h, 1),
+        tan_fraction: number_at(h, 2),
+        outdoor: outdoor_of(h),
+    }
+}
+
+fn pigs_of(h: Herd) -> Pigs
+    ensures { λ r. ⌜ r ≡ pigsOf h ⌝ }
+{
+    Pigs {
+        animals: number_at(h, 0),
+        inp_n_excretion: number_at(h, 1),
+        tan_fraction: number_at(h, 2),
+        housing_type: choices::housing_at(number_at(h, 3)),
+    }
+}
+
+pub fn typed_of(h: Herd) -> Inputs
+    ensures { λ r. ⌜ r ≡ typedOf h ⌝ }
+{
+    let kind = h.kind;
+    match kind {
+        Kind::Roughage => Inputs::Roughage(roughage_of(h)),
+        Kind::Cattle => Inputs::Cattle(cattle_of(h)),
+        Kind::Pigs => Inputs::Pigs(pigs_of(h)),
+    }
+}

@@ -1,0 +1,48 @@
+-- The yard: its part of the N and of the TAN, the ammonia from it, and that nothing is lost on the way. Assumes nothing.
+use mathlib.Core.Path.{_≡_, refl}
+use Prim.Native.Nat.{ℕ, _+_, _-_, _*_, _≤_}
+use native.Mathlib.Omega.{arith}
+use Rattle.cut.specs.declared.Quotient.{Quotient}
+use Rattle.cut.proofs.Products.{mul-to}
+use Rattle.cut.proofs.Shares.{part-le}
+use Rattle.amounts.specs.declared.Parts.{Parts}
+use Rattle.amounts.specs.Units.{tenths, percent, tenThousandths, year}
+use Rattle.amounts.specs.Arithmetic.{cutting}
+use Rattle.amounts.specs.Bounds.{Modest, PortionOf, PortionsOf, UpTo}
+use Rattle.amounts.proofs.Amounts.{modest-share}
+use Rattle.kinds.specs.declared.Outdoor.{Outdoor}
+use Rattle.kinds.specs.Sound.{SoundOutdoor}
+use Rattle.yard.specs.Yard.{«er_yard», «c_floor_properties_exercise_yard», yardTime, «ef_nh3_nyard», intoYard, nh3OnYard, throughYard, onYard}
+use Rattle.yard.proofs.Times.{yard-time-le}
+
+module _ (o : Outdoor) (s : SoundOutdoor o) where
+  pub yard-rate-le : «ef_nh3_nyard» o ≤ tenThousandths * percent * percent
+  yard-rate-le = mul-to 700000 100 tt (omega arith) (omega arith)
+
+  -- as the code forms it
+  pub is-yard-rate : (floor : ℕ) → floor ≡ «c_floor_properties_exercise_yard» (o .«floor_properties_exercise_yard»)
+      → UpTo (tenThousandths * percent * percent) («ef_nh3_nyard» o) («er_yard» * floor * (percent - o .«free_correction_factor»))
+  is-yard-rate floor e = rw e (record { is = refl; most = yard-rate-le })
+
+  pub yard-modest : (n tan : ℕ) → Modest n tan → Modest (intoYard cutting o n) (intoYard cutting o tan)
+  yard-modest n tan m = modest-share n tan (yardTime o) (tenths * year) m (yard-time-le o s)
+
+  pub nh3-on-yard-le : (tan : ℕ) → nh3OnYard cutting o tan ≤ tan
+  nh3-on-yard-le tan = part-le tan («ef_nh3_nyard» o) (tenThousandths * percent * percent) yard-rate-le
+
+  -- ---- conservation: what comes onto the yard is emitted there or leaves it
+
+  module _ (n tan : ℕ) where
+    pub yard-keeps-n : Modest n tan → onYard cutting o n tan .«n_into_yard» ≡ onYard cutting o n tan .«nh3_nyard» + onYard cutting o n tan .«n_outyard_liquid»
+    yard-keeps-n m = omega (arith, yard-modest n tan m .tan-most, nh3-on-yard-le (intoYard cutting o tan))
+
+    pub yard-keeps-tan : onYard cutting o n tan .«tan_into_yard» ≡ onYard cutting o n tan .«nh3_nyard» + onYard cutting o n tan .«tan_outyard_liquid»
+    yard-keeps-tan = omega (arith, nh3-on-yard-le (intoYard cutting o tan))
+
+-- ---- the code's step
+
+pub is-yard : (o : Outdoor) (n tan time rate : ℕ) (into : Parts) (nh3 : Quotient)
+    → UpTo (tenths * year) (yardTime o) time → PortionsOf n tan time (tenths * year) into
+    → UpTo (tenThousandths * percent * percent) («ef_nh3_nyard» o) rate → PortionOf (into .tan .whole) rate (tenThousandths * percent * percent) nh3
+    → throughYard cutting (into .n .whole) (into .tan .whole) (nh3 .whole) ≡ onYard cutting o n tan
+is-yard o n tan time rate into nh3 et p er g = rw (g .is, p .of-n .is, p .of-tan .is, et .is, er .is) refl

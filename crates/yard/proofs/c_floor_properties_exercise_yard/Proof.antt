@@ -1,0 +1,33 @@
+-- `yard::c_floor_properties_exercise_yard` meets its contract: each floor's is 1 less its reduction. Assumes nothing.
+use borrow.Author.Needs.{needs}
+use Rattle.yard.proofs.c_floor_properties_exercise_yard.Statement.{statement}
+use Rattle.yard.proofs.c_floor_properties_exercise_yard.Tie as tie
+
+enum-told : tie.Need-enum-told
+enum-told c = search needs
+
+enum-told-2 : tie.Need-enum-told-2
+enum-told-2 c = search needs
+
+enum-told-3 : tie.Need-enum-told-3
+enum-told-3 c = search needs
+
+enum-told-4 : tie.Need-enum-told-4
+enum-told-4 c = search needs
+
+returns : tie.Need-returns
+returns c = simp (c .enum-told .given .1)
+
+returns-2 : tie.Need-returns-2
+returns-2 c = simp (c .enum-told2 .given .1)
+
+returns-3 : tie.Need-returns-3
+returns-3 c = simp (c .enum-told3 .given .1)
+
+returns-4 : tie.Need-returns-4
+returns-4 c = simp (c .enum-told4 .given .1)
+
+pub c-floor-properties-exercise-yard-spec : {M : Type 1} → statement M
+c-floor-properties-exercise-yard-spec =
+    tie.close
+    (tie.spec enum-told enum-told-2 enum-told-3 enum-told-4 returns returns-2 returns-3 returns-4)

@@ -1,0 +1,2 @@
+pub mod Yard
+pub mod Bounds

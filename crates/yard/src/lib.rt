@@ -1,0 +1,150 @@
+// 2.33 and 2.34: days with both, the yard's share of what is excreted, and what happens on the yard.
+//
+// The trap: grazing days and yard days may overlap. Both counts stay as they are, and a day with both has a share of its own. A program
+// that tests ranges of days which overlap one after the other, cuts the yard days at what grazing leaves of the year, or lets the share of
+// the other yard days stand on days with both, gives summer farms a figure that is not theirs.
+use amounts::PERCENT;
+use amounts::TEN_THOUSANDTHS;
+use amounts::TENTHS;
+use amounts::YEAR;
+use kinds::ExerciseYard;
+use kinds::Floor;
+use kinds::Outdoor;
+ghost use mathlib.Core.Path.{_≡_};
+ghost use Prim.Native.Nat.{_*_};
+ghost use Rattle.amounts.specs.Units.{tenths, percent, tenThousandths, year};
+ghost use Rattle.amounts.specs.Arithmetic.{cutting};
+ghost use Rattle.amounts.specs.Bounds.{Modest, UpTo};
+ghost use Rattle.kinds.specs.Sound.{SoundOutdoor};
+ghost use Rattle.yard.specs.Yard.{«share_excretion», shareLowered, «share_excretion_with_grazing», «c_floor_properties_exercise_yard», «ef_nh3_nyard», yardTime, onYard, noYard, ofYard};
+ghost use Rattle.yard.specs.Bounds.{Both};
+
+pub struct Yard {
+    pub n_into_yard: u64,
+    pub tan_into_yard: u64,
+    pub nh3_nyard: u64,
+    pub n_outyard_liquid: u64,
+    pub tan_outyard_liquid: u64,
+}
+
+// Shares of 2.34, in tenths.
+const SHARE_NOT_SUPPLIED: u64 = 1;
+
+const SHARE_PARTLY: u64 = 2;
+
+const SHARE_EXCLUSIVELY: u64 = 6;
+
+// er_yard, in ten-thousandths.
+const ER_YARD: u64 = 7000;
+
+// A year in tenths of a day; ten-thousandths of percent of percent.
+const YEAR_IN_TENTHS: u64 = TENTHS * YEAR;
+
+const RATE_FLOOR_FREE: u64 = TEN_THOUSANDTHS * PERCENT * PERCENT;
+
+pub fn days_with_grazing_and_yard(o: Outdoor) -> u64
+    requires { ⌜ SoundOutdoor o ⌝ }
+    ensures { λ r. ⌜ Both o r ⌝ }
+{
+    if YEAR < o.grazing_days + o.yard_days {
+        return o.grazing_days + o.yard_days - YEAR;
+    }
+    0
+}
+
+fn share_excretion(yard: ExerciseYard) -> u64
+    ensures { λ r. ⌜ UpTo tenths («share_excretion» yard) r ⌝ }
+{
+    match yard {
+        ExerciseYard::NotAvailable => 0,
+        ExerciseYard::NotSupplied => SHARE_NOT_SUPPLIED,
+        ExerciseYard::Partly => SHARE_PARTLY,
+        ExerciseYard::Exclusively => SHARE_EXCLUSIVELY,
+    }
+}
+
+// Whether the share is lowered on days with both.
+pub fn share_lowered(o: Outdoor) -> bool
+    requires { ⌜ SoundOutdoor o ⌝ }
+    ensures { λ r. ⌜ r ≡ shareLowered o ⌝ }
+{
+    let yard = o.exercise_yard;
+    let both = days_with_grazing_and_yard(o);
+    if both == 0 {
+        return false;
+    }
+    SHARE_PARTLY < share_excretion(yard)
+}
+
+// The share on days with both.
+pub fn share_excretion_with_grazing(o: Outdoor) -> u64
+    requires { ⌜ SoundOutdoor o ⌝ }
+    ensures { λ r. ⌜ UpTo tenths («share_excretion_with_grazing» o) r ⌝ }
+{
+    let yard = o.exercise_yard;
+    if share_lowered(o) {
+        return SHARE_PARTLY;
+    }
+    share_excretion(yard)
+}
+
+fn c_floor_properties_exercise_yard(floor: Floor) -> u64
+    ensures { λ r. ⌜ r ≡ «c_floor_properties_exercise_yard» floor ⌝ }
+{
+    match floor {
+        Floor::Solid => 100,
+        Floor::Unpaved => 50,
+        Floor::Perforated => 25,
+        Floor::Paddock => 10,
+    }
+}
+
+// The part of the year on the yard, in tenths of a day.
+fn yard_time(o: Outdoor) -> u64
+    requires { ⌜ SoundOutdoor o ⌝ }
+    ensures { λ r. ⌜ UpTo (tenths * year) (yardTime o) r ⌝ }
+{
+    let yard = o.exercise_yard;
+    let both = days_with_grazing_and_yard(o);
+    let share = share_excretion(yard);
+    let shared = share_excretion_with_grazing(o);
+    share * (o.yard_days - both) + shared * both
+}
+
+// The part of the TAN on the yard that is emitted.
+fn ef_nh3_nyard(o: Outdoor) -> u64
+    requires { ⌜ SoundOutdoor o ⌝ }
+    ensures { λ r. ⌜ UpTo (tenThousandths * percent * percent) («ef_nh3_nyard» o) r ⌝ }
+{
+    let floor = o.floor_properties_exercise_yard;
+    ER_YARD * c_floor_properties_exercise_yard(floor) * (PERCENT - o.free_correction_factor)
+}
+
+// The yard of a herd that excretes so much N and TAN.
+pub fn on_yard(o: Outdoor, n: u64, tan: u64) -> Yard
+    requires { ⌜ SoundOutdoor o × Modest n tan ⌝ }
+    ensures { λ r. ⌜ ofYard r ≡ onYard cutting o n tan ⌝ }
+{
+    let into = amounts::portions(n, tan, yard_time(o), YEAR_IN_TENTHS);
+    let nh3 = amounts::portion(into.tan.whole, ef_nh3_nyard(o), RATE_FLOOR_FREE).whole;
+    Yard {
+        n_into_yard: into.n.whole,
+        tan_into_yard: into.tan.whole,
+        nh3_nyard: nh3,
+        n_outyard_liquid: into.n.whole - nh3,
+        tan_outyard_liquid: into.tan.whole - nh3,
+    }
+}
+
+// No yard.
+pub fn no_yard() -> Yard
+    ensures { λ r. ⌜ ofYard r ≡ noYard cutting ⌝ }
+{
+    Yard {
+        n_into_yard: 0,
+        tan_into_yard: 0,
+        nh3_nyard: 0,
+        n_outyard_liquid: 0,
+        tan_outyard_liquid: 0,
+    }
+}
