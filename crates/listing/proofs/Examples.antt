@@ -28,18 +28,18 @@ abbrev pub pigFigures : Figures
 pigFigures =
     record {
       grams = map
-        (named
-        (("n_excretion", pos 130000)
-        ∷ ("tan_excretion", pos 91000)
-        ∷ ("n_into_grazing", pos 130000)
-        ∷ ("tan_into_grazing", pos 91000)
-        ∷ ("nh3_ngrazing", pos 18200)
-        ∷ ("no_ngrazing", pos 715)
-        ∷ ("n2o_ngrazing", pos 2600)
-        ∷ ("n_remain_grazing", pos 108485)
-        ∷ ("tan_remain_grazing", pos 69485)
-        ∷ []))
-        texts;
+          (named
+          (("n_excretion", pos 130000)
+          ∷ ("tan_excretion", pos 91000)
+          ∷ ("n_into_grazing", pos 130000)
+          ∷ ("tan_into_grazing", pos 91000)
+          ∷ ("nh3_ngrazing", pos 18200)
+          ∷ ("no_ngrazing", pos 715)
+          ∷ ("n2o_ngrazing", pos 2600)
+          ∷ ("n_remain_grazing", pos 108485)
+          ∷ ("tan_remain_grazing", pos 69485)
+          ∷ []))
+          texts;
     }
 
 abbrev pub pigLines : List String

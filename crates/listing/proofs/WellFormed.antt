@@ -164,8 +164,8 @@ unfolding herdLines
 listing-reads l k f ok =
     file (λ (n : String). fieldsOf (text l) (moduleOf k n) (bytes n) (figure n f)) (herdLine (text l) k f) plainName
     (λ n e. let p = both-true (allPast (bytes (sectionOf n))) (allPast (bytes n)) e in
-      line (text l) (moduleOf k n) (bytes n) (figure n f) (label-field (text l) (good-bytes l ok))
-      (plain-append (plain-append (plain-path k) (plain (bytes "::") refl)) (plain _ (p .0))) (plain _ (p .1)))
+    line (text l) (moduleOf k n) (bytes n) (figure n f) (label-field (text l) (good-bytes l ok))
+    (plain-append (plain-append (plain-path k) (plain (bytes "::") refl)) (plain _ (p .0))) (plain _ (p .1)))
     (linesOf k) (names-plain k)
 
 -- the totals' listing is a file of its records

@@ -90,7 +90,29 @@ pub const MIDDLES: [u8; 478] = *b"\
 ::Housing,n_outhousing,\
 ::Housing,tan_outhousing,";
 
-pub const STARTS: [usize; names::COUNT + 1] = [0, 24, 50, 69, 90, 107, 131, 157, 182, 209, 232, 254, 276, 299, 326, 355, 380, 407, 430, 453, 478];
+pub const STARTS: [usize; names::COUNT + 1] = [
+    0,
+    24,
+    50,
+    69,
+    90,
+    107,
+    131,
+    157,
+    182,
+    209,
+    232,
+    254,
+    276,
+    299,
+    326,
+    355,
+    380,
+    407,
+    430,
+    453,
+    478,
+];
 
 // What the totals' lines begin with: an empty label, and the path.
 pub const TOTAL_OWNER: [u8; 10] = *b",Livestock";
@@ -138,4 +160,24 @@ pub const TOTAL_MIDDLES: [u8; 280] = *b"\
 ,n_remain_grazing,\
 ,tan_remain_grazing,";
 
-pub const TOTAL_STARTS: [usize; total_names::COUNT + 1] = [0, 13, 28, 44, 62, 75, 90, 106, 124, 138, 149, 163, 186, 202, 215, 228, 242, 260, 280];
+pub const TOTAL_STARTS: [usize; total_names::COUNT + 1] = [
+    0,
+    13,
+    28,
+    44,
+    62,
+    75,
+    90,
+    106,
+    124,
+    138,
+    149,
+    163,
+    186,
+    202,
+    215,
+    228,
+    242,
+    260,
+    280,
+];

@@ -12,13 +12,13 @@ use Rattle.farm.specs.declared.Farm.{Farm}
 use Rattle.farm.specs.declared.Checked.the-variants.{Accepted}
 use Rattle.farm.specs.Checks.{checkFarm, herdsOf}
 use Rattle.farm.proofs.Left.{taken-at, taken-end}
-use Rattle.flows.specs.declared.Inputs.{Inputs}
-use Rattle.flows.specs.Sound.{Sound}
+use Rattle.kinds.specs.declared.Inputs.{Inputs}
+use Rattle.kinds.specs.Sound.{Sound}
 use Rattle.outputs.specs.declared.Figures.{Figures}
 use Rattle.outputs.specs.declared.Totals.{Totals}
 use Rattle.outputs.specs.Grams.{To, figureMost, plusGrams, zeros, totalGrams}
 use Rattle.outputs.proofs.Adding.{totals-of-sum}
-use Rattle.model.specs.Typed.{typedOf}
+use Rattle.typed.specs.Typed.{typedOf}
 use Rattle.model.specs.Herd.{figuresOf}
 use Rattle.model.specs.Answers.{herdFigures, farmAnswer}
 use Rattle.model.proofs.AnswerSteps.{Adding, Turned, turned, next-sound, adding-starts, adding-ends}

@@ -15,7 +15,7 @@ use Rattle.farm.specs.Labels.{text}
 use Rattle.farm.specs.Checks.{herdsOf}
 use Rattle.farm.specs.Refusals.{number}
 use Rattle.model.specs.declared.HerdNotes.{HerdNotes}
-use Rattle.model.specs.Typed.{typedOf}
+use Rattle.typed.specs.Typed.{typedOf}
 use Rattle.model.specs.Notes.{notesOf}
 use Rattle.model.specs.Answers.{herdFigures, farmAnswer}
 use Rattle.listing.specs.Listing.{each, labelField, herdListing, totalsListing}

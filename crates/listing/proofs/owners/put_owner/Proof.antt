@@ -78,7 +78,7 @@ returns c =
     let a = label-put n in
     let s = begin (a .before) in (
       said (owner-is _ _ (text-is (s .args .label) _ (a .before .part-of .ensures)) (path-lent p))
-      (joined (joined (a .put-label .ensures .0) (n .before .before .before .put-byte .ensures)) (d .put .ensures)),
+          (joined (joined (a .put-label .ensures .0) (n .before .before .before .put-byte .ensures)) (d .put .ensures)),
       omega (arith, ap length (path-lent p), path-short (kind-of n), d .put .ensures .past),
     )
 

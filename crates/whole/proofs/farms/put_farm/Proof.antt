@@ -1,3 +1,4 @@
+-- A farm's listing put together: what is still to be written is the listings of the herds from i on, and then the totals. Assumes nothing.
 use Prim.Native.Nat.{_-_}
 use mathlib.Core.Path.{_≡_}
 use lib.ListN.{length}
@@ -6,15 +7,6 @@ use Rattle.whole.proofs.FarmSteps.{Listing, asks, ends, farm-steps}
 use borrow.Author.Needs.{needs}
 use Rattle.whole.proofs.farms.put_farm.Statement.{statement}
 use Rattle.whole.proofs.farms.put_farm.Tie as tie
-use Rattle.whole.proofs.farms.put_farm.Reads as reads
-use Rattle.whole.proofs.farms.put_farm.Lts as lts
-use Rattle.listing.proofs.put_herd_lines.Reads as put-herd-lines-reads
-use Rattle.listing.proofs.put_total_lines.Reads as put-total-lines-reads
-use Rattle.model.proofs.herd.figures.Reads as figures-reads
-use Rattle.model.proofs.typed.typed_of.Reads as typed-of-reads
-use Rattle.outputs.proofs.sums.no_figures.Reads as no-figures-reads
-use Rattle.outputs.proofs.sums.plus.Reads as plus-reads
-use Rattle.outputs.proofs.sums.totals_from.Reads as totals-from-reads
 
 abbrev Inv-loop : tie.InvT-loop
 Inv-loop out₀ farm count sum₀ at₀ i₀ out sum at i = Listing farm out₀ i sum out at
@@ -26,35 +18,27 @@ abbrev μ-loop : tie.MeasureT-loop
 long : (c : tie.Start Inv-loop μ-loop) → length (c .args .t2 .herds) ≡ 64
 long c = search (needs, length-mapped)
 
--- src/farms.rt:20:9
 no-figures-requires : tie.Need-no-figures-requires Inv-loop μ-loop
 no-figures-requires c κs = search needs
 
--- src/farms.rt:23:5
 loop-holds : tie.Need-loop-holds Inv-loop μ-loop
 loop-holds c = search (needs, farm-steps, length-mapped)
 
--- src/farms.rt:24:17
 mul-h : tie.Need-mul-h Inv-loop μ-loop
 mul-h c = search needs
 
--- src/farms.rt:24:17
 element-copy-out-h : tie.Need-element-copy-out-h Inv-loop μ-loop
 element-copy-out-h c = search needs
 
--- src/farms.rt:26:31
 typed-of-requires : tie.Need-typed-of-requires Inv-loop μ-loop
 typed-of-requires c κs = search needs
 
--- src/farms.rt:26:13
 figures-requires : tie.Need-figures-requires Inv-loop μ-loop
 figures-requires c κs = search (needs, farm-steps, length-mapped)
 
--- src/farms.rt:27:9
 put-herd-lines-requires : tie.Need-put-herd-lines-requires Inv-loop μ-loop
 put-herd-lines-requires c κs = search (needs, farm-steps, length-mapped)
 
--- src/farms.rt:28:9
 plus-requires : tie.Need-plus-requires Inv-loop μ-loop
 plus-requires c κs =
     let g = c .before .before .before .before in
@@ -62,31 +46,24 @@ plus-requires c κs =
     let s = l .before .before .before .before in
     asks _ (s .pre .0) _ (s .pre .1) _ _ _ _ (l .before .loop .inv) (long s) (l .loop-test .taken) _ _ (g .before .typed-of .ensures) _ (g .figures .ensures)
 
--- src/farms.rt:29:9
 add-i : tie.Need-add-i Inv-loop μ-loop
 add-i c = search needs
 
--- src/farms.rt:23:5
 loop-less : tie.Need-loop-less Inv-loop μ-loop
 loop-less c = search needs
 
--- src/farms.rt:23:5
 loop-again : tie.Need-loop-again Inv-loop μ-loop
 loop-again c = search (needs, farm-steps, length-mapped)
 
--- src/farms.rt:31:39
 totals-from-requires : tie.Need-totals-from-requires Inv-loop μ-loop
 totals-from-requires c κs = search (needs, farm-steps, length-mapped)
 
--- src/farms.rt:31:5
 put-total-lines-requires : tie.Need-put-total-lines-requires Inv-loop μ-loop
 put-total-lines-requires c κs = search (needs, farm-steps, length-mapped)
 
--- src/farms.rt:15:1
 same-length : tie.Need-same-length Inv-loop μ-loop
 same-length c = search (needs, farm-steps, length-mapped)
 
--- src/farms.rt:15:1
 returns : tie.Need-returns Inv-loop μ-loop
 returns c =
     let w = c .before .before in

@@ -50,10 +50,9 @@ returns c =
     let w = b .before .before .before .before in
     let m = w .before in
     let a = m .before .before .before .before in
-    let s = a .before .before .before .before in
-    (
+    let s = a .before .before .before .before in (
       said (refusal-is (s .args .fault) (m .number-of .result) (s .args .«record») (m .number-of .ensures))
-      (joined (joined (joined (joined (a .put .ensures) (w .put-whole .ensures)) (b .put-byte .ensures)) (d .put-whole2 .ensures)) (e .put2 .ensures)),
+          (joined (joined (joined (joined (a .put .ensures) (w .put-whole .ensures)) (b .put-byte .ensures)) (d .put-whole2 .ensures)) (e .put2 .ensures)),
       omega (arith, whole-text (m .number-of .result) (search needs), whole-text (s .args .«record») (search needs)),
     )
 
