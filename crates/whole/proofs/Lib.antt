@@ -1,2 +1,3 @@
 pub mod FarmSteps
 pub mod RefusalLine
+pub mod FileSteps

@@ -2,6 +2,7 @@
 // and a farm's notes. Each herd's figures are worked out once, and what reading has checked is not checked again.
 pub mod farms; // an accepted farm's listing
 pub mod refusals; // the line of a refusal
+pub mod files; // the answer of a file
 
 const HERDS_MOST: usize = 64;
 
