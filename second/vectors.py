@@ -22,6 +22,7 @@ PROGRAM = Path(__file__).resolve().parent.parent / "crates" / "test_vectors"
 FILES = PROGRAM / "stdin"
 OUTPUTS = PROGRAM / "stdout"
 LENGTH_BYTES = 4
+REFUSAL_FIELDS = 3
 
 
 def packed(files):
@@ -58,9 +59,9 @@ def check():
 
 
 def refusal_number(output):
-    """The number of a refusal's line, or None for a listing."""
-    first, number = output.split(b",")[:2]
-    return int(number) if first == b"refused" else None
+    """The number of a refusal's line, or None for a listing, which has many fields."""
+    fields = output.split(b",")
+    return int(fields[1]) if len(fields) == REFUSAL_FIELDS else None
 
 
 def show(offset):

@@ -1,5 +1,6 @@
 // Answers on standard output, a line each.
 use farm::Checked;
+use farm::Fault;
 use libc::STDOUT_FILENO;
 use listing::Written;
 
@@ -17,10 +18,14 @@ pub fn number(n: u64) {
     say(b"\r\n");
 }
 
+fn refusal_line(fault: Fault, record: usize) {
+    crate::print_refusal(fault, record);
+}
+
 pub fn checked_line(checked: Checked) {
     match checked {
         Checked::Accepted => line(b"accepted"),
-        Checked::Refused(fault, record) => crate::print_refusal(fault, record),
+        Checked::Refused(fault, record) => refusal_line(fault, record),
     }
 }
 
@@ -30,6 +35,6 @@ pub fn written_line(written: Written) {
             say(b"length,");
             number(n as u64);
         }
-        Written::Refused(fault, record) => crate::print_refusal(fault, record),
+        Written::Refused(fault, record) => refusal_line(fault, record),
     }
 }

@@ -1,7 +1,7 @@
 // The vectors of the second implementation, run through the library: standard input has files one after the other, each behind its length in
 // four bytes, the lowest first, and each one's answer is printed as the program prints it. The expected output is what the second
 // implementation gives.
-use libc::STDIN_FILENO;
+use streams::Outcome;
 ghost use Prim.Native.Nat.{_≤_};
 
 // Longer than any file of the vectors.
@@ -21,17 +21,26 @@ fn length_of(head: &[u8; LENGTH_BYTES]) -> usize {
     low + 65536 * high
 }
 
+// Reads as much as there is room for; was there so much?
+fn filled(into: &mut [u8]) -> bool {
+    let size = into.len();
+    match streams::read_all(into) {
+        Outcome::Whole(n) => n == size,
+        Outcome::Broken => false,
+    }
+}
+
 // One file, if there is one more.
 fn run_one(file: &mut [u8]) -> bool {
     let mut head = [0u8; LENGTH_BYTES];
-    if io::read_full(STDIN_FILENO, &mut head) < LENGTH_BYTES {
+    if !filled(&mut head) {
         return false;
     }
     let n = length_of(&head);
     if file.len() < n {
         return false;
     }
-    if io::read_full(STDIN_FILENO, &mut file[..n]) < n {
+    if !filled(&mut file[..n]) {
         return false;
     }
     printing::print_file(base::part_of(file, 0, n));

@@ -6,11 +6,11 @@ use borrow.Author.Needs.{needs}
 use Rattle.test_vectors.proofs.run_one.Statement.{statement}
 use Rattle.test_vectors.proofs.run_one.Tie as tie
 
-slice-aggregate-read-full : tie.Need-slice-aggregate-read-full
-slice-aggregate-read-full c = search needs
+slice-aggregate-filled : tie.Need-slice-aggregate-filled
+slice-aggregate-filled c = search needs
 
-read-full-requires : tie.Need-read-full-requires
-read-full-requires c κs = search needs
+filled-requires : tie.Need-filled-requires
+filled-requires c κs = search needs
 
 returns : tie.Need-returns
 returns c = search needs
@@ -21,14 +21,14 @@ length-of-requires c κs = search needs
 returns-2 : tie.Need-returns-2
 returns-2 c = search needs
 
-slice-relend-prefix-read-full : tie.Need-slice-relend-prefix-read-full
-slice-relend-prefix-read-full c = search needs
+slice-relend-prefix-filled : tie.Need-slice-relend-prefix-filled
+slice-relend-prefix-filled c = search needs
 
-slice-aggregate-read-full-2 : tie.Need-slice-aggregate-read-full-2
-slice-aggregate-read-full-2 c = sym (length-take-le _ _ (search needs))
+slice-aggregate-filled-2 : tie.Need-slice-aggregate-filled-2
+slice-aggregate-filled-2 c = sym (length-take-le _ _ (search needs))
 
-read-full-requires-2 : tie.Need-read-full-requires-2
-read-full-requires-2 c κs = search needs
+filled-requires-2 : tie.Need-filled-requires-2
+filled-requires-2 c κs = search needs
 
 same-length : tie.Need-same-length
 same-length c = search needs
@@ -52,14 +52,14 @@ pub run-one-spec : {M : Type 1} → statement M
 run-one-spec =
     tie.close
     (tie.spec
-    slice-aggregate-read-full
-    read-full-requires
+    slice-aggregate-filled
+    filled-requires
     returns
     length-of-requires
     returns-2
-    slice-relend-prefix-read-full
-    slice-aggregate-read-full-2
-    read-full-requires-2
+    slice-relend-prefix-filled
+    slice-aggregate-filled-2
+    filled-requires-2
     same-length
     returns-3
     part-of-requires

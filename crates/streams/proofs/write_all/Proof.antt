@@ -1,0 +1,73 @@
+-- `streams::write_all` meets its contract, and ends: each turn goes further, or leaves less patience.
+-- Assumes nothing.
+use Prim.Native.Nat.{_≤_}
+use lib.ListN.{length}
+use borrow.Author.Needs.{needs}
+use Rattle.streams.proofs.Moves.{left, turn-steps}
+use Rattle.streams.proofs.write_all.Statement.{statement}
+use Rattle.streams.proofs.write_all.Tie as tie
+
+abbrev Inv-loop : tie.InvT-loop
+Inv-loop text done₀ patience₀ done patience = done ≤ length text
+
+abbrev μ-loop : tie.MeasureT-loop
+μ-loop text done₀ patience₀ done patience = left (length text) done patience
+
+loop-holds : tie.Need-loop-holds Inv-loop μ-loop
+loop-holds c = search needs
+
+write-step-requires : tie.Need-write-step-requires Inv-loop μ-loop
+write-step-requires c κs = search needs
+
+enum-known-next : tie.Need-enum-known-next Inv-loop μ-loop
+enum-known-next c = search needs
+
+loop-less : tie.Need-loop-less Inv-loop μ-loop
+loop-less c = search (needs, turn-steps)
+
+loop-again : tie.Need-loop-again Inv-loop μ-loop
+loop-again c = search (needs, turn-steps)
+
+enum-told : tie.Need-enum-told Inv-loop μ-loop
+enum-told c = search needs
+
+sched-yield-requires : tie.Need-sched-yield-requires Inv-loop μ-loop
+sched-yield-requires c κs = search needs
+
+sub-patience : tie.Need-sub-patience Inv-loop μ-loop
+sub-patience c = search needs
+
+loop-less-2 : tie.Need-loop-less-2 Inv-loop μ-loop
+loop-less-2 c = search needs
+
+loop-again-2 : tie.Need-loop-again-2 Inv-loop μ-loop
+loop-again-2 c = search needs
+
+enum-known-outcome : tie.Need-enum-known-outcome Inv-loop μ-loop
+enum-known-outcome c = search needs
+
+returns : tie.Need-returns Inv-loop μ-loop
+returns c = search (needs, turn-steps)
+
+returns-2 : tie.Need-returns-2 Inv-loop μ-loop
+returns-2 c = search (needs, turn-steps)
+
+pub write-all-spec : {M : Type 1} → statement M
+write-all-spec =
+    tie.close
+    (tie.spec
+    Inv-loop
+    μ-loop
+    loop-holds
+    write-step-requires
+    enum-known-next
+    loop-less
+    loop-again
+    enum-told
+    sched-yield-requires
+    sub-patience
+    loop-less-2
+    loop-again-2
+    enum-known-outcome
+    returns
+    returns-2)
