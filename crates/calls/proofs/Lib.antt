@@ -1,2 +1,3 @@
 pub mod RecordSteps
 pub mod FileSteps
+pub mod WholeSteps

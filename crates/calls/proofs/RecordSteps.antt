@@ -16,7 +16,8 @@ use Rattle.listing.specs.declared.Written.{Written}
 use Rattle.listing.specs.declared.Written.the-variants.{Refused}
 use Rattle.listing.specs.Listing.{herdListing, totalsListing}
 use Rattle.listing.specs.Answer.{Answered}
-use Rattle.calls.specs.Listings.{Called, listingOf, herdCall, totalsCall}
+use Rattle.whole.specs.Lines.{listingOf}
+use Rattle.calls.specs.Listings.{Called, herdCall, totalsCall}
 
 -- ---- what an answer is made of
 

@@ -4,7 +4,7 @@
 use Prim.Native.Nat.{ℕ}
 use mathlib.Core.Path.{_≡_}
 use mathlib.Core.List.{List, []}
-use lib.ListN.{getD}
+use lib.ListN.{length, getD}
 use lib.Dec.{ltb}
 use Rattle.base.specs.Pick.{pick}
 use Rattle.farm.specs.declared.Herd.{Herd}
@@ -13,12 +13,13 @@ use Rattle.farm.specs.declared.Checked.{Checked}
 use Rattle.farm.specs.declared.Checked.the-variants as checks
 use Rattle.farm.specs.Checks.{checkHerd, checkFarm}
 use Rattle.farm.specs.Herds.{noHerd}
-use Rattle.model.specs.Answers.{herdFigures, farmAnswer}
+use Rattle.model.specs.Answers.{farmAnswer}
 use Rattle.reader.specs.Files.{readOf}
 use Rattle.listing.specs.declared.Written.{Written}
 use Rattle.listing.specs.declared.Written.the-variants.{Refused}
-use Rattle.listing.specs.Listing.{herdListing, totalsListing}
-use Rattle.listing.specs.Answer.{leaves, answers}
+use Rattle.listing.specs.Listing.{totalsListing}
+use Rattle.listing.specs.Answer.{room, leaves, answers}
+use Rattle.whole.specs.Lines.{listingOf, farmListing}
 
 -- a call: what the checks find, and the listing where they find nothing
 pub record Call : Type 0 where
@@ -41,9 +42,6 @@ pub record Called (c : Call) (old new : List ℕ) (r : Written) : Type 0 where
 
 -- ---- from a record
 
-abbrev pub listingOf : Herd → List ℕ
-listingOf h = herdListing (h .label) (h .kind) (herdFigures h)
-
 unfoldable pub herdCall : Herd → Call
 herdCall h = record { checked = checkHerd h; listing = listingOf h }
 
@@ -61,3 +59,14 @@ fileHerdCall s i = record { checked = readOf s .checked; listing = listingAt (re
 
 unfoldable pub fileTotalsCall : List ℕ → Call
 fileTotalsCall s = record { checked = readOf s .checked; listing = totalsListing (farmAnswer (readOf s .farm) .totals) }
+
+-- a whole file: each herd's listing, then the totals'
+unfoldable pub fileCall : List ℕ → Call
+fileCall s = record { checked = readOf s .checked; listing = farmListing (readOf s .farm) }
+
+-- ---- for programs
+
+-- these bytes from the front of the buffer on, and how many; or nothing, and 0, where the buffer is shorter
+pub record Put (bs old new : List ℕ) (r : ℕ) : Type 0 where
+  pub buffer : new ≡ leaves bs old
+  pub answer : r ≡ pick (room bs old) (length bs) 0

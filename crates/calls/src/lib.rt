@@ -12,7 +12,9 @@ use reader::files;
 ghost use mathlib.Core.Path.{_≡_};
 ghost use Rattle.model.specs.Answers.{herdAnswer, farmAnswer};
 ghost use Rattle.reader.specs.Files.{readOf};
-ghost use Rattle.calls.specs.Listings.{Called, herdCall, totalsCall, fileHerdCall, fileTotalsCall};
+ghost use Rattle.whole.specs.Program.{programOutput};
+ghost use Rattle.base.specs.Part.{part};
+ghost use Rattle.calls.specs.Listings.{Called, herdCall, totalsCall, fileHerdCall, fileTotalsCall, fileCall, Put};
 
 // The farm that a file says, or the refusal and a farm of no herds.
 pub fn read_farm(s: &[u8]) -> FileAnswer
@@ -89,4 +91,44 @@ pub fn file_totals_listing(s: &[u8], out: &mut [u8]) -> Written
         Checked::Accepted => totals_listing(answer.farm, out),
         Checked::Refused(fault, record) => Written::Refused(fault, record),
     }
+}
+
+// Room for what any file is answered with.
+pub const ANSWER_ROOM: usize = whole::FARM_ROOM;
+
+// The whole listing of a file: each herd's, then the totals'.
+pub fn file_listing(s: &[u8], out: &mut [u8]) -> Written
+    ensures { λ r. ⌜ Called (fileCall (now (s .entry))) (now (out .entry)) (now (out .exit)) r ⌝ }
+{
+    if ANSWER_ROOM <= out.len() {
+        return whole::files::put_file(s, out);
+    }
+    let mut scratch = [0u8; ANSWER_ROOM];
+    match whole::files::put_file(s, &mut scratch) {
+        Written::Length(n) => listing::hand_over(out, &scratch, n),
+        Written::Refused(fault, record) => Written::Refused(fault, record),
+    }
+}
+
+// The first n bytes of `written`, from the front of the buffer on; nothing, and 0, where it is shorter.
+fn put_if_room(out: &mut [u8], written: &[u8], n: usize) -> usize
+    ensures { λ r. ⌜ Put (part (now (written .entry)) 0 n) (now (out .entry)) (now (out .exit)) r ⌝ }
+{
+    let bytes = base::part_of(written, 0, n);
+    if out.len() < bytes.len() {
+        return 0;
+    }
+    base::put(out, 0, bytes)
+}
+
+// What the program prints for a file, and how long it is; nothing, and 0, where the buffer is shorter.
+pub fn put_answer(s: &[u8], out: &mut [u8]) -> usize
+    ensures { λ r. ⌜ Put (programOutput (now (s .entry))) (now (out .entry)) (now (out .exit)) r ⌝ }
+{
+    if ANSWER_ROOM <= out.len() {
+        return whole::files::put_output(s, out);
+    }
+    let mut scratch = [0u8; ANSWER_ROOM];
+    let n = whole::files::put_output(s, &mut scratch);
+    put_if_room(out, &scratch, n)
 }

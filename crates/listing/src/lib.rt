@@ -81,7 +81,7 @@ pub fn put_total_lines(out: &mut [u8], at: usize, t: Totals) -> usize
 }
 
 // The first n bytes of `written` as the listing: into the buffer, or refusal 13 where it is too short.
-fn hand_over(out: &mut [u8], written: &[u8], n: usize) -> Written
+pub fn hand_over(out: &mut [u8], written: &[u8], n: usize) -> Written
     ensures { λ r. ⌜ Answered (part (now (written .entry)) 0 n) (now (out .entry)) (now (out .exit)) r ⌝ }
 {
     let listing = base::part_of(written, 0, n);
