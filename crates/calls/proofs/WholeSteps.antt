@@ -18,8 +18,9 @@ use Rattle.listing.specs.Answer.{leaves, Answered}
 use Rattle.listing.proofs.Answers.{part-is, written, handed}
 use Rattle.whole.specs.Rooms.{farmRoom}
 use Rattle.whole.specs.Lines.{farmListing}
-use Rattle.whole.specs.Program.{PutFile, listed, refused}
-use Rattle.calls.specs.Listings.{Called, fileCall, Put}
+use Rattle.whole.specs.declared.Answer.{Answer}
+use Rattle.whole.specs.Program.{programOutput, PutFile, listed, refused, PutOutput}
+use Rattle.calls.specs.Listings.{Called, fileCall, Put, PutAnswer}
 
 module _ (s : List ℕ) where
   -- an accepted file's listing, as a listing call answers it
@@ -67,7 +68,16 @@ module _ (bs old : List ℕ) where
   unfolding leaves
   put-none h = let e = lt-leb (length bs) (length old) h in record { buffer = rw e; answer = rw e }
 
-pub put-handed : (bs mid after : List ℕ) (n : ℕ) → Wrote mid 0 bs after n → n ≤ length mid → (old new : List ℕ) (r : ℕ) → Put (part after 0 n) old new r → Put bs old new r
-put-handed bs mid after n w h old new r p = subst (λ (t : List ℕ). Put t old new r) (part-is w h) p
+module _ (s : List ℕ) where
+  pub answer-written : (old new : List ℕ) (a : Answer) → PutOutput s old new a → farmRoom ≤ length old → PutAnswer s old new a
+  answer-written old new a p h = record { printed = put-written (programOutput s) old new (a .length) (p .bytes) (omega (arith, p .room)); checked = p .checked }
 
-pub ruleset whole-steps = (whole-written, whole-handed, whole-refused, put-written, put-none, put-handed)
+  pub answer-handed : (mid after : List ℕ) (a : Answer) → PutOutput s mid after a → farmRoom ≤ length mid
+      → (old new : List ℕ) (r : ℕ) → Put (part after 0 (a .length)) old new r → PutAnswer s old new (record { checked = a .checked; length = r })
+  answer-handed mid after a p h old new r q =
+      record {
+        printed = subst (λ (t : List ℕ). Put t old new r) (part-is (p .bytes) (omega (arith, p .room))) q;
+        checked = p .checked;
+      }
+
+pub ruleset whole-steps = (whole-written, whole-handed, whole-refused, put-written, put-none, answer-written, answer-handed)

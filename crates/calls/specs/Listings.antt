@@ -19,7 +19,9 @@ use Rattle.listing.specs.declared.Written.{Written}
 use Rattle.listing.specs.declared.Written.the-variants.{Refused}
 use Rattle.listing.specs.Listing.{totalsListing}
 use Rattle.listing.specs.Answer.{room, leaves, answers}
+use Rattle.whole.specs.declared.Answer.{Answer}
 use Rattle.whole.specs.Lines.{listingOf, farmListing}
+use Rattle.whole.specs.Program.{programOutput}
 
 -- a call: what the checks find, and the listing where they find nothing
 pub record Call : Type 0 where
@@ -70,3 +72,8 @@ fileCall s = record { checked = readOf s .checked; listing = farmListing (readOf
 pub record Put (bs old new : List ℕ) (r : ℕ) : Type 0 where
   pub buffer : new ≡ leaves bs old
   pub answer : r ≡ pick (room bs old) (length bs) 0
+
+-- what the program prints for a file, and how reading it ended
+pub record PutAnswer (s old new : List ℕ) (r : Answer) : Type 0 where
+  pub printed : Put (programOutput s) old new (r .length)
+  pub checked : r .checked ≡ readOf s .checked

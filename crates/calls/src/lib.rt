@@ -9,12 +9,12 @@ use model::HerdAnswer;
 use model::answers;
 use reader::FileAnswer;
 use reader::files;
+use whole::Answer;
 ghost use mathlib.Core.Path.{_≡_};
 ghost use Rattle.model.specs.Answers.{herdAnswer, farmAnswer};
 ghost use Rattle.reader.specs.Files.{readOf};
-ghost use Rattle.whole.specs.Program.{programOutput};
 ghost use Rattle.base.specs.Part.{part};
-ghost use Rattle.calls.specs.Listings.{Called, herdCall, totalsCall, fileHerdCall, fileTotalsCall, fileCall, Put};
+ghost use Rattle.calls.specs.Listings.{Called, herdCall, totalsCall, fileHerdCall, fileTotalsCall, fileCall, Put, PutAnswer};
 
 // The farm that a file says, or the refusal and a farm of no herds.
 pub fn read_farm(s: &[u8]) -> FileAnswer
@@ -121,14 +121,16 @@ fn put_if_room(out: &mut [u8], written: &[u8], n: usize) -> usize
     base::put(out, 0, bytes)
 }
 
-// What the program prints for a file, and how long it is; nothing, and 0, where the buffer is shorter.
-pub fn put_answer(s: &[u8], out: &mut [u8]) -> usize
-    ensures { λ r. ⌜ Put (programOutput (now (s .entry))) (now (out .entry)) (now (out .exit)) r ⌝ }
+// What the program prints for a file, how long it is, and how reading ended; where the buffer is shorter, nothing is put, and the length is 0.
+pub fn put_answer(s: &[u8], out: &mut [u8]) -> Answer
+    ensures { λ r. ⌜ PutAnswer (now (s .entry)) (now (out .entry)) (now (out .exit)) r ⌝ }
 {
     if ANSWER_ROOM <= out.len() {
         return whole::files::put_output(s, out);
     }
     let mut scratch = [0u8; ANSWER_ROOM];
-    let n = whole::files::put_output(s, &mut scratch);
-    put_if_room(out, &scratch, n)
+    let answer = whole::files::put_output(s, &mut scratch);
+    let checked = answer.checked;
+    let length = put_if_room(out, &scratch, answer.length);
+    Answer { checked, length }
 }

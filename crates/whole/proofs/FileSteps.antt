@@ -18,7 +18,7 @@ use Rattle.listing.specs.declared.Written.{Written}
 use Rattle.listing.specs.declared.Written.the-variants.{Length, Refused}
 use Rattle.whole.specs.Lines.{farmListing, refusalLine}
 use Rattle.whole.specs.Rooms.{farmRoom, lineRoom}
-use Rattle.whole.specs.Program.{programOutput, PutFile, listed, refused}
+use Rattle.whole.specs.Program.{programOutput, PutFile, listed, refused, PutOutput}
 
 module _ (s : List ℕ) (a : FileAnswer) (q : a ≡ readOf s) where
   module _ (e : a .checked ≡ checks.Accepted) where
@@ -37,12 +37,12 @@ module _ (s : List ℕ) (a : FileAnswer) (q : a ≡ readOf s) where
 -- ---- what is printed
 
 module _ (s old new : List ℕ) (r : Written) (p : PutFile s old new r) where
-  pub prints-listing : (n : ℕ) → r ≡ Length n → Wrote old 0 (programOutput s) new n × (n ≤ farmRoom)
+  pub prints-listing : (n : ℕ) → r ≡ Length n → PutOutput s old new (record { checked = checks.Accepted; length = n })
   unfolding programOutput
   prints-listing n e = go r new p e
     where
-      go : (r : Written) (new : List ℕ) → PutFile s old new r → r ≡ Length n → Wrote old 0 (programOutput s) new n × (n ≤ farmRoom)
-      go (Length m) new (listed k w h) e = let d : m ≡ n = cc in rw (← d, k) (w, h)
+      go : (r : Written) (new : List ℕ) → PutFile s old new r → r ≡ Length n → PutOutput s old new (record { checked = checks.Accepted; length = n })
+      go (Length m) new (listed k w h) e = let d : m ≡ n = cc in rw (← d) (record { bytes = rw k w; room = h; checked = sym k })
       go (Refused fault m) new (refused k) e = clash cc
 
   module _ (fault : Fault) (n : ℕ) (e : r ≡ Refused fault n) where
@@ -54,13 +54,15 @@ module _ (s old new : List ℕ) (r : Written) (p : PutFile s old new r) where
         go (Refused f m) new (refused k) e = refl
 
     pub prints-refusal : (after : List ℕ) (next : ℕ) → Wrote new 0 (refusalLine fault n) after next → next ≤ lineRoom
-        → Wrote old 0 (programOutput s) after next × (next ≤ farmRoom)
+        → PutOutput s old after (record { checked = checks.Refused fault n; length = next })
     unfolding programOutput
     prints-refusal after next w h = go r new p e w
       where
         go : (r : Written) (new : List ℕ) → PutFile s old new r → r ≡ Refused fault n → Wrote new 0 (refusalLine fault n) after next
-            → Wrote old 0 (programOutput s) after next × (next ≤ farmRoom)
+            → PutOutput s old after (record { checked = checks.Refused fault n; length = next })
         go (Length m) new (listed k l i) e w = clash cc
-        go (Refused f m) new (refused k) e w = let d : f ≡ fault = cc in let c : m ≡ n = cc in (rw (k, d, c) w, omega arith)
+        go (Refused f m) new (refused k) e w =
+            let d : f ≡ fault = cc in let c : m ≡ n = cc in
+            record { bytes = rw (k, d, c) w; room = omega arith; checked = rw (k, d, c) refl }
 
 pub ruleset file-steps = (passes, is-listed, is-refused, prints-listing, kept-by-refusal, prints-refusal)

@@ -11,6 +11,7 @@ use Rattle.farm.specs.declared.Checked.the-variants as checks
 use Rattle.reader.specs.Files.{readOf}
 use Rattle.listing.specs.declared.Written.{Written}
 use Rattle.listing.specs.declared.Written.the-variants.{Length, Refused}
+use Rattle.whole.specs.declared.Answer.{Answer}
 use Rattle.whole.specs.Lines.{farmListing, refusalLine}
 use Rattle.whole.specs.Rooms.{farmRoom}
 
@@ -27,3 +28,9 @@ pub data PutFile (s old : List ℕ) : List ℕ → Written → Type 0 where
   listed : {new : List ℕ} {n : ℕ} → readOf s .checked ≡ checks.Accepted → Wrote old 0 (farmListing (readOf s .farm)) new n → n ≤ farmRoom
       → PutFile s old new (Length n)
   refused : {fault : Fault} {n : ℕ} → readOf s .checked ≡ checks.Refused fault n → PutFile s old old (Refused fault n)
+
+-- what is printed was put from the front of the buffer on
+pub record PutOutput (s old new : List ℕ) (r : Answer) : Type 0 where
+  pub bytes : Wrote old 0 (programOutput s) new (r .length)
+  pub room : r .length ≤ farmRoom
+  pub checked : r .checked ≡ readOf s .checked

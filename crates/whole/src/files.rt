@@ -1,4 +1,5 @@
 // A file's bytes in, the bytes of its answer out: read once, and listed straight from what was read.
+use crate::Answer;
 use crate::farms;
 use crate::refusals;
 use farm::Checked;
@@ -6,9 +7,8 @@ use listing::Written;
 use reader::files;
 ghost use Prim.Native.Nat.{_≤_};
 ghost use lib.ListN.{length};
-ghost use Rattle.base.specs.Wrote.{Wrote};
 ghost use Rattle.whole.specs.Rooms.{farmRoom};
-ghost use Rattle.whole.specs.Program.{PutFile, programOutput};
+ghost use Rattle.whole.specs.Program.{PutFile, PutOutput};
 
 // The farm's listing; or the refusal, and nothing is written.
 pub fn put_file(s: &[u8], out: &mut [u8]) -> Written
@@ -24,12 +24,21 @@ pub fn put_file(s: &[u8], out: &mut [u8]) -> Written
 }
 
 // What the program prints: the listing, or the refusal's line.
-pub fn put_output(s: &[u8], out: &mut [u8]) -> usize
+pub fn put_output(s: &[u8], out: &mut [u8]) -> Answer
     requires { ⌜ farmRoom ≤ length (now out) ⌝ }
-    ensures { λ r. ⌜ Wrote (now (out .entry)) 0 (programOutput (now (s .entry))) (now (out .exit)) r × (r ≤ farmRoom) ⌝ }
+    ensures { λ r. ⌜ PutOutput (now (s .entry)) (now (out .entry)) (now (out .exit)) r ⌝ }
 {
     match put_file(s, out) {
-        Written::Length(n) => n,
-        Written::Refused(fault, record) => refusals::put_refusal(out, fault, record),
+        Written::Length(n) => Answer {
+            checked: Checked::Accepted,
+            length: n,
+        },
+        Written::Refused(fault, record) => {
+            let n = refusals::put_refusal(out, fault, record);
+            Answer {
+                checked: Checked::Refused(fault, record),
+                length: n,
+            }
+        }
     }
 }

@@ -4,6 +4,14 @@ pub mod farms; // an accepted farm's listing
 pub mod refusals; // the line of a refusal
 pub mod files; // the answer of a file
 
+use farm::Checked;
+
+// What was put for a file: how reading it ended, and how many bytes its answer has.
+pub struct Answer {
+    pub checked: Checked,
+    pub length: usize,
+}
+
 const HERDS_MOST: usize = 64;
 
 // Room for the listing of any farm.

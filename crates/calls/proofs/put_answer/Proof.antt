@@ -1,5 +1,5 @@
 -- `calls::put_answer` meets its contract: straight, or by way of a buffer of its own. Assumes nothing.
-use Rattle.calls.proofs.WholeSteps.{put-written, put-handed}
+use Rattle.calls.proofs.WholeSteps.{answer-written, answer-handed}
 use borrow.Author.Needs.{needs}
 use Rattle.calls.proofs.put_answer.Statement.{statement}
 use Rattle.calls.proofs.put_answer.Tie as tie
@@ -11,7 +11,7 @@ same-length : tie.Need-same-length
 same-length c = search needs
 
 returns : tie.Need-returns
-returns c = let p = c .before .before in put-written _ _ _ _ (p .put-output .ensures .0) (search needs)
+returns c = let p = c .before .before in answer-written _ _ _ _ (p .put-output .ensures) (search needs)
 
 slice-aggregate-put-output : tie.Need-slice-aggregate-put-output
 slice-aggregate-put-output c = search needs
@@ -32,7 +32,7 @@ returns-2 : tie.Need-returns-2
 returns-2 c =
     let w = c .before .before in
     let p = w .before .before .before .before in
-    put-handed _ _ _ _ (p .put-output2 .ensures .0) (search needs) _ _ _ (w .put-if-room .ensures)
+    answer-handed _ _ _ _ (p .put-output2 .ensures) (search needs) _ _ _ (w .put-if-room .ensures)
 
 pub put-answer-spec : {M : Type 1} → statement M
 put-answer-spec =

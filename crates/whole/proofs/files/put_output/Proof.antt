@@ -1,4 +1,4 @@
--- `whole::files::put_output` meets its contract. Assumes nothing.
+-- `whole::files::put_output` meets its contract: the listing, or the line of the refusal. Assumes nothing.
 use Rattle.whole.proofs.FileSteps.{prints-listing, prints-refusal, file-steps}
 use borrow.Author.Needs.{needs}
 use Rattle.whole.proofs.files.put_output.Statement.{statement}
@@ -32,7 +32,8 @@ returns-2 c =
     let w = c .before .before in
     let k = w .before .before in
     let p = k .before .before .before .before .before in
-    prints-refusal _ _ _ _ (p .put-file .ensures) _ _ (search (needs, k .known-told2 .given, k .before .fault .given)) _ _ (w .put-refusal .ensures .0) (w .put-refusal .ensures .1)
+    prints-refusal _ _ _ _ (p .put-file .ensures) _ _ (search (needs, k .known-told2 .given, k .before .fault .given)) _ _
+    (w .put-refusal .ensures .0) (w .put-refusal .ensures .1)
 
 pub put-output-spec : {M : Type 1} → statement M
 put-output-spec =
