@@ -1,5 +1,5 @@
--- Every parameter of the formulas is the decimal that 001 prints: one test of the whole table, which antt computes, carried to each row.
--- Assumes nothing.
+-- Every parameter of the formulas is the decimal that 001 prints: one test of the whole table, which antt computes,
+-- carried to each row. Assumes nothing.
 use Prim.Native.Nat.{ℕ, _^_}
 use mathlib.Core.Bool.{Bool, false, _&&_}
 use mathlib.Core.List.{map}

@@ -1,6 +1,6 @@
 -- The numbers that 001 prints, as it prints them, in its order of sections: each with its name there and the parameter
--- that the formulas use. Of these sections every technical parameter is here but k_grazing_a, 0.9989, which stands in no
--- formula, and of the numbers inside their formulas those that have a name in ours. The theorem over the table is
+-- that the formulas use. Of these sections every technical parameter is here but k_grazing_a, 0.9989, which stands in
+-- no formula, and of the numbers inside their formulas those that have a name in ours. The theorem over the table is
 -- `every-parameter-printed` of proofs/Printed; `second/printed.py` looks each name and text up in 001.
 use Prim.Native.Nat.{ℕ, _^_}
 use Prim.Native.String.{String}
@@ -165,7 +165,7 @@ abbrev pub table : List Printed
 table =
     outdoor ++ yard ++ cattleGrazing ++ pigsGrazing ++ notes ++ standards ++ solubleShares ++ housing ++ roughageGrazing
 
--- what the theorem says of a row: the unit is the decimals', and the parameter is the number that the text reads as in it
+-- what the theorem says of a row: its decimals make the unit, and the parameter is the number that the text reads as
 pub record IsPrinted (p : Printed) : Type 0 where
   pub unit-is : 10 ^ p .unit .decimals ≡ p .unit .inOne
   pub reads : numberOf (bytes (p .text)) (p .unit .decimals) (p .parameter) ≡ Value (p .parameter)

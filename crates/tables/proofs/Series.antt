@@ -29,15 +29,19 @@ module _ (y b : ℕ) where
   expDen-is : (n : ℕ) → expDen b n ≡ b ^ n * n !
   unfolding expDen _!
   expDen-is zero = rw pow-zero refl
-  expDen-is (suc n) = omega (arith, ap (λ (x : ℕ). x * (b * suc n)) (expDen-is n), ap (λ (x : ℕ). x * (suc n * n !)) (pow-suc b n))
+  expDen-is (suc n) =
+      omega (arith, ap (λ (x : ℕ). x * (b * suc n)) (expDen-is n), ap (λ (x : ℕ). x * (suc n * n !)) (pow-suc b n))
 
+  -- a further term p, where the denominator d of the growth e grows by c
   one-more : (e d a l c p : ℕ) → e * l ≡ a * d → (e * c + p) * (l * (d * c)) ≡ (a * (d * c) + p * l) * (d * c)
   one-more e d a l c p h = omega (arith, ap (λ (x : ℕ). x * (c * d * c)) h)
 
   terms-added : (n : ℕ) → expNum y b n * below n ≡ above n * expDen b n
   unfolding expNum expDen above below _!
   terms-added zero = rw (pow-zero b, pow-zero y) refl
-  terms-added (suc n) = rw (← expDen-is (suc n)) (one-more (expNum y b n) (expDen b n) (above n) (below n) (b * suc n) (y ^ suc n) (terms-added n))
+  terms-added (suc n) =
+      rw (← expDen-is (suc n))
+      (one-more (expNum y b n) (expDen b n) (above n) (below n) (b * suc n) (y ^ suc n) (terms-added n))
 
 -- the growth is exp(0.0403 × hours) by the terms 0 to 20
 pub growth-series : (t : ℕ) → Same (per (growthNum t) growthDen) (growthOf t)

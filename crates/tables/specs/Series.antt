@@ -1,5 +1,6 @@
--- 01, Steps and cuts: "exp taken as its series terms 0 to 20". Here the twenty-one terms stand one by one and are added up as fractions, each
--- over its own denominator. That `Growth`, which has them over a common one, gives the same number is `growth-series` of proofs/Series.
+-- 01, Steps and cuts: "exp taken as its series terms 0 to 20". Here the twenty-one terms stand one by one and are
+-- added up as fractions, each over its own denominator. That `Growth`, which has them over a common one, gives the
+-- same number is `growth-series` of proofs/Series.
 use Prim.Native.Nat.{ℕ, zero, suc, _*_, _^_}
 use mathlib.Core.List.{List, [], _∷_}
 use Rattle.cut.specs.Frac.{Frac, per}
