@@ -3,12 +3,15 @@
 
 import itertools
 import math
+import os
 import sys
 import unittest
 from fractions import Fraction
+from pathlib import Path
 
 import damage
 import faults
+import printed
 from arithmetic import BILLION, CUTS, EXACT, HALF, Cuts
 from dice import Dice
 from farms import farm_lines, file_of, herd_lines, line_for, new_labels, written
@@ -19,6 +22,8 @@ from totals import totals
 from urvendlo import answer
 from values import DAYS_A_YEAR
 
+# Names the text of source document 001, where that is at hand.
+DOCUMENT = "URVENDLO_001"
 GRAMS_AWAY = 10
 HERDS_OF_A_KIND = 1500
 FARMS = 60
@@ -629,6 +634,22 @@ class Refusals(unittest.TestCase):
         ):
             self.assertEqual(refusal(open_herds + record), (number, 3), record)
         self.assertEqual(refusal(open_herds), (12, 1))
+
+
+@unittest.skipUnless(DOCUMENT in os.environ, f"{DOCUMENT} does not name the text of 001")
+class PrintedNumbers(unittest.TestCase):
+    """The table of printed numbers against the document itself."""
+
+    def test_table(self):
+        table = printed.TABLE.read_text(encoding="utf-8")
+        document = Path(os.environ[DOCUMENT]).read_text(encoding="utf-8")
+        self.assertEqual(list(printed.faults(table, document)), [])
+        for right, wrong, fault in (
+            ('wapiti") "80"', 'wapiti") "70"', "wapiti is not printed as 70"),
+            ('animal") "1.3"', 'animal") "1.2"', "animal is not printed as 1.2"),
+            ('(tech "er_housing")', '(tech "er_house")', "er_housing is not in the table"),
+        ):
+            self.assertIn(fault, "\n".join(printed.faults(table.replace(right, wrong), document)))
 
 
 if __name__ == "__main__":

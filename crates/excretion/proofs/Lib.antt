@@ -1,1 +1,2 @@
 pub mod Modest
+pub mod Truths

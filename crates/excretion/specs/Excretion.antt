@@ -18,6 +18,17 @@ abbrev pub tanFraction : Entered → ℕ
 tanFraction Standard = «share_Nsol»
 tanFraction (Number fraction) = fraction
 
+-- 2.84, n_excretion_animal: what is entered below 0.7 or above 1.3 of the standard is noted; in tenths
+abbrev pub leastOfStandard : ℕ
+leastOfStandard = 7
+
+abbrev pub mostOfStandard : ℕ
+mostOfStandard = 13
+
+-- 2.84, tan_excretion: what is entered more than 0.2 off share_Nsol is noted; in ten-thousandths
+abbrev pub mostOffShare : ℕ
+mostOffShare = 2000
+
 pub record ExcretionIn (A : Arithmetic) : Type 0 where
   pub «n_excretion» : A .Amount
   pub «tan_excretion» : A .Amount

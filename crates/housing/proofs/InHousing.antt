@@ -23,7 +23,7 @@ use Rattle.housing.specs.Housing.{«er_housing», «c_grazing», «ef_nh
 -- ---- 2.87, c_grazing
 
 -- the weights of the mean make up its divisor
-weights : (days u hours : ℕ) → days ≤ year → u + hours ≡ day → (year - days) * day + days * u ≡ year * day - hours * days
+pub weights : (days u hours : ℕ) → days ≤ year → u + hours ≡ day → (year - days) * day + days * u ≡ year * day - hours * days
 weights days u hours h e = omega (arith, ap (λ (x : ℕ). days * x) e)
 
 mean-le : (a b m k : ℕ) → a + b ≡ m → k ≤ mostK → (a * billionths + b * k) / m ≤ mostK

@@ -1,1 +1,2 @@
 pub mod InHousing
+pub mod Truths

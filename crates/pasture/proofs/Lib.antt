@@ -1,3 +1,4 @@
 pub mod Times
 pub mod OnPasture
 pub mod Into
+pub mod Truths

@@ -1,4 +1,4 @@
--- What the crates above need of k: it is nearest to the exact growth, and at most k at 24 hours.
+-- What the crates above need of k: it is nearest to the exact growth, at least 1, and at most k at 24 hours.
 -- Assumes nothing.
 use Prim.Native.Nat.{ℕ, zero, suc, _+_, _*_, _%_, _^_, _≤_, _<_}
 use mathlib.Core.Path.{_≡_, refl}
@@ -48,6 +48,15 @@ k-all-day = refl
 pub k-most : (t : ℕ) → kOf t ≤ mostK
 unfolding kOf
 k-most t = omega (arith, k-all-day, kAt-rises (withinDay-le t))
+
+-- k at 0 hours
+k-without-grazing : kAt 0 ≡ 10 ^ 9
+unfolding kAt nearest growthNum growthDen expNum expDen
+k-without-grazing = refl
+
+pub k-least : (t : ℕ) → 10 ^ 9 ≤ kOf t
+unfolding kOf
+k-least t = omega (arith, k-without-grazing, kAt-rises {t = 0} {u = withinDay t} (omega arith))
 
 at-hours : (t : ℕ) → t ≤ 240 → kOf t ≡ kAt t
 unfolding kOf withinDay

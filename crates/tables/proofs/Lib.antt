@@ -1,3 +1,4 @@
 pub mod Standards
 pub mod Entries
 pub mod Growth
+pub mod Series

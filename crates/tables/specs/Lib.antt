@@ -1,2 +1,3 @@
 pub mod Standards
 pub mod Growth
+pub mod Series

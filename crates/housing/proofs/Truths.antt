@@ -1,0 +1,72 @@
+-- 2.85 and 2.87 in plain words: c_grazing lies between 1 and k_grazing, and the emission factor stays below 0.73, so
+-- that the ceiling of 1 is not reached. Assumes nothing.
+use mathlib.Core.Path.{_≡_, refl, ap}
+use mathlib.Core.Bool.{Bool, true, false}
+use Prim.Native.Nat.{ℕ, _+_, _-_, _*_, _/_, _≤_, _<_}
+use native.Mathlib.Nat.{mul-le-mul-left, div-le-of-le-mul, le-refl, le-trans, lt-of-le-of-lt}
+use native.Mathlib.Omega.{arith}
+use borrow.Author.Tests.{ltb-true, le-ltb}
+use lib.Dec.{ltb, lit<}
+use Rattle.base.specs.Pick.{pick}
+use Rattle.cut.proofs.Shares.{cut-greatest, part-le, part-mono}
+use Rattle.tables.specs.Growth.{kOf, mostK}
+use Rattle.tables.proofs.Growth.{k-least, k-most}
+use Rattle.kinds.specs.declared.Roughage.{Roughage}
+use Rattle.kinds.specs.Sound.{SoundRoughage}
+use Rattle.amounts.specs.Units.{percent, thousandths, billionths, year, day}
+use Rattle.amounts.specs.Arithmetic.{cutting}
+use Rattle.amounts.specs.Portion.{portion}
+use Rattle.housing.specs.Housing.{«er_housing», «c_free_factor_housing», «c_grazing», «ef_nh3_nhousing»}
+use Rattle.housing.proofs.InHousing.{weights}
+
+-- ---- 2.87: a mean of 1 and k, of which k is the larger
+
+module _ (a b m k : ℕ) (e : a + b ≡ m) (h : billionths ≤ k) where
+  mean-least : 0 < m → billionths ≤ (a * billionths + b * k) / m
+  mean-least above = cut-greatest m above (omega (arith, mul-le-mul-left b h))
+
+  mean-most : (a * billionths + b * k) / m ≤ k
+  mean-most = div-le-of-le-mul m (omega (arith, mul-le-mul-left a h, ap (λ (x : ℕ). x * k) e))
+
+abbrev mean : ℕ → ℕ → ℕ
+mean days hours = ((year - days) * day * billionths + days * (day - hours) * kOf hours) / (year * day - hours * days)
+
+module _ (days hours : ℕ) (hd : days ≤ year) (hh : hours ≤ day) where
+  made-up : (year - days) * day + days * (day - hours) ≡ year * day - hours * days
+  made-up = weights days (day - hours) hours hd (omega arith)
+
+  pub c-grazing-from-1-to-k : (billionths ≤ «c_grazing» cutting days hours) × («c_grazing» cutting days hours ≤ kOf hours)
+  c-grazing-from-1-to-k = go (ltb (days * hours) (year * day)) refl
+    where
+      go : (t : Bool) → ltb (days * hours) (year * day) ≡ t
+          → (billionths ≤ pick t (mean days hours) billionths) × (pick t (mean days hours) billionths ≤ kOf hours)
+      go true h =
+          let below = ltb-true (days * hours) (year * day) h in
+          (mean-least _ _ _ _ made-up (k-least hours) (omega arith), mean-most _ _ _ _ made-up (k-least hours))
+      go false h = (le-refl billionths, k-least hours)
+
+-- ---- 2.85
+
+-- er_housing * c_grazing * c_free_factor_housing, before the ceiling, in billionths
+abbrev pub beforeCeiling : Roughage → ℕ
+beforeCeiling r =
+    portion cutting (portion cutting («c_grazing» cutting (r .«grazing_days») (r .«grazing_hours»)) «er_housing» thousandths)
+    («c_free_factor_housing» (r .«free_correction_factor»)) percent
+
+module _ (r : Roughage) (s : SoundRoughage r) where
+  c-le : «c_grazing» cutting (r .«grazing_days») (r .«grazing_hours») ≤ mostK
+  c-le =
+      le-trans (c-grazing-from-1-to-k (r .«grazing_days») (r .«grazing_hours») (s .days) (s .hours) .1)
+      (k-most (r .«grazing_hours»))
+
+  rate-le : (c : ℕ) → c ≤ mostK → portion cutting c «er_housing» thousandths ≤ portion cutting mostK «er_housing» thousandths
+  rate-le c h = part-mono thousandths {m = «er_housing»} {n = «er_housing»} h (le-refl «er_housing»)
+
+  free-le : (rate : ℕ) → portion cutting rate («c_free_factor_housing» (r .«free_correction_factor»)) percent ≤ rate
+  free-le rate = part-le rate («c_free_factor_housing» (r .«free_correction_factor»)) percent (omega arith)
+
+  pub factor-below-073 : beforeCeiling r < 730000000
+  factor-below-073 = lt-of-le-of-lt (le-trans (free-le _) (rate-le _ c-le)) (lit< tt)
+
+  pub ceiling-not-reached : «ef_nh3_nhousing» cutting r ≡ beforeCeiling r
+  ceiling-not-reached = rw (le-ltb billionths (beforeCeiling r) (omega (arith, factor-below-073))) refl

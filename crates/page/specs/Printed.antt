@@ -1,0 +1,179 @@
+-- The numbers that 001 prints, as it prints them, in its order of sections: each with its name there and the parameter
+-- that the formulas use. Of these sections every technical parameter is here but k_grazing_a, 0.9989, which stands in
+-- no formula, and of the numbers inside their formulas those that have a name in ours. The theorem over the table is
+-- `every-parameter-printed` of proofs/Printed; `second/printed.py` looks each name and text up in 001.
+use Prim.Native.Nat.{ℕ, _^_}
+use Prim.Native.String.{String}
+use mathlib.Core.List.{List, [], _∷_, _++_}
+use mathlib.Core.Path.{_≡_}
+use Rattle.base.specs.Text.{bytes}
+use Rattle.decimal.specs.declared.Number.the-variants.{Value}
+use Rattle.decimal.specs.Reading.{numberOf}
+use Rattle.tables.specs.Standards.{Standard, _kg, standardOf, «share_Nsol»}
+use Rattle.tables.specs.Growth.{«k_grazing_b»}
+use Rattle.amounts.specs.Units.{tenths, percent, thousandths, tenThousandths, year, day}
+use Rattle.kinds.specs.declared.ExerciseYard.the-variants.{NotAvailable}
+use Rattle.kinds.specs.declared.Floor.the-variants.{Solid, Unpaved, Perforated, Paddock}
+use Rattle.rates.specs.Rates.{cattleRates, pigsRates, roughageRates}
+use Rattle.excretion.specs.Excretion.{leastOfStandard, mostOfStandard, mostOffShare}
+use Rattle.yard.specs.Yard.{
+  «er_yard»,
+  «red_floor_properties»,
+  «share_excretion»,
+  «share_available_roughage_is_exclusively_supplied_in_the_exercise_yard»,
+  «share_available_roughage_is_partly_supplied_in_the_exercise_yard»,
+  «share_available_roughage_is_not_supplied_in_the_exercise_yard»,
+}
+use Rattle.housing.specs.Housing.{«er_housing»}
+
+-- a unit that the formulas count in: the decimals of a number that counts in it, and how many make 1
+pub record Unit : Type 0 where
+  pub decimals : ℕ
+  pub inOne : ℕ
+
+abbrev pub wholes : Unit
+wholes = record { decimals = 0; inOne = 1 }
+
+abbrev pub inTenths : Unit
+inTenths = record { decimals = 1; inOne = tenths }
+
+abbrev pub inPercent : Unit
+inPercent = record { decimals = 2; inOne = percent }
+
+abbrev pub inThousandths : Unit
+inThousandths = record { decimals = 3; inOne = thousandths }
+
+abbrev pub inTenThousandths : Unit
+inTenThousandths = record { decimals = 4; inOne = tenThousandths }
+
+-- kilograms, in grams
+abbrev pub inGrams : Unit
+inGrams = record { decimals = 3; inOne = 1 kg }
+
+-- where a number stands in its section: behind the name of a technical parameter, or in the formula of an output
+pub data Place : Type 0 where
+  tech : String → Place
+  out : String → Place
+
+pub record Printed : Type 0 where
+  pub section : String
+  pub place : Place
+  pub text : String
+  pub unit : Unit
+  pub parameter : ℕ
+
+abbrev pub prints : String → Place → String → Unit → ℕ → Printed
+prints s p t u n = record { section = s; place = p; text = t; unit = u; parameter = n }
+
+-- 2.33
+abbrev pub outdoor : List Printed
+outdoor = prints "2.33" (out "days_with_grazing_and_yard") "365" wholes year ∷ []
+
+-- 2.34
+abbrev pub yard : List Printed
+yard =
+    prints "2.34" (out "share_excretion") "0" inTenths («share_excretion» NotAvailable)
+    ∷ prints "2.34" (tech "er_yard") "0.7" inTenThousandths «er_yard»
+    ∷ prints "2.34" (tech "share_available_roughage_is_exclusively_supplied_in_the_exercise_yard") "0.6" inTenths
+    «share_available_roughage_is_exclusively_supplied_in_the_exercise_yard»
+    ∷ prints "2.34" (tech "share_available_roughage_is_partly_supplied_in_the_exercise_yard") "0.2" inTenths
+    «share_available_roughage_is_partly_supplied_in_the_exercise_yard»
+    ∷ prints "2.34" (tech "share_available_roughage_is_not_supplied_in_the_exercise_yard") "0.1" inTenths
+    «share_available_roughage_is_not_supplied_in_the_exercise_yard»
+    ∷ prints "2.34" (tech "red_floor_properties_solid_floor") "0.0" inPercent («red_floor_properties» Solid)
+    ∷ prints "2.34" (tech "red_floor_properties_unpaved_floor") "0.5" inPercent («red_floor_properties» Unpaved)
+    ∷ prints "2.34" (tech "red_floor_properties_perforated_floor") "0.75" inPercent («red_floor_properties» Perforated)
+    ∷ prints "2.34" (tech "red_floor_properties_paddock_or_pasture_used_as_exercise_yard") "0.9" inPercent («red_floor_properties» Paddock)
+    ∷ []
+
+-- 2.35
+abbrev pub cattleGrazing : List Printed
+cattleGrazing =
+    prints "2.35" (out "n_into_grazing") "24" inTenths day
+    ∷ prints "2.35" (tech "er_cattle_grazing") "0.083" inTenThousandths (cattleRates .nh3)
+    ∷ prints "2.35" (tech "er_n2_cattle_grazing") "0.0" inTenThousandths (cattleRates .n2)
+    ∷ prints "2.35" (tech "er_no_cattle_grazing") "0.0055" inTenThousandths (cattleRates .no)
+    ∷ prints "2.35" (tech "er_n2o_cattle_grazing") "0.02" inTenThousandths (cattleRates .n2o)
+    ∷ []
+
+-- 2.61
+abbrev pub pigsGrazing : List Printed
+pigsGrazing =
+    prints "2.61" (tech "er_fattening_pig_grazing") "0.2" inTenThousandths (pigsRates .nh3)
+    ∷ prints "2.61" (tech "er_n2_fattening_pig_grazing") "0.0" inTenThousandths (pigsRates .n2)
+    ∷ prints "2.61" (tech "er_no_fattening_pig_grazing") "0.0055" inTenThousandths (pigsRates .no)
+    ∷ prints "2.61" (tech "er_n2o_fattening_pig_grazing") "0.02" inTenThousandths (pigsRates .n2o)
+    ∷ []
+
+-- 2.84: from where on an entry is noted
+abbrev pub notes : List Printed
+notes =
+    prints "2.84" (out "n_excretion_animal") "0.7" inTenths leastOfStandard
+    ∷ prints "2.84" (out "n_excretion_animal") "1.3" inTenths mostOfStandard
+    ∷ prints "2.84" (out "tan_excretion") "0.2" inTenThousandths mostOffShare
+    ∷ []
+
+-- 2.84: a category stands here at its place in our list (`standards-named`)
+abbrev pub standards : List Printed
+standards =
+    prints "2.84" (tech "standard_N_excretion_fallow_deer") "20" inGrams (standardOf 0)
+    ∷ prints "2.84" (tech "standard_N_excretion_red_deer") "40" inGrams (standardOf 1)
+    ∷ prints "2.84" (tech "standard_N_excretion_wapiti") "80" inGrams (standardOf 2)
+    ∷ prints "2.84" (tech "standard_N_excretion_bison_older_than_3yr") "60" inGrams (standardOf 3)
+    ∷ prints "2.84" (tech "standard_N_excretion_bison_younger_than_3yr") "20" inGrams (standardOf 4)
+    ∷ prints "2.84" (tech "standard_N_excretion_lama_older_than_2yr") "17" inGrams (standardOf 5)
+    ∷ prints "2.84" (tech "standard_N_excretion_lama_younger_than_2yr") "11" inGrams (standardOf 6)
+    ∷ prints "2.84" (tech "standard_N_excretion_alpaca_older_than_2yr") "11" inGrams (standardOf 7)
+    ∷ prints "2.84" (tech "standard_N_excretion_alpaca_younger_than_2yr") "7" inGrams (standardOf 8)
+    ∷ prints "2.84" (tech "standard_N_excretion_rabbit_doe_kits") "2.6" inGrams (standardOf 9)
+    ∷ prints "2.84" (tech "standard_N_excretion_rabbit_young") "0.79" inGrams (standardOf 10)
+    ∷ []
+
+-- 2.84: one share for all categories
+abbrev pub solubleShares : List Printed
+solubleShares =
+    prints "2.84" (tech "share_Nsol_fallow_deer") "0.4" inTenThousandths «share_Nsol»
+    ∷ prints "2.84" (tech "share_Nsol_red_deer") "0.4" inTenThousandths «share_Nsol»
+    ∷ prints "2.84" (tech "share_Nsol_wapiti") "0.4" inTenThousandths «share_Nsol»
+    ∷ prints "2.84" (tech "share_Nsol_bison_older_than_3yr") "0.4" inTenThousandths «share_Nsol»
+    ∷ prints "2.84" (tech "share_Nsol_bison_younger_than_3yr") "0.4" inTenThousandths «share_Nsol»
+    ∷ prints "2.84" (tech "share_Nsol_lama_older_than_2yr") "0.4" inTenThousandths «share_Nsol»
+    ∷ prints "2.84" (tech "share_Nsol_lama_younger_than_2yr") "0.4" inTenThousandths «share_Nsol»
+    ∷ prints "2.84" (tech "share_Nsol_alpaca_older_than_2yr") "0.4" inTenThousandths «share_Nsol»
+    ∷ prints "2.84" (tech "share_Nsol_alpaca_younger_than_2yr") "0.4" inTenThousandths «share_Nsol»
+    ∷ prints "2.84" (tech "share_Nsol_rabbit_doe_kits") "0.4" inTenThousandths «share_Nsol»
+    ∷ prints "2.84" (tech "share_Nsol_rabbit_young") "0.4" inTenThousandths «share_Nsol»
+    ∷ []
+
+-- 2.85 and 2.87
+abbrev pub housing : List Printed
+housing =
+    prints "2.85" (tech "er_housing") "0.275" inThousandths «er_housing»
+    ∷ prints "2.87" (tech "k_grazing_b") "0.0403" inTenThousandths «k_grazing_b»
+    ∷ []
+
+-- 2.88
+abbrev pub roughageGrazing : List Printed
+roughageGrazing =
+    prints "2.88" (tech "er_roughage_consuming_grazing") "0.125" inTenThousandths (roughageRates .nh3)
+    ∷ prints "2.88" (tech "er_n2_roughage_consuming_grazing") "0.0" inTenThousandths (roughageRates .n2)
+    ∷ prints "2.88" (tech "er_no_roughage_consuming_grazing") "0.0055" inTenThousandths (roughageRates .no)
+    ∷ prints "2.88" (tech "er_n2o_roughage_consuming_grazing") "0.01" inTenThousandths (roughageRates .n2o)
+    ∷ []
+
+abbrev pub table : List Printed
+table =
+    outdoor ++ yard ++ cattleGrazing ++ pigsGrazing ++ notes ++ standards ++ solubleShares ++ housing ++ roughageGrazing
+
+-- what the theorem says of a row: its decimals make the unit, and the parameter is the number that the text reads as
+pub record IsPrinted (p : Printed) : Type 0 where
+  pub unit-is : 10 ^ p .unit .decimals ≡ p .unit .inOne
+  pub reads : numberOf (bytes (p .text)) (p .unit .decimals) (p .parameter) ≡ Value (p .parameter)
+
+-- 2.84's key of a category, `standard_N_excretion_` and its name, and what a row has in its place
+abbrev pub keyed : String → Standard → List ℕ
+keyed key s = bytes key ++ bytes (s .category)
+
+abbrev pub name : Place → List ℕ
+name (tech n) = bytes n
+name (out n) = bytes n

@@ -1,0 +1,1 @@
+// Theorems only: each parameter of the formulas is the decimal that 001 prints.
