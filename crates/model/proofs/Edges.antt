@@ -25,7 +25,7 @@ use Rattle.pasture.specs.Pasture.{outdoorGrazingTime, roughageGrazingTime}
 use Rattle.housing.specs.Housing.{«c_grazing»}
 use Rattle.outputs.specs.Grams.{figure}
 use Rattle.model.specs.Herd.{figuresOf}
-use Rattle.model.specs.Notes.{notesOf}
+use Rattle.notes.specs.Notes.{notesOf}
 
 -- one line of the table: a herd's figure under a name, a herd's note on its share or on its N, k at so many tenths of an hour, or c at so
 -- many days and tenths of an hour

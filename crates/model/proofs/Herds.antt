@@ -15,7 +15,7 @@ use Rattle.kinds.specs.declared.Cattle.{Cattle}
 use Rattle.kinds.specs.declared.Pigs.{Pigs}
 use Rattle.kinds.specs.declared.Inputs.{Inputs}
 use Rattle.kinds.specs.declared.Inputs.the-variants as kinds
-use Rattle.kinds.specs.Sound.{SoundOutdoor, SoundRoughage, SoundCattle, SoundPigs, Sound, roughage, cattle, pigs, mostGrams}
+use Rattle.kinds.specs.Sound.{SoundOutdoor, SoundRoughage, SoundCattle, SoundPigs, roughage, pigs, mostGrams}
 use Rattle.rates.specs.declared.Rates.{Rates}
 use Rattle.rates.specs.Rates.{cattleRates}
 use Rattle.rates.specs.Bounds.{ModestRates, RatesOf}
@@ -158,24 +158,6 @@ module _ (p : Pigs) (s : SoundPigs p) (e : Excretion)
       pigs-grams = are-grams (made (pigs s)) e y g h is-pigs
 
 -- ---- any kind
-module _ (i : Inputs) (s : Sound i) where
-  pub sound-roughage : (r : Roughage) → i ≡ kinds.Roughage r → SoundRoughage r
-  sound-roughage r e = of (subst Sound e s)
-    where
-      of : Sound (kinds.Roughage r) → SoundRoughage r
-      of (roughage h) = h
-
-  pub sound-cattle : (c : Cattle) → i ≡ kinds.Cattle c → SoundCattle c
-  sound-cattle c e = of (subst Sound e s)
-    where
-      of : Sound (kinds.Cattle c) → SoundCattle c
-      of (cattle h) = h
-
-  pub sound-pigs : (p : Pigs) → i ≡ kinds.Pigs p → SoundPigs p
-  sound-pigs p e = of (subst Sound e s)
-    where
-      of : Sound (kinds.Pigs p) → SoundPigs p
-      of (pigs h) = h
 
 -- figures whose grams are those of some inputs are theirs
 pub figures-are : (i j : Inputs) (f : Figures) → f .grams ≡ gramsOf (figuresIn cutting j) → i ≡ j → f ≡ figuresOf i
@@ -202,4 +184,4 @@ pub ruleset roughage-steps = (grams-within, fraction-within, roughage-modest, ro
 
 pub ruleset pigs-steps = (pigs-modest, pigs-n, pigs-tan, pigs-small, pigs-grams)
 
-pub ruleset kind-steps = (sound-roughage, sound-cattle, sound-pigs, figures-of-roughage, figures-of-cattle, figures-of-pigs)
+pub ruleset kind-steps = (figures-of-roughage, figures-of-cattle, figures-of-pigs)

@@ -13,7 +13,7 @@ use Rattle.outputs.specs.Grams.{noFigures, summed, totalsOf, To, figureMost}
 use Rattle.model.specs.declared.HerdAnswer.{HerdAnswer}
 use Rattle.model.specs.declared.FarmAnswer.{FarmAnswer}
 use Rattle.model.specs.Herd.{figuresOf}
-use Rattle.model.specs.Notes.{notesOf, noNotes}
+use Rattle.notes.specs.Notes.{notesOf, noNotes}
 
 -- the figures of a herd's record
 abbrev pub herdFigures : Herd → Figures

@@ -18,7 +18,7 @@ use Rattle.typed.specs.Typed.{typedOf}
 use Rattle.outputs.specs.Grams.{totalsOf}
 use Rattle.model.specs.declared.HerdAnswer.{HerdAnswer}
 use Rattle.model.specs.Herd.{figuresOf}
-use Rattle.model.specs.Notes.{notesOf}
+use Rattle.notes.specs.Notes.{notesOf}
 use Rattle.model.specs.Answers.{herdFigures, herdAnswer, farmAnswer}
 use Rattle.listing.specs.declared.Written.{Written}
 use Rattle.listing.specs.declared.Written.the-variants.{Length}

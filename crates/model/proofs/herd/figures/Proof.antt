@@ -1,5 +1,6 @@
 -- `model::herd::figures` meets its contract, by the kind.
 -- Assumes nothing.
+use Rattle.kinds.proofs.OfKind.{of-kind}
 use Rattle.model.proofs.Herds.{kind-steps}
 use borrow.Author.Needs.{needs}
 use Rattle.model.proofs.herd.figures.Statement.{statement}
@@ -9,19 +10,19 @@ enum-known-inputs : tie.Need-enum-known-inputs
 enum-known-inputs c = search needs
 
 roughage-figures-requires : tie.Need-roughage-figures-requires
-roughage-figures-requires c κs = search (needs, kind-steps)
+roughage-figures-requires c κs = search (needs, of-kind)
 
 enum-known-inputs-2 : tie.Need-enum-known-inputs-2
 enum-known-inputs-2 c = search needs
 
 cattle-figures-requires : tie.Need-cattle-figures-requires
-cattle-figures-requires c κs = search (needs, kind-steps)
+cattle-figures-requires c κs = search (needs, of-kind)
 
 enum-known-inputs-3 : tie.Need-enum-known-inputs-3
 enum-known-inputs-3 c = search needs
 
 pigs-figures-requires : tie.Need-pigs-figures-requires
-pigs-figures-requires c κs = search (needs, kind-steps)
+pigs-figures-requires c κs = search (needs, of-kind)
 
 returns : tie.Need-returns
 returns c = search (needs, kind-steps)

@@ -1,5 +1,4 @@
--- The steps of the notes, each in the form that a place of the code wants.
--- Assumes nothing.
+-- The steps of the notes, each in the form that a place of the code wants. Assumes nothing.
 use Prim.Native.Nat.{ℕ, _+_, _*_, _≤_, _<_}
 use mathlib.Core.Path.{_≡_, _∙_}
 use mathlib.Core.Bool.{true, false}
@@ -21,8 +20,8 @@ use Rattle.kinds.specs.declared.Pigs.{Pigs}
 use Rattle.kinds.specs.declared.Inputs.{Inputs}
 use Rattle.kinds.specs.declared.Inputs.the-variants as kinds
 use Rattle.kinds.specs.Sound.{EnteredTo, standard, number, mostGrams}
-use Rattle.model.specs.declared.HerdNotes.{HerdNotes}
-use Rattle.model.specs.Notes.{offStandard, offShare, roughageNotes, cattleNotes, noNotes, notesOf}
+use Rattle.notes.specs.declared.Notes.{Notes}
+use Rattle.notes.specs.Notes.{offStandard, offShare, roughageNotes, cattleNotes, noNotes, notesOf}
 
 -- a number that was entered is in range
 pub entered-most : (m : ℕ) (e : Entered) (n : ℕ) → EnteredTo m e → e ≡ Number n → n ≤ m
@@ -59,7 +58,7 @@ module _ (e : Entered) (fraction : ℕ) (q : e ≡ Number fraction) where
   pub tan-other : 4000 ≤ fraction + 2000 → ltb 6000 fraction ≡ offShare e
   tan-other h = rw (q, le-ltb (fraction + 2000) 4000 h)
 
-module _ (n : HerdNotes) (i : Inputs) where
+module _ (n : Notes) (i : Inputs) where
   pub notes-of-roughage : (r : Roughage) → n ≡ roughageNotes r → i ≡ kinds.Roughage r → n ≡ notesOf i
   unfolding notesOf
   notes-of-roughage r q e = q ∙ rw e

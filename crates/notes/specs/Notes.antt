@@ -10,7 +10,7 @@ use Rattle.kinds.specs.declared.Cattle.{Cattle}
 use Rattle.kinds.specs.declared.Inputs.{Inputs}
 use Rattle.kinds.specs.declared.Inputs.the-variants as kinds
 use Rattle.yard.specs.Yard.{shareLowered}
-use Rattle.model.specs.declared.HerdNotes.{HerdNotes}
+use Rattle.notes.specs.declared.Notes.{Notes}
 
 -- 2.84, n_excretion_animal: below 0.7 or above 1.3 of the standard, in tenths
 abbrev pub offStandard : ℕ → Entered → Bool
@@ -26,21 +26,21 @@ offShare (Number fraction) = ltb (fraction + 2000) «share_Nsol» || ltb («shar
 abbrev pub freeEntered : ℕ → Bool
 freeEntered free = not (eqb free 0)
 
-abbrev pub noted : Bool → Bool → Bool → Bool → HerdNotes
+abbrev pub noted : Bool → Bool → Bool → Bool → Notes
 noted n tan free share = record { «n_off_standard» = n; «tan_off_standard» = tan; «free_factor» = free; «share_lowered» = share }
 
-abbrev pub roughageNotes : Roughage → HerdNotes
+abbrev pub roughageNotes : Roughage → Notes
 roughageNotes r =
     noted (offStandard (r .animalcategory) (r .«inp_n_excretion»)) (offShare (r .«tan_fraction»)) (freeEntered (r .«free_correction_factor»)) false
 
 -- the share is lowered: 2.34, share_excretion_with_grazing
-abbrev pub cattleNotes : Cattle → HerdNotes
+abbrev pub cattleNotes : Cattle → Notes
 cattleNotes c = noted false false (freeEntered (c .outdoor .«free_correction_factor»)) (shareLowered (c .outdoor))
 
-abbrev pub noNotes : HerdNotes
+abbrev pub noNotes : Notes
 noNotes = noted false false false false
 
-unfoldable pub notesOf : Inputs → HerdNotes
+unfoldable pub notesOf : Inputs → Notes
 notesOf (kinds.Roughage r) = roughageNotes r
 notesOf (kinds.Cattle c) = cattleNotes c
 notesOf (kinds.Pigs p) = noNotes

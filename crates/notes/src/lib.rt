@@ -1,5 +1,4 @@
-// What an adviser is told beside the figures.
-use crate::HerdNotes;
+// 01, Notes: what an adviser is told beside the figures.
 use amounts::TENTHS;
 use kinds::Cattle;
 use kinds::Entered;
@@ -8,7 +7,14 @@ use kinds::Roughage;
 ghost use mathlib.Core.Path.{_≡_};
 ghost use Rattle.amounts.specs.Units.{tenThousandths};
 ghost use Rattle.kinds.specs.Sound.{EnteredTo, SoundRoughage, SoundCattle, Sound, mostGrams};
-ghost use Rattle.model.specs.Notes.{offStandard, offShare, roughageNotes, cattleNotes, noNotes, notesOf};
+ghost use Rattle.notes.specs.Notes.{offStandard, offShare, roughageNotes, cattleNotes, noNotes, notesOf};
+
+pub struct Notes {
+    pub n_off_standard: bool,
+    pub tan_off_standard: bool,
+    pub free_factor: bool,
+    pub share_lowered: bool,
+}
 
 // Below 0.7 or above 1.3 of the standard, in tenths; off the share by more than 0.2, in ten-thousandths.
 const LOW: u64 = 7;
@@ -44,13 +50,13 @@ fn tan_off_standard(entered: Entered) -> bool
     tables::SHARE_NSOL + OFF < fraction
 }
 
-fn roughage_notes(r: Roughage) -> HerdNotes
+fn roughage_notes(r: Roughage) -> Notes
     requires { ⌜ SoundRoughage r ⌝ }
     ensures { λ n. ⌜ n ≡ roughageNotes r ⌝ }
 {
     let entered_n = r.inp_n_excretion;
     let entered_tan = r.tan_fraction;
-    HerdNotes {
+    Notes {
         n_off_standard: n_off_standard(r.animalcategory, entered_n),
         tan_off_standard: tan_off_standard(entered_tan),
         free_factor: r.free_correction_factor != 0,
@@ -58,12 +64,12 @@ fn roughage_notes(r: Roughage) -> HerdNotes
     }
 }
 
-fn cattle_notes(c: Cattle) -> HerdNotes
+fn cattle_notes(c: Cattle) -> Notes
     requires { ⌜ SoundCattle c ⌝ }
     ensures { λ n. ⌜ n ≡ cattleNotes c ⌝ }
 {
     let outdoor = c.outdoor;
-    HerdNotes {
+    Notes {
         n_off_standard: false,
         tan_off_standard: false,
         free_factor: outdoor.free_correction_factor != 0,
@@ -71,10 +77,10 @@ fn cattle_notes(c: Cattle) -> HerdNotes
     }
 }
 
-pub fn no_notes() -> HerdNotes
+pub fn no_notes() -> Notes
     ensures { λ n. ⌜ n ≡ noNotes ⌝ }
 {
-    HerdNotes {
+    Notes {
         n_off_standard: false,
         tan_off_standard: false,
         free_factor: false,
@@ -82,7 +88,7 @@ pub fn no_notes() -> HerdNotes
     }
 }
 
-pub fn notes_on(inputs: Inputs) -> HerdNotes
+pub fn notes_of(inputs: Inputs) -> Notes
     requires { ⌜ Sound inputs ⌝ }
     ensures { λ n. ⌜ n ≡ notesOf inputs ⌝ }
 {

@@ -1,22 +1,21 @@
--- `model::notes::notes_on` meets its contract, by the kind.
--- Assumes nothing.
-use Rattle.model.proofs.NoteSteps.{kind-notes}
-use Rattle.model.proofs.Herds.{kind-steps}
+-- `notes::notes_of` meets its contract, by the kind. Assumes nothing.
+use Rattle.notes.proofs.Steps.{kind-notes}
+use Rattle.kinds.proofs.OfKind.{of-kind}
 use borrow.Author.Needs.{needs}
-use Rattle.model.proofs.notes.notes_on.Statement.{statement}
-use Rattle.model.proofs.notes.notes_on.Tie as tie
+use Rattle.notes.proofs.notes_of.Statement.{statement}
+use Rattle.notes.proofs.notes_of.Tie as tie
 
 enum-known-inputs : tie.Need-enum-known-inputs
 enum-known-inputs c = search needs
 
 roughage-notes-requires : tie.Need-roughage-notes-requires
-roughage-notes-requires c κs = search (needs, kind-steps)
+roughage-notes-requires c κs = search (needs, of-kind)
 
 enum-known-inputs-2 : tie.Need-enum-known-inputs-2
 enum-known-inputs-2 c = search needs
 
 cattle-notes-requires : tie.Need-cattle-notes-requires
-cattle-notes-requires c κs = search (needs, kind-steps)
+cattle-notes-requires c κs = search (needs, of-kind)
 
 enum-told : tie.Need-enum-told
 enum-told c = search needs
@@ -33,8 +32,8 @@ returns-2 c = search (needs, kind-notes)
 returns-3 : tie.Need-returns-3
 returns-3 c = search (needs, kind-notes)
 
-pub notes-on-spec : {M : Type 1} → statement M
-notes-on-spec =
+pub notes-of-spec : {M : Type 1} → statement M
+notes-of-spec =
     tie.close
     (tie.spec
     enum-known-inputs

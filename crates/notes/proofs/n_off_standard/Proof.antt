@@ -1,9 +1,8 @@
--- `model::notes::n_off_standard` meets its contract, by the two comparisons with the standard.
--- Assumes nothing.
-use Rattle.model.proofs.NoteSteps.{note-steps}
+-- `notes::n_off_standard` meets its contract, by the two comparisons with the standard. Assumes nothing.
+use Rattle.notes.proofs.Steps.{note-steps}
 use borrow.Author.Needs.{needs}
-use Rattle.model.proofs.notes.n_off_standard.Statement.{statement}
-use Rattle.model.proofs.notes.n_off_standard.Tie as tie
+use Rattle.notes.proofs.n_off_standard.Statement.{statement}
+use Rattle.notes.proofs.n_off_standard.Tie as tie
 
 enum-known-entered : tie.Need-enum-known-entered
 enum-known-entered c = search needs

@@ -1,8 +1,7 @@
--- `model::notes::roughage_notes` meets its contract, note by note.
--- Assumes nothing.
+-- `notes::roughage_notes` meets its contract, note by note. Assumes nothing.
 use borrow.Author.Needs.{needs}
-use Rattle.model.proofs.notes.roughage_notes.Statement.{statement}
-use Rattle.model.proofs.notes.roughage_notes.Tie as tie
+use Rattle.notes.proofs.roughage_notes.Statement.{statement}
+use Rattle.notes.proofs.roughage_notes.Tie as tie
 
 n-off-standard-requires : tie.Need-n-off-standard-requires
 n-off-standard-requires c κs = search needs

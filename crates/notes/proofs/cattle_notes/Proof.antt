@@ -1,8 +1,7 @@
--- `model::notes::cattle_notes` meets its contract, note by note.
--- Assumes nothing.
+-- `notes::cattle_notes` meets its contract, note by note. Assumes nothing.
 use borrow.Author.Needs.{needs}
-use Rattle.model.proofs.notes.cattle_notes.Statement.{statement}
-use Rattle.model.proofs.notes.cattle_notes.Tie as tie
+use Rattle.notes.proofs.cattle_notes.Statement.{statement}
+use Rattle.notes.proofs.cattle_notes.Tie as tie
 
 share-lowered-requires : tie.Need-share-lowered-requires
 share-lowered-requires c κs = search needs
