@@ -20,17 +20,17 @@ use Rattle.farm.proofs.Accepts.{farm-count, farm-each}
 use Rattle.farm.proofs.Left.{taken-at, taken-end}
 use Rattle.kinds.specs.declared.Inputs.{Inputs}
 use Rattle.kinds.specs.Sound.{Sound}
+use Rattle.notes.specs.declared.Notes.{Notes}
+use Rattle.notes.specs.Notes.{notesOf, noNotes}
 use Rattle.typed.specs.Typed.{typedOf}
 use Rattle.typed.proofs.Sound.{typed-sound}
 use Rattle.outputs.specs.declared.Figures.{Figures}
 use Rattle.outputs.specs.declared.Totals.{Totals}
 use Rattle.outputs.specs.Grams.{To, figureMost, plusGrams, zeros, noFigures, summed, totalGrams}
 use Rattle.outputs.proofs.Adding.{plus-to, widen, zeros-to, totals-of-sum}
-use Rattle.notes.specs.declared.Notes.{Notes}
-use Rattle.model.specs.Herd.{figuresOf}
-use Rattle.notes.specs.Notes.{notesOf, noNotes}
+use Rattle.herd.specs.Herd.{figuresOf}
+use Rattle.herd.proofs.Bounds.{most, figures-to}
 use Rattle.model.specs.Answers.{Added, herdFigures, herdAnswer, farmAnswer}
-use Rattle.model.proofs.Bounds.{most, figures-to}
 
 -- figures of which the grams are none
 no-grams : (f : Figures) → f .grams ≡ zeros → f ≡ noFigures

@@ -1,3 +1,2 @@
-pub mod Herd
 pub mod Answers
 pub mod Kept

@@ -1,7 +1,6 @@
 // A record's figures, or its refusal. Nothing is asked of the record beforehand.
 use crate::FarmAnswer;
 use crate::HerdAnswer;
-use crate::herd;
 use farm::Checked;
 use farm::Farm;
 use farm::Herd;

@@ -1,5 +1,4 @@
 // From a farm's records to its answers: a herd's figures and notes, a farm's totals.
-pub mod herd; // a herd's figures, kind by kind
 pub mod answers; // a record's figures or its refusal
 
 use farm::Checked;

@@ -1,6 +1,6 @@
 -- `notes::notes_of` meets its contract, by the kind. Assumes nothing.
-use Rattle.notes.proofs.Steps.{kind-notes}
 use Rattle.kinds.proofs.OfKind.{of-kind}
+use Rattle.notes.proofs.Steps.{kind-notes}
 use borrow.Author.Needs.{needs}
 use Rattle.notes.proofs.notes_of.Statement.{statement}
 use Rattle.notes.proofs.notes_of.Tie as tie

@@ -12,7 +12,7 @@ use Rattle.rates.proofs.Modest.{cattle-rates-modest}
 use Rattle.excretion.specs.Excretion.{ExcretionIn, «n_excretion_animal», tanFraction}
 use Rattle.excretion.proofs.Modest.{excreted-modest, roughage-grams-le, roughage-fraction-le}
 use Rattle.outputs.specs.Sections.{FiguresIn}
-use Rattle.model.specs.Herd.{roughageOn, ofRoughage, outdoorOn, pigsOn, figuresIn}
+use Rattle.herd.specs.Herd.{roughageOn, ofRoughage, outdoorOn, pigsOn, figuresIn}
 
 -- figures of a herd of some kind that excretes a modest amount
 pub data Made : FiguresIn cutting → Type 0 where

@@ -1,9 +1,8 @@
--- `model::herd::pigs_figures` meets its contract, section by section.
--- Assumes nothing.
-use Rattle.model.proofs.Herds.{pigs-steps}
+-- `herd::pigs_figures` meets its contract, section by section. Assumes nothing.
+use Rattle.herd.proofs.Herds.{pigs-steps}
 use borrow.Author.Needs.{needs}
-use Rattle.model.proofs.herd.pigs_figures.Statement.{statement}
-use Rattle.model.proofs.herd.pigs_figures.Tie as tie
+use Rattle.herd.proofs.pigs_figures.Statement.{statement}
+use Rattle.herd.proofs.pigs_figures.Tie as tie
 
 excreted-requires : tie.Need-excreted-requires
 excreted-requires c κs = search (needs, pigs-steps)

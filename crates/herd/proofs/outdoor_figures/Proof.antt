@@ -1,9 +1,8 @@
--- `model::herd::outdoor_figures` meets its contract: each section's figures are the definition's, and what goes onto yard and pasture is no more than what is excreted.
--- Assumes nothing.
-use Rattle.model.proofs.Herds.{outdoor-steps}
+-- `herd::outdoor_figures` meets its contract: each section's figures are the definition's, and what goes onto yard and pasture is no more than what is excreted. Assumes nothing.
+use Rattle.herd.proofs.Herds.{outdoor-steps}
 use borrow.Author.Needs.{needs}
-use Rattle.model.proofs.herd.outdoor_figures.Statement.{statement}
-use Rattle.model.proofs.herd.outdoor_figures.Tie as tie
+use Rattle.herd.proofs.outdoor_figures.Statement.{statement}
+use Rattle.herd.proofs.outdoor_figures.Tie as tie
 
 on-yard-requires : tie.Need-on-yard-requires
 on-yard-requires c κs = search needs

@@ -1,8 +1,8 @@
--- `model::herd::cattle_figures` meets its contract: what cattle excrete is modest, and their rates are those of 2.35. Assumes nothing.
+-- `herd::cattle_figures` meets its contract: what cattle excrete is modest, and their rates are those of 2.35. Assumes nothing.
 use borrow.Author.Needs.{needs}
-use Rattle.model.proofs.Herds.{cattle-steps}
-use Rattle.model.proofs.herd.cattle_figures.Statement.{statement}
-use Rattle.model.proofs.herd.cattle_figures.Tie as tie
+use Rattle.herd.proofs.Herds.{cattle-steps}
+use Rattle.herd.proofs.cattle_figures.Statement.{statement}
+use Rattle.herd.proofs.cattle_figures.Tie as tie
 
 excreted-requires : tie.Need-excreted-requires
 excreted-requires c κs = search needs

@@ -1,10 +1,9 @@
--- `model::herd::figures` meets its contract, by the kind.
--- Assumes nothing.
+-- `herd::figures` meets its contract, by the kind. Assumes nothing.
 use Rattle.kinds.proofs.OfKind.{of-kind}
-use Rattle.model.proofs.Herds.{kind-steps}
+use Rattle.herd.proofs.Herds.{kind-steps}
 use borrow.Author.Needs.{needs}
-use Rattle.model.proofs.herd.figures.Statement.{statement}
-use Rattle.model.proofs.herd.figures.Tie as tie
+use Rattle.herd.proofs.figures.Statement.{statement}
+use Rattle.herd.proofs.figures.Tie as tie
 
 enum-known-inputs : tie.Need-enum-known-inputs
 enum-known-inputs c = search needs

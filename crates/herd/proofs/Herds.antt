@@ -1,6 +1,5 @@
 -- The steps of a herd's figures, each in the form that a place of the code wants: what goes where is no more than there is, and the sections
--- that the code made are those of the formulas.
--- Assumes nothing.
+-- that the code made are those of the formulas. Assumes nothing.
 use Prim.Native.Nat.{ℕ, _+_, _-_, _≤_}
 use mathlib.Core.Path.{_≡_, ap, subst, sym, _∙_}
 use mathlib.Core.List.{List}
@@ -33,9 +32,9 @@ use Rattle.outputs.specs.declared.Figures.{Figures}
 use Rattle.outputs.specs.Sections.{FiguresIn, together}
 use Rattle.outputs.specs.Grams.{gramsOf, To, figureMost}
 use Rattle.outputs.proofs.Adding.{widen}
-use Rattle.model.specs.Herd.{ofRoughage, roughageOn, outdoorOn, ofCattle, ofPigs, pigsOn, figuresIn, figuresOf}
-use Rattle.model.proofs.Made.{Made, of-outdoor, made}
-use Rattle.model.proofs.Bounds.{most, made-to}
+use Rattle.herd.specs.Herd.{ofRoughage, roughageOn, outdoorOn, ofCattle, ofPigs, pigsOn, figuresIn, figuresOf}
+use Rattle.herd.proofs.Made.{Made, of-outdoor, made}
+use Rattle.herd.proofs.Bounds.{most, made-to}
 
 -- sections that are those of some figures are small, and give them
 module _ {f : FiguresIn cutting} (m : Made f) (e : Excretion) (y : Yard) (g : Grazing) (h : Housing) (is : together e y g h ≡ f) where

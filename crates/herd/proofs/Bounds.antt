@@ -23,8 +23,8 @@ use Rattle.outputs.specs.Sections.{FiguresIn}
 use Rattle.outputs.specs.Names.{excretion, yard, grazing, housing}
 use Rattle.outputs.specs.Grams.{gramsOf, To}
 use Rattle.outputs.proofs.Bounds.{SectionTo, sections-to}
-use Rattle.model.specs.Herd.{figuresOf}
-use Rattle.model.proofs.Made.{Made, of-roughage, of-outdoor, of-pigs, made}
+use Rattle.herd.specs.Herd.{figuresOf}
+use Rattle.herd.proofs.Made.{Made, of-roughage, of-outdoor, of-pigs, made}
 
 -- what no figure of a sound herd is above
 abbrev pub most : ℕ

@@ -15,7 +15,7 @@ ghost use Rattle.kinds.specs.Sound.{SoundOutdoor, SoundRoughage, SoundCattle, S
 ghost use Rattle.rates.specs.Bounds.{ModestRates};
 ghost use Rattle.excretion.specs.Excretion.{ofExcretion};
 ghost use Rattle.outputs.specs.Grams.{gramsOf};
-ghost use Rattle.model.specs.Herd.{ofRoughage, outdoorOn, ofCattle, ofPigs, figuresOf};
+ghost use Rattle.herd.specs.Herd.{ofRoughage, outdoorOn, ofCattle, ofPigs, figuresOf};
 
 fn roughage_figures(r: Roughage) -> Figures
     requires { ⌜ SoundRoughage r ⌝ }

@@ -1,9 +1,8 @@
--- `model::herd::roughage_figures` meets its contract, section by section.
--- Assumes nothing.
-use Rattle.model.proofs.Herds.{roughage-steps}
+-- `herd::roughage_figures` meets its contract, section by section. Assumes nothing.
+use Rattle.herd.proofs.Herds.{roughage-steps}
 use borrow.Author.Needs.{needs}
-use Rattle.model.proofs.herd.roughage_figures.Statement.{statement}
-use Rattle.model.proofs.herd.roughage_figures.Tie as tie
+use Rattle.herd.proofs.roughage_figures.Statement.{statement}
+use Rattle.herd.proofs.roughage_figures.Tie as tie
 
 n-excretion-animal-requires : tie.Need-n-excretion-animal-requires
 n-excretion-animal-requires c κs = search needs
