@@ -20,17 +20,17 @@ use Rattle.farm.proofs.Accepts.{farm-count, farm-each}
 use Rattle.farm.proofs.Left.{taken-at, taken-end}
 use Rattle.kinds.specs.declared.Inputs.{Inputs}
 use Rattle.kinds.specs.Sound.{Sound}
+use Rattle.notes.specs.declared.Notes.{Notes}
+use Rattle.notes.specs.Notes.{notesOf, noNotes}
 use Rattle.typed.specs.Typed.{typedOf}
 use Rattle.typed.proofs.Sound.{typed-sound}
 use Rattle.outputs.specs.declared.Figures.{Figures}
 use Rattle.outputs.specs.declared.Totals.{Totals}
-use Rattle.outputs.specs.Grams.{To, figureMost, plusGrams, zeros, noFigures, summed, totalGrams, totalsOf}
+use Rattle.outputs.specs.Grams.{To, figureMost, plusGrams, zeros, noFigures, summed, totalGrams}
 use Rattle.outputs.proofs.Adding.{plus-to, widen, zeros-to, totals-of-sum}
-use Rattle.model.specs.declared.HerdNotes.{HerdNotes}
-use Rattle.model.specs.Herd.{figuresOf}
-use Rattle.model.specs.Notes.{notesOf, noNotes}
+use Rattle.herd.specs.Herd.{figuresOf}
+use Rattle.herd.proofs.Bounds.{most, figures-to}
 use Rattle.model.specs.Answers.{Added, herdFigures, herdAnswer, farmAnswer}
-use Rattle.model.proofs.Bounds.{most, figures-to}
 
 -- figures of which the grams are none
 no-grams : (f : Figures) → f .grams ≡ zeros → f ≡ noFigures
@@ -45,12 +45,12 @@ module _ (h : Herd) (k : Checked) (q : k ≡ checkHerd h) where
   pub accepted-sound : (i : Inputs) → k ≡ Accepted → i ≡ typedOf h → Sound i
   accepted-sound i t e = rw e (typed-sound h (sym q ∙ t))
 
-  pub is-herd-answer : (i : Inputs) (f : Figures) (n : HerdNotes) → k ≡ Accepted → i ≡ typedOf h → f ≡ figuresOf i → n ≡ notesOf i
+  pub is-herd-answer : (i : Inputs) (f : Figures) (n : Notes) → k ≡ Accepted → i ≡ typedOf h → f ≡ figuresOf i → n ≡ notesOf i
       → record { checked = Accepted; figures = f; notes = n } ≡ herdAnswer h
   unfolding herdAnswer
   is-herd-answer i f n t e ef en = rw (← q, t, ef, en, e)
 
-  pub is-herd-refusal : (fault : Fault) (at-record : ℕ) (f : Figures) (n : HerdNotes) → k ≡ Refused fault at-record → f .grams ≡ zeros → n ≡ noNotes
+  pub is-herd-refusal : (fault : Fault) (at-record : ℕ) (f : Figures) (n : Notes) → k ≡ Refused fault at-record → f .grams ≡ zeros → n ≡ noNotes
       → record { checked = Refused fault at-record; figures = f; notes = n } ≡ herdAnswer h
   unfolding herdAnswer
   is-herd-refusal fault at-record f n t ef en = rw (← q, t, no-grams f ef, en)

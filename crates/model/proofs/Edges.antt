@@ -23,9 +23,9 @@ use Rattle.kinds.specs.declared.Inputs.the-variants.{Roughage, Cattle, Pigs}
 use Rattle.yard.specs.Yard.{«days_with_grazing_and_yard», shareLowered, «share_excretion_with_grazing», yardTime}
 use Rattle.pasture.specs.Pasture.{outdoorGrazingTime, roughageGrazingTime}
 use Rattle.housing.specs.Housing.{«c_grazing»}
+use Rattle.notes.specs.Notes.{notesOf}
 use Rattle.outputs.specs.Grams.{figure}
-use Rattle.model.specs.Herd.{figuresOf}
-use Rattle.model.specs.Notes.{notesOf}
+use Rattle.herd.specs.Herd.{figuresOf}
 
 -- one line of the table: a herd's figure under a name, a herd's note on its share or on its N, k at so many tenths of an hour, or c at so
 -- many days and tenths of an hour

@@ -40,10 +40,10 @@ use Rattle.outputs.specs.declared.Figures.{Figures}
 use Rattle.outputs.specs.Sections.{FiguresIn}
 use Rattle.outputs.specs.Grams.{gramsOf, figure, total, totalsOf}
 use Rattle.outputs.proofs.Alone.{isAlone, totals-balance}
-use Rattle.model.specs.Herd.{roughageOn, figuresOf}
+use Rattle.herd.specs.Herd.{roughageOn, figuresOf}
+use Rattle.herd.proofs.Made.{Made, of-roughage, of-outdoor, of-pigs, made, roughage-starts}
 use Rattle.model.specs.Answers.{herdFigures, farmAnswer}
 use Rattle.model.specs.Kept.{Balance, Balanced, farmBalances, yardBalances, Keeps, KeepsHousing, KeepsTotals}
-use Rattle.model.proofs.Made.{Made, of-roughage, of-outdoor, of-pigs, made, roughage-starts}
 
 -- ---- a herd
 

@@ -7,13 +7,13 @@ use Rattle.farm.specs.declared.Farm.{Farm}
 use Rattle.farm.specs.declared.Checked.{Checked}
 use Rattle.farm.specs.declared.Checked.the-variants.{Accepted, Refused}
 use Rattle.farm.specs.Checks.{checkHerd, checkFarm, herdsOf}
+use Rattle.notes.specs.Notes.{notesOf, noNotes}
 use Rattle.typed.specs.Typed.{typedOf}
 use Rattle.outputs.specs.declared.Figures.{Figures}
 use Rattle.outputs.specs.Grams.{noFigures, summed, totalsOf, To, figureMost}
+use Rattle.herd.specs.Herd.{figuresOf}
 use Rattle.model.specs.declared.HerdAnswer.{HerdAnswer}
 use Rattle.model.specs.declared.FarmAnswer.{FarmAnswer}
-use Rattle.model.specs.Herd.{figuresOf}
-use Rattle.model.specs.Notes.{notesOf, noNotes}
 
 -- the figures of a herd's record
 abbrev pub herdFigures : Herd → Figures

@@ -1,4 +1,2 @@
-pub mod Herd
-pub mod Notes
 pub mod Answers
 pub mod Kept

@@ -1,8 +1,6 @@
 // A record's figures, or its refusal. Nothing is asked of the record beforehand.
 use crate::FarmAnswer;
 use crate::HerdAnswer;
-use crate::herd;
-use crate::notes;
 use farm::Checked;
 use farm::Farm;
 use farm::Herd;
@@ -23,7 +21,7 @@ pub fn herd_answer(h: Herd) -> HerdAnswer
             HerdAnswer {
                 checked: Checked::Accepted,
                 figures: herd::figures(inputs),
-                notes: notes::notes_on(inputs),
+                notes: notes::notes_of(inputs),
             }
         }
         Checked::Refused(fault, record) => HerdAnswer {

@@ -30,7 +30,7 @@ use Rattle.yard.specs.Yard.{«days_with_grazing_and_yard», shareLowered, «sha
 use Rattle.pasture.specs.Pasture.{outdoorGrazingTime, roughageGrazingTime, gas}
 use Rattle.outputs.specs.Names.{texts, totalTexts, totalNumber}
 use Rattle.outputs.specs.Grams.{at, figure, total, farmTotal, totalsOf}
-use Rattle.model.specs.Herd.{figuresIn, figuresOf}
+use Rattle.herd.specs.Herd.{figuresIn, figuresOf}
 use Rattle.model.proofs.Edges.{C, row4}
 use Rattle.nearness.specs.ByName.{saidOf, saidAt}
 use Rattle.nearness.specs.Promised.{promised, _within_, promisedAt, promisedOfTotal}

@@ -22,7 +22,7 @@ use Rattle.outputs.specs.declared.Totals.{Totals}
 use Rattle.outputs.specs.Names.{totals, totalNumber, addends}
 use Rattle.outputs.specs.Grams.{at, total, farmTotal, totalsOf}
 use Rattle.outputs.proofs.ByNumber.{by-number-at, by-number-past}
-use Rattle.model.specs.Herd.{figuresOf}
+use Rattle.herd.specs.Herd.{figuresOf}
 use Rattle.nearness.specs.Promised.{promisedOfTotal}
 use Rattle.nearness.specs.Errors.{Errors, errorsAt, totalErrors}
 use Rattle.nearness.specs.Exact.{exactAt, exactOfTotal}

@@ -10,7 +10,7 @@ use Rattle.kinds.specs.Sound.{Sound, roughage, cattle, pigs}
 use Rattle.excretion.proofs.Modest.{roughage-grams-le, roughage-fraction-le}
 use Rattle.outputs.specs.Names.{number}
 use Rattle.outputs.specs.Grams.{at, figure}
-use Rattle.model.specs.Herd.{figuresOf}
+use Rattle.herd.specs.Herd.{figuresOf}
 use Rattle.nearness.specs.Promised.{promisedAt}
 use Rattle.nearness.specs.Errors.{errorsAt}
 use Rattle.nearness.specs.Exact.{exactOf, exactAt, exactFigure}

@@ -26,7 +26,7 @@ use Rattle.pasture.proofs.Times.{outdoor-grazing-time-le}
 use Rattle.pasture.proofs.Into.{outdoor-into-le, outdoor-pasture-modest}
 use Rattle.outputs.specs.Names.{figures}
 use Rattle.outputs.specs.Grams.{gramsOf}
-use Rattle.model.specs.Herd.{outdoorOn}
+use Rattle.herd.specs.Herd.{outdoorOn}
 use Rattle.nearness.specs.Errors.{cattleErrors}
 use Rattle.nearness.specs.Exact.{exact}
 use Rattle.nearness.proofs.Laws.{near-share}

@@ -11,7 +11,7 @@ use Rattle.rates.proofs.Modest.{pigs-rates-modest}
 use Rattle.excretion.specs.Excretion.{ExcretionIn}
 use Rattle.pasture.specs.Pasture.{pigsIntoGrazing}
 use Rattle.pasture.proofs.Into.{pigs-into-le, pigs-pasture-modest}
-use Rattle.model.specs.Herd.{pigsOn}
+use Rattle.herd.specs.Herd.{pigsOn}
 use Rattle.nearness.specs.Errors.{pigsErrors}
 use Rattle.nearness.specs.Exact.{exact}
 use Rattle.nearness.proofs.Figures.{_then_, near-at, NearFigures, _and_, near-no-yard, near-door}

@@ -19,7 +19,7 @@ use Rattle.pasture.proofs.Times.{roughage-grazing-time-le}
 use Rattle.pasture.proofs.Into.{roughage-into-le, roughage-pasture-modest, roughage-housing-modest}
 use Rattle.housing.specs.Housing.{«ef_nh3_nhousing», nh3InHousing}
 use Rattle.housing.proofs.InHousing.{factor-le}
-use Rattle.model.specs.Herd.{roughageOn}
+use Rattle.herd.specs.Herd.{roughageOn}
 use Rattle.nearness.specs.ByName.{said}
 use Rattle.nearness.specs.Errors.{exactly, roughageErrors}
 use Rattle.nearness.specs.Exact.{exact}

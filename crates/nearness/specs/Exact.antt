@@ -14,7 +14,7 @@ use Rattle.amounts.specs.Arithmetic.{Arithmetic}
 use Rattle.kinds.specs.declared.Inputs.{Inputs}
 use Rattle.outputs.specs.Sections.{FiguresIn}
 use Rattle.outputs.specs.Names.{figures, number, addends}
-use Rattle.model.specs.Herd.{figuresIn}
+use Rattle.herd.specs.Herd.{figuresIn}
 
 -- fractions, of which nothing is cut off; k is the sum of the terms, and not the table's entry
 abbrev pub exact : Arithmetic

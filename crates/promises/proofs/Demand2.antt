@@ -14,11 +14,11 @@ use Rattle.farm.specs.Checks.{checkHerd, checkFarm, herdsOf}
 use Rattle.reader.specs.Files.{readOf, accepted}
 use Rattle.rules.specs.Rules.{KeepsRules}
 use Rattle.rules.proofs.Accepts.{accepts-exactly}
+use Rattle.notes.specs.Notes.{notesOf}
 use Rattle.typed.specs.Typed.{typedOf}
 use Rattle.outputs.specs.Grams.{totalsOf}
+use Rattle.herd.specs.Herd.{figuresOf}
 use Rattle.model.specs.declared.HerdAnswer.{HerdAnswer}
-use Rattle.model.specs.Herd.{figuresOf}
-use Rattle.model.specs.Notes.{notesOf}
 use Rattle.model.specs.Answers.{herdFigures, herdAnswer, farmAnswer}
 use Rattle.listing.specs.declared.Written.{Written}
 use Rattle.listing.specs.declared.Written.the-variants.{Length}

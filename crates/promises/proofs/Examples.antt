@@ -20,7 +20,7 @@ use Rattle.rules.proofs.Examples.{pigs-keep}
 use Rattle.outputs.specs.declared.Figures.{Figures}
 use Rattle.kinds.specs.Choices.{housingAt}
 use Rattle.typed.specs.Typed.{typedOf, pigsOf}
-use Rattle.model.specs.Herd.{figuresOf}
+use Rattle.herd.specs.Herd.{figuresOf}
 use Rattle.model.specs.Answers.{herdFigures}
 use Rattle.listing.specs.Listing.{each, herdListing}
 use Rattle.listing.proofs.Examples.{pigFigures, pigLines, pig-listing}

@@ -19,7 +19,7 @@ use Rattle.outputs.specs.declared.Totals.{Totals}
 use Rattle.outputs.specs.Grams.{To, figureMost, plusGrams, zeros, totalGrams}
 use Rattle.outputs.proofs.Adding.{totals-of-sum}
 use Rattle.typed.specs.Typed.{typedOf}
-use Rattle.model.specs.Herd.{figuresOf}
+use Rattle.herd.specs.Herd.{figuresOf}
 use Rattle.model.specs.Answers.{herdFigures, farmAnswer}
 use Rattle.model.proofs.AnswerSteps.{Adding, Turned, turned, next-sound, adding-starts, adding-ends}
 use Rattle.listing.specs.Bounds.{longest}

@@ -14,9 +14,9 @@ use Rattle.farm.specs.declared.Fault.{Fault}
 use Rattle.farm.specs.Labels.{text}
 use Rattle.farm.specs.Checks.{herdsOf}
 use Rattle.farm.specs.Refusals.{number}
-use Rattle.model.specs.declared.HerdNotes.{HerdNotes}
+use Rattle.notes.specs.declared.Notes.{Notes}
 use Rattle.typed.specs.Typed.{typedOf}
-use Rattle.model.specs.Notes.{notesOf}
+use Rattle.notes.specs.Notes.{notesOf}
 use Rattle.model.specs.Answers.{herdFigures, farmAnswer}
 use Rattle.listing.specs.Listing.{each, labelField, herdListing, totalsListing}
 
@@ -38,7 +38,7 @@ abbrev pub yesOrNo : Bool → List ℕ
 yesOrNo b = pick b (bytes ",yes") (bytes ",no")
 
 -- a record of five fields: the label as in the listing, and 01's four notes in their order
-unfoldable pub noteLine : List ℕ → HerdNotes → List ℕ
+unfoldable pub noteLine : List ℕ → Notes → List ℕ
 noteLine label n =
     labelField label
     ++ yesOrNo (n .«n_off_standard»)

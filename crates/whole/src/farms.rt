@@ -1,6 +1,6 @@
 // An accepted farm's listing: "each herd, then the totals".
 use farm::Farm;
-use model::herd;
+
 use outputs::sums;
 ghost use mathlib.Core.Path.{_≡_};
 ghost use Prim.Native.Nat.{_≤_};

@@ -17,8 +17,8 @@ typed-of-requires c κs = search needs
 figures-requires : tie.Need-figures-requires
 figures-requires c κs = search (needs, herd-answers)
 
-notes-on-requires : tie.Need-notes-on-requires
-notes-on-requires c κs = search (needs, herd-answers)
+notes-of-requires : tie.Need-notes-of-requires
+notes-of-requires c κs = search (needs, herd-answers)
 
 enum-known-fault : tie.Need-enum-known-fault
 enum-known-fault c = search needs
@@ -43,7 +43,7 @@ herd-answer-spec =
     enum-told
     typed-of-requires
     figures-requires
-    notes-on-requires
+    notes-of-requires
     enum-known-fault
     no-figures-requires
     no-notes-requires

@@ -1,0 +1,21 @@
+-- `herd::cattle_figures` meets its contract: what cattle excrete is modest, and their rates are those of 2.35. Assumes nothing.
+use borrow.Author.Needs.{needs}
+use Rattle.herd.proofs.Herds.{cattle-steps}
+use Rattle.herd.proofs.cattle_figures.Statement.{statement}
+use Rattle.herd.proofs.cattle_figures.Tie as tie
+
+excreted-requires : tie.Need-excreted-requires
+excreted-requires c κs = search needs
+
+cattle-rates-requires : tie.Need-cattle-rates-requires
+cattle-rates-requires c κs = search needs
+
+outdoor-figures-requires : tie.Need-outdoor-figures-requires
+outdoor-figures-requires c κs = search (needs, cattle-steps)
+
+returns : tie.Need-returns
+returns c = search (needs, cattle-steps)
+
+pub cattle-figures-spec : {M : Type 1} → statement M
+cattle-figures-spec =
+    tie.close (tie.spec excreted-requires cattle-rates-requires outdoor-figures-requires returns)

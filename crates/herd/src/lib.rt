@@ -1,0 +1,77 @@
+// A herd's figures, kind by kind: excretion, yard, pasture, and what remains for the housing.
+use excretion::Excretion;
+use kinds::Cattle;
+use kinds::Inputs;
+use kinds::Outdoor;
+use kinds::Pigs;
+use kinds::Roughage;
+use outputs::Figures;
+use outputs::parts;
+use rates::Rates;
+ghost use mathlib.Core.Path.{_≡_};
+ghost use Rattle.amounts.specs.Arithmetic.{cutting};
+ghost use Rattle.amounts.specs.Bounds.{Modest};
+ghost use Rattle.kinds.specs.Sound.{SoundOutdoor, SoundRoughage, SoundCattle, SoundPigs, Sound};
+ghost use Rattle.rates.specs.Bounds.{ModestRates};
+ghost use Rattle.excretion.specs.Excretion.{ofExcretion};
+ghost use Rattle.outputs.specs.Grams.{gramsOf};
+ghost use Rattle.herd.specs.Herd.{ofRoughage, outdoorOn, ofCattle, ofPigs, figuresOf};
+
+fn roughage_figures(r: Roughage) -> Figures
+    requires { ⌜ SoundRoughage r ⌝ }
+    ensures { λ f. ⌜ f .grams ≡ gramsOf (ofRoughage cutting r) ⌝ }
+{
+    let entered_n = r.inp_n_excretion;
+    let entered_tan = r.tan_fraction;
+    let grams = excretion::n_excretion_animal(r.animalcategory, entered_n);
+    let fraction = excretion::tan_fraction(entered_tan);
+    let e = excretion::excreted(r.animals, grams, fraction);
+    let g = pasture::roughage_grazing(r, e.n_excretion, e.tan_excretion);
+    let n = e.n_excretion - g.n_into_grazing;
+    let tan = e.tan_excretion - g.tan_into_grazing;
+    parts::by_number(e, yard::no_yard(), g, housing::in_housing(r, n, tan))
+}
+
+// A herd with a yard, at its kind's rates, from what it excretes.
+fn outdoor_figures(r: Rates, o: Outdoor, e: Excretion) -> Figures
+    requires { ⌜ ModestRates r × SoundOutdoor o × Modest (e .«n_excretion») (e .«tan_excretion») ⌝ }
+    ensures { λ f. ⌜ f .grams ≡ gramsOf (outdoorOn cutting r o (ofExcretion e)) ⌝ }
+{
+    let y = yard::on_yard(o, e.n_excretion, e.tan_excretion);
+    let g = pasture::outdoor_grazing(r, o, e.n_excretion, e.tan_excretion);
+    let n = e.n_excretion - y.n_into_yard - g.n_into_grazing;
+    let tan = e.tan_excretion - y.tan_into_yard - g.tan_into_grazing;
+    parts::by_number(e, y, g, housing::through_door(n, tan))
+}
+
+fn cattle_figures(c: Cattle) -> Figures
+    requires { ⌜ SoundCattle c ⌝ }
+    ensures { λ f. ⌜ f .grams ≡ gramsOf (ofCattle cutting c) ⌝ }
+{
+    let outdoor = c.outdoor;
+    let e = excretion::excreted(c.animals, c.inp_n_excretion, c.tan_fraction);
+    outdoor_figures(rates::cattle_rates(), outdoor, e)
+}
+
+fn pigs_figures(p: Pigs) -> Figures
+    requires { ⌜ SoundPigs p ⌝ }
+    ensures { λ f. ⌜ f .grams ≡ gramsOf (ofPigs cutting p) ⌝ }
+{
+    let housing_type = p.housing_type;
+    let e = excretion::excreted(p.animals, p.inp_n_excretion, p.tan_fraction);
+    let g = pasture::pigs_grazing(housing_type, e.n_excretion, e.tan_excretion);
+    let n = e.n_excretion - g.n_into_grazing;
+    let tan = e.tan_excretion - g.tan_into_grazing;
+    parts::by_number(e, yard::no_yard(), g, housing::through_door(n, tan))
+}
+
+pub fn figures(inputs: Inputs) -> Figures
+    requires { ⌜ Sound inputs ⌝ }
+    ensures { λ f. ⌜ f ≡ figuresOf inputs ⌝ }
+{
+    match inputs {
+        Inputs::Roughage(r) => roughage_figures(r),
+        Inputs::Cattle(c) => cattle_figures(c),
+        Inputs::Pigs(p) => pigs_figures(p),
+    }
+}

@@ -1,0 +1,46 @@
+-- 01, "Notes": each a yes or no beside a herd's figures. `standard` gives none, and a kind that lacks the input gives none.
+use Prim.Native.Nat.{ℕ, _+_, _*_}
+use mathlib.Core.Bool.{Bool, false, not, _||_}
+use lib.Dec.{ltb, eqb}
+use Rattle.tables.specs.Standards.{standardOf, «share_Nsol»}
+use Rattle.kinds.specs.declared.Entered.{Entered}
+use Rattle.kinds.specs.declared.Entered.the-variants.{Standard, Number}
+use Rattle.kinds.specs.declared.Roughage.{Roughage}
+use Rattle.kinds.specs.declared.Cattle.{Cattle}
+use Rattle.kinds.specs.declared.Inputs.{Inputs}
+use Rattle.kinds.specs.declared.Inputs.the-variants as kinds
+use Rattle.yard.specs.Yard.{shareLowered}
+use Rattle.notes.specs.declared.Notes.{Notes}
+
+-- 2.84, n_excretion_animal: below 0.7 or above 1.3 of the standard, in tenths
+abbrev pub offStandard : ℕ → Entered → Bool
+offStandard category Standard = false
+offStandard category (Number grams) = ltb (10 * grams) (7 * standardOf category) || ltb (13 * standardOf category) (10 * grams)
+
+-- 2.84, tan_excretion: off share_Nsol by more than 0.2, in ten-thousandths
+abbrev pub offShare : Entered → Bool
+offShare Standard = false
+offShare (Number fraction) = ltb (fraction + 2000) «share_Nsol» || ltb («share_Nsol» + 2000) fraction
+
+-- 2.33, 2.86: the free factor is not 0
+abbrev pub freeEntered : ℕ → Bool
+freeEntered free = not (eqb free 0)
+
+abbrev pub noted : Bool → Bool → Bool → Bool → Notes
+noted n tan free share = record { «n_off_standard» = n; «tan_off_standard» = tan; «free_factor» = free; «share_lowered» = share }
+
+abbrev pub roughageNotes : Roughage → Notes
+roughageNotes r =
+    noted (offStandard (r .animalcategory) (r .«inp_n_excretion»)) (offShare (r .«tan_fraction»)) (freeEntered (r .«free_correction_factor»)) false
+
+-- the share is lowered: 2.34, share_excretion_with_grazing
+abbrev pub cattleNotes : Cattle → Notes
+cattleNotes c = noted false false (freeEntered (c .outdoor .«free_correction_factor»)) (shareLowered (c .outdoor))
+
+abbrev pub noNotes : Notes
+noNotes = noted false false false false
+
+unfoldable pub notesOf : Inputs → Notes
+notesOf (kinds.Roughage r) = roughageNotes r
+notesOf (kinds.Cattle c) = cattleNotes c
+notesOf (kinds.Pigs p) = noNotes

@@ -1,0 +1,100 @@
+// 01, Notes: what an adviser is told beside the figures.
+use amounts::TENTHS;
+use kinds::Cattle;
+use kinds::Entered;
+use kinds::Inputs;
+use kinds::Roughage;
+ghost use mathlib.Core.Path.{_≡_};
+ghost use Rattle.amounts.specs.Units.{tenThousandths};
+ghost use Rattle.kinds.specs.Sound.{EnteredTo, SoundRoughage, SoundCattle, Sound, mostGrams};
+ghost use Rattle.notes.specs.Notes.{offStandard, offShare, roughageNotes, cattleNotes, noNotes, notesOf};
+
+pub struct Notes {
+    pub n_off_standard: bool,
+    pub tan_off_standard: bool,
+    pub free_factor: bool,
+    pub share_lowered: bool,
+}
+
+// Below 0.7 or above 1.3 of the standard, in tenths; off the share by more than 0.2, in ten-thousandths.
+const LOW: u64 = 7;
+
+const HIGH: u64 = 13;
+
+const OFF: u64 = 2000;
+
+fn n_off_standard(category: u64, entered: Entered) -> bool
+    requires { ⌜ EnteredTo mostGrams entered ⌝ }
+    ensures { λ r. ⌜ r ≡ offStandard category entered ⌝ }
+{
+    let Entered::Number(grams) = entered else {
+        return false;
+    };
+    let standard = tables::standard(category);
+    if TENTHS * grams < LOW * standard {
+        return true;
+    }
+    HIGH * standard < TENTHS * grams
+}
+
+fn tan_off_standard(entered: Entered) -> bool
+    requires { ⌜ EnteredTo tenThousandths entered ⌝ }
+    ensures { λ r. ⌜ r ≡ offShare entered ⌝ }
+{
+    let Entered::Number(fraction) = entered else {
+        return false;
+    };
+    if fraction + OFF < tables::SHARE_NSOL {
+        return true;
+    }
+    tables::SHARE_NSOL + OFF < fraction
+}
+
+fn roughage_notes(r: Roughage) -> Notes
+    requires { ⌜ SoundRoughage r ⌝ }
+    ensures { λ n. ⌜ n ≡ roughageNotes r ⌝ }
+{
+    let entered_n = r.inp_n_excretion;
+    let entered_tan = r.tan_fraction;
+    Notes {
+        n_off_standard: n_off_standard(r.animalcategory, entered_n),
+        tan_off_standard: tan_off_standard(entered_tan),
+        free_factor: r.free_correction_factor != 0,
+        share_lowered: false,
+    }
+}
+
+fn cattle_notes(c: Cattle) -> Notes
+    requires { ⌜ SoundCattle c ⌝ }
+    ensures { λ n. ⌜ n ≡ cattleNotes c ⌝ }
+{
+    let outdoor = c.outdoor;
+    Notes {
+        n_off_standard: false,
+        tan_off_standard: false,
+        free_factor: outdoor.free_correction_factor != 0,
+        share_lowered: yard::share_lowered(outdoor),
+    }
+}
+
+pub fn no_notes() -> Notes
+    ensures { λ n. ⌜ n ≡ noNotes ⌝ }
+{
+    Notes {
+        n_off_standard: false,
+        tan_off_standard: false,
+        free_factor: false,
+        share_lowered: false,
+    }
+}
+
+pub fn notes_of(inputs: Inputs) -> Notes
+    requires { ⌜ Sound inputs ⌝ }
+    ensures { λ n. ⌜ n ≡ notesOf inputs ⌝ }
+{
+    match inputs {
+        Inputs::Roughage(r) => roughage_notes(r),
+        Inputs::Cattle(c) => cattle_notes(c),
+        Inputs::Pigs(_) => no_notes(),
+    }
+}
