@@ -1,6 +1,5 @@
 // An accepted farm's listing: "each herd, then the totals".
 use farm::Farm;
-
 use outputs::sums;
 ghost use mathlib.Core.Path.{_≡_};
 ghost use Prim.Native.Nat.{_≤_};
