@@ -7,6 +7,9 @@ ghost use Rattle.base.specs.Wrote.{Wrote};
 ghost use Rattle.whole.specs.Lines.{refusalLine};
 ghost use Rattle.whole.specs.Rooms.{lineRoom};
 
+// Longer than any refusal's line.
+pub const LINE_ROOM: usize = 64;
+
 pub fn put_refusal(out: &mut [u8], fault: Fault, record: usize) -> usize
     requires { ⌜ lineRoom ≤ length (now out) ⌝ }
     ensures { λ r. ⌜ Wrote (now (out .entry)) 0 (refusalLine fault «record») (now (out .exit)) r × (r ≤ lineRoom) ⌝ }

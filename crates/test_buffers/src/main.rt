@@ -1,5 +1,6 @@
 // Lent buffers of all lengths: 13 below the listing's length, and nothing written; from it on the listing, and every byte past it as it was.
-use crate::records;
+// And herds past the last, whose listing is empty. The expected output is worked out from 01.
+use farm::Farm;
 use farm::faults;
 use listing::Written;
 use printing::tell;
@@ -20,38 +21,41 @@ const TOTALS_LENGTH: usize = 597;
 
 const NUMBER_13: u64 = 13;
 
+// A writing call: of a record, of a file, or of a file's herd.
 enum Call {
     Herd,
-    FileHerd,
-    PastLast,
-    FarPastLast,
-    OfNoHerds,
     Totals,
     FileTotals,
+    FileHerd(usize),
+    OfNoHerds,
 }
 
-fn write_of_file(herd: usize, out: &mut [u8]) -> Written {
-    calls::file_herd_listing(&PIGS, herd, out)
+fn farm() -> Farm {
+    let answer = calls::read_farm(&PIGS);
+    answer.farm
 }
 
-fn write_by(which: Call, out: &mut [u8]) -> Written {
-    match which {
-        Call::Herd => calls::herd_listing(records::pigs(), out),
-        Call::FileHerd => write_of_file(0, out),
-        Call::PastLast => write_of_file(1, out),
-        Call::FarPastLast => write_of_file(usize::MAX, out),
-        Call::OfNoHerds => calls::file_herd_listing(b"", 0, out),
-        Call::Totals => calls::totals_listing(records::farm_of(records::pigs(), 1), out),
+fn write_herd(f: Farm, out: &mut [u8]) -> Written {
+    let h = f.herds[0];
+    calls::herd_listing(h, out)
+}
+
+fn write_by(call: Call, out: &mut [u8]) -> Written {
+    match call {
+        Call::Herd => write_herd(farm(), out),
+        Call::Totals => calls::totals_listing(farm(), out),
         Call::FileTotals => calls::file_totals_listing(&PIGS, out),
+        Call::FileHerd(herd) => calls::file_herd_listing(&PIGS, herd, out),
+        Call::OfNoHerds => calls::file_herd_listing(b"", 0, out),
     }
 }
 
 // The call with the first `size` bytes of a buffer, as far as it has them.
-fn write_part(which: Call, out: &mut [u8], size: usize) -> Written {
+fn write_part(call: Call, out: &mut [u8], size: usize) -> Written {
     if out.len() < size {
-        return write_by(which, out);
+        return write_by(call, out);
     }
-    write_by(which, &mut out[..size])
+    write_by(call, &mut out[..size])
 }
 
 fn one_if(is: bool) -> usize
@@ -79,57 +83,49 @@ fn is_13(written: Written) -> bool {
 }
 
 // Is a buffer of this size refused with 13 and left as it was?
-fn is_refused(which: Call, size: usize) -> bool {
+fn is_refused(call: Call, size: usize) -> bool {
     let mut out = [MARK; ROOM];
-    let written = write_part(which, &mut out, size);
+    let written = write_part(call, &mut out, size);
     is_13(written) && marks(&out) == ROOM
 }
 
 // How many of the sizes from 0 to before `length` are.
-fn refused_sizes(which: Call, length: usize) -> usize {
+fn refused_sizes(call: Call, length: usize) -> usize {
     let mut count = 0;
     let mut size = 0;
     while size < length {
-        count += one_if(is_refused(which, size));
+        count += one_if(is_refused(call, size));
         size += 1;
     }
     count
 }
 
 // A buffer of this size: the answer, how many marks are left, and the bytes where the listing goes.
-fn show(which: Call, size: usize, length: usize) {
+fn show(call: Call, size: usize, length: usize) {
     let mut out = [MARK; ROOM];
-    let written = write_part(which, &mut out, size);
+    let written = write_part(call, &mut out, size);
     tell::written_line(written);
     tell::number(marks(&out) as u64);
     tell::line(base::part_of(&out, 0, length));
 }
 
 // All sizes below the listing's length, the length, a longer one, and one that any listing fits.
-fn sizes(name: &[u8], which: Call, length: usize, longer: usize) {
+fn sizes(name: &[u8], call: Call, length: usize)
+    requires { ⌜ length ≤ 2048 ⌝ }
+{
     tell::line(name);
-    tell::number(refused_sizes(which, length) as u64);
-    show(which, length, length);
-    show(which, longer, length);
-    show(which, ROOM, length);
+    tell::number(refused_sizes(call, length) as u64);
+    show(call, length, length);
+    show(call, length + 3, length);
+    show(call, ROOM, length);
 }
 
-pub fn run() {
-    sizes(b"herd", Call::Herd, HERD_LENGTH, HERD_LENGTH + 3);
-    sizes(
-        b"herd of a file",
-        Call::FileHerd,
-        HERD_LENGTH,
-        HERD_LENGTH + 3,
-    );
-    sizes(b"totals", Call::Totals, TOTALS_LENGTH, TOTALS_LENGTH + 3);
-    sizes(
-        b"totals of a file",
-        Call::FileTotals,
-        TOTALS_LENGTH,
-        TOTALS_LENGTH + 3,
-    );
-    sizes(b"past the last herd", Call::PastLast, 0, 3);
-    sizes(b"far past the last herd", Call::FarPastLast, 0, 3);
-    sizes(b"of no herds", Call::OfNoHerds, 0, 3);
+fn main() {
+    sizes(b"herd", Call::Herd, HERD_LENGTH);
+    sizes(b"herd of a file", Call::FileHerd(0), HERD_LENGTH);
+    sizes(b"totals", Call::Totals, TOTALS_LENGTH);
+    sizes(b"totals of a file", Call::FileTotals, TOTALS_LENGTH);
+    sizes(b"past the last herd", Call::FileHerd(1), 0);
+    sizes(b"far past the last herd", Call::FileHerd(usize::MAX), 0);
+    sizes(b"of no herds", Call::OfNoHerds, 0);
 }

@@ -1,15 +1,15 @@
--- `test_edges::buffers::refused_sizes` is safe and ends. No more are counted than sizes passed; the measure is the number of sizes left.
+-- `test_buffers::refused_sizes` is safe and ends. No more are counted than sizes passed; the measure is the number of sizes left.
 -- Assumes nothing.
 use Prim.Native.Nat.{_-_, _≤_}
 use borrow.Author.Needs.{needs}
-use Rattle.test_edges.proofs.buffers.refused_sizes.Statement.{statement}
-use Rattle.test_edges.proofs.buffers.refused_sizes.Tie as tie
+use Rattle.test_buffers.proofs.refused_sizes.Statement.{statement}
+use Rattle.test_buffers.proofs.refused_sizes.Tie as tie
 
 abbrev Inv-loop : tie.InvT-loop
-Inv-loop which length count₀ size₀ count size = count ≤ size
+Inv-loop call length count₀ size₀ count size = count ≤ size
 
 abbrev μ-loop : tie.MeasureT-loop
-μ-loop which length count₀ size₀ count size = length - size
+μ-loop call length count₀ size₀ count size = length - size
 
 loop-holds : tie.Need-loop-holds Inv-loop μ-loop
 loop-holds c = search needs

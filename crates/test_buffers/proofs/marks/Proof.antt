@@ -1,10 +1,10 @@
--- `test_edges::buffers::marks` is safe and ends. No more are counted than bytes passed; the measure is what is left of the buffer.
+-- `test_buffers::marks` is safe and ends. No more are counted than bytes passed; the measure is what is left of the buffer.
 -- Assumes nothing.
 use Prim.Native.Nat.{_-_, _≤_}
 use lib.ListN.{length}
 use borrow.Author.Needs.{needs}
-use Rattle.test_edges.proofs.buffers.marks.Statement.{statement}
-use Rattle.test_edges.proofs.buffers.marks.Tie as tie
+use Rattle.test_buffers.proofs.marks.Statement.{statement}
+use Rattle.test_buffers.proofs.marks.Tie as tie
 
 abbrev Inv-loop : tie.InvT-loop
 Inv-loop out count₀ i₀ count i = count ≤ i

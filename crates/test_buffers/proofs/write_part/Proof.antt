@@ -1,10 +1,10 @@
--- `test_edges::buffers::write_part` is safe: the part is within the buffer.
+-- `test_buffers::write_part` is safe: the part is within the buffer.
 -- Assumes nothing.
 use mathlib.Core.Path.{sym}
 use lib.Seq.{length-take-le}
 use borrow.Author.Needs.{needs}
-use Rattle.test_edges.proofs.buffers.write_part.Statement.{statement}
-use Rattle.test_edges.proofs.buffers.write_part.Tie as tie
+use Rattle.test_buffers.proofs.write_part.Statement.{statement}
+use Rattle.test_buffers.proofs.write_part.Tie as tie
 
 write-by-requires : tie.Need-write-by-requires
 write-by-requires c κs = search needs

@@ -1,0 +1,58 @@
+// What the calls answer to a record that is handed in. The writing calls get a buffer that no listing fits, so that a good record's answer
+// is 13.
+use farm::Farm;
+use farm::Herd;
+use outputs::names;
+use outputs::total_names;
+use printing::tell;
+
+const SHORT: usize = 8;
+
+// What is excreted is never below zero.
+fn not_below(grams: i64) -> u64 {
+    if grams < 0 {
+        return 0;
+    }
+    grams as u64
+}
+
+// The answer's grams are zero where it is refused.
+fn figures(h: Herd) {
+    let answer = calls::herd_figures(h);
+    let checked = answer.checked;
+    tell::checked_line(checked);
+    let grams = answer.figures.grams[names::N_EXCRETION];
+    tell::number(not_below(grams));
+}
+
+fn herd_listing(h: Herd) {
+    let mut out = [b'#'; SHORT];
+    let written = calls::herd_listing(h, &mut out);
+    tell::written_line(written);
+    tell::line(&out);
+}
+
+fn totals(f: Farm) {
+    let answer = calls::farm_totals(f);
+    let checked = answer.checked;
+    tell::checked_line(checked);
+    let grams = answer.totals.grams[total_names::N_EXCRETION];
+    tell::number(not_below(grams));
+}
+
+fn totals_listing(f: Farm) {
+    let mut out = [b'#'; SHORT];
+    let written = calls::totals_listing(f, &mut out);
+    tell::written_line(written);
+    tell::line(&out);
+}
+
+pub fn of_herd(h: Herd) {
+    figures(h);
+    herd_listing(h);
+}
+
+pub fn of_farm(f: Farm) {
+    totals(f);
+    totals_listing(f);
+}

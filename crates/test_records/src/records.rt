@@ -1,0 +1,90 @@
+// A good record, and records changed in one place.
+use crate::script::Change;
+use farm::Farm;
+use farm::Given;
+use farm::Herd;
+use farm::Label;
+use farm::Slot;
+use inputs::Kind;
+
+const SLOTS: usize = 9;
+
+const LABEL_BYTES: usize = 16;
+
+const HERDS: usize = 64;
+
+fn value(v: u32) -> Slot {
+    Slot {
+        given: Given::Value(v),
+    }
+}
+
+// 01's pigs: 10 head, 13 kg, 70 percent, outdoor.
+pub fn pigs() -> Herd {
+    let missing = Slot {
+        given: Given::Missing,
+    };
+    let mut slots = [missing; SLOTS];
+    slots[0] = value(10);
+    slots[1] = value(13000);
+    slots[2] = value(7000);
+    slots[3] = value(4);
+    Herd {
+        label: Label {
+            bytes: *b"P1..............",
+            len: 2,
+        },
+        kind: Kind::Pigs,
+        slots,
+    }
+}
+
+fn label_after(old: Label, change: Change) -> Label {
+    let mut label = old;
+    let place = change.place;
+    if change.what == b'L' {
+        label.len = place;
+    }
+    if change.what == b'B' {
+        if place < LABEL_BYTES {
+            label.bytes[place] = (change.value % 256) as u8;
+        }
+    }
+    label
+}
+
+fn given_by(change: Change) -> Given {
+    let what = change.what;
+    match what {
+        b'V' => Given::Value(change.value),
+        b'S' => Given::Standard,
+        _ => Given::Missing,
+    }
+}
+
+fn is_of_label(what: u8) -> bool {
+    what == b'L' || what == b'B'
+}
+
+pub fn changed(h: Herd, change: Change) -> Herd {
+    let mut herd = h;
+    if is_of_label(change.what) {
+        let label = label_after(h.label, change);
+        herd.label = label;
+        return herd;
+    }
+    let place = change.place;
+    if change.what != b'-' && place < SLOTS {
+        herd.slots[place] = Slot {
+            given: given_by(change),
+        };
+    }
+    herd
+}
+
+// A farm of `count` herds, all the first but for the one after it.
+pub fn farm_of(first: Herd, second: Herd, count: usize) -> Farm {
+    let mut herds = [first; HERDS];
+    herds[1] = second;
+    Farm { herds, count }
+}
