@@ -1,5 +1,5 @@
--- A portion of an amount, and the rest of it: what the code's cut division needs, and that the TAN stays no more than the N.
--- Assumes nothing.
+-- A portion of an amount, and the rest of it: what the code's cut division needs, and that the TAN stays no more than
+-- the N. Assumes nothing.
 use mathlib.Core.Path.{_≡_, refl}
 use Prim.Native.Nat.{ℕ, _+_, _-_, _*_, _/_, _≤_, _<_, _^_}
 use native.Mathlib.Nat.{mul-le-mul-left, le-refl, le-trans, add-mul-div-right}
@@ -36,7 +36,8 @@ module _ (n tan shares of : ℕ) (m : Modest n tan) where
   modest-share h = record { n-most = le-trans (part-le n shares of h) (m .n-most); tan-most = tan-in-n }
 
   -- of two portions that the code has made
-  pub modest-portion : (a b : Quotient) → PortionOf n shares of a → PortionOf tan shares of b → Modest (a .whole) (b .whole)
+  pub modest-portion : (a b : Quotient) → PortionOf n shares of a → PortionOf tan shares of b
+      → Modest (a .whole) (b .whole)
   modest-portion a b p q = record { n-most = omega arith; tan-most = omega (arith, tan-in-n) }
 
 -- ---- the rest: a larger amount has no smaller rest
@@ -52,6 +53,7 @@ rest-grows x y shares of h k l =
     let g : y * shares / of ≤ x * shares / of + (y - x) = rw e at (portion-grows x (y - x) shares of h k) in
     omega arith
 
-pub modest-rest : (n tan shares of : ℕ) → Modest n tan → 0 < of → shares ≤ of → Modest (n - portion cutting n shares of) (tan - portion cutting tan shares of)
+pub modest-rest : (n tan shares of : ℕ) → Modest n tan → 0 < of → shares ≤ of
+    → Modest (n - portion cutting n shares of) (tan - portion cutting tan shares of)
 modest-rest n tan shares of m h k =
     record { n-most = omega (arith, m .n-most); tan-most = rest-grows tan n shares of h k (m .tan-most) }

@@ -1,6 +1,7 @@
--- The formulas of the model are written once, over an arithmetic that says what an amount is and what dividing one does. Two are used:
--- `cutting`, on whole grams with every division rounded down, which the code computes; and `exact` of crate `nearness`, on fractions with
--- nothing cut off, which says what the exact value of a figure is (01, Steps and cuts; demand 3).
+-- The formulas of the model are written once, over an arithmetic that says what an amount is and what dividing one
+-- does. Two are used: `cutting`, on whole grams with every division rounded down, which the code computes; and `exact`
+-- of crate `nearness`, on fractions with nothing cut off, which says what the exact value of a figure is (01, Steps and
+-- cuts; demand 3).
 use Prim.Native.Nat.{ℕ, _+_, _-_, _*_}
 use lib.IntN.{ℤ, pos, _-ℤ_}
 use Rattle.cut.specs.Cut.{_cutBy_, least}
@@ -11,7 +12,8 @@ pub record Arithmetic : Type 1 where
   pub Amount : Type 0
   pub whole : ℕ → Amount
   pub _⊕_ : Amount → Amount → Amount
-  -- on whole grams it stops at zero; that no figure comes to that, the balances show (`kept` and `kept-in-housing` of crate `model`)
+  -- on whole grams it stops at zero; that no figure comes to that, the balances show (`kept` and `kept-in-housing` of
+  -- crate `model`)
   pub _⊖_ : Amount → Amount → Amount
   pub _⊗_ : Amount → Amount → Amount
   -- the only place where something may be cut off

@@ -1,5 +1,5 @@
--- What the contracts of the formulas' code ask and promise of sizes, so that products fit 64 bits and nothing is taken from less. No figure of
--- 001 is defined here.
+-- What the contracts of the formulas' code ask and promise of sizes, so that products fit 64 bits and nothing is taken
+-- from less. No figure of 001 is defined here.
 use mathlib.Core.Path.{_≡_}
 use Prim.Native.Nat.{ℕ, _*_, _≤_, _<_, _^_}
 use Rattle.cut.specs.declared.Quotient.{Quotient}

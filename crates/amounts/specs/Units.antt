@@ -1,5 +1,6 @@
--- The units of the formulas: shares and hours in tenths, floor and free factor in percent, fractions and rates in ten-thousandths, the
--- housing's rate in thousandths, its factors in billionths. And the year and the day. (01, Steps and cuts.)
+-- The units of the formulas: shares and hours in tenths, floor and free factor in percent, fractions and rates in
+-- ten-thousandths, the housing's rate in thousandths, its factors in billionths. And the year and the day. (01, Steps
+-- and cuts.)
 use Prim.Native.Nat.{ℕ, _*_}
 
 abbrev pub tenths : ℕ

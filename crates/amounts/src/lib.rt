@@ -1,5 +1,5 @@
-// The units of the formulas, and a portion of an amount with one cut. Every division of the formulas is that of `portion`, but for
-// c_grazing, which cuts a sum.
+// The units of the formulas, and a portion of an amount with one cut. Every division of the formulas is that of
+// `portion`, but for c_grazing, which cuts a sum.
 use cut::Quotient;
 ghost use Rattle.amounts.specs.Bounds.{Modest, Fit, PortionOf, PortionsOf};
 
@@ -21,7 +21,7 @@ pub const TEN_THOUSANDTHS: u64 = 10000;
 
 pub const BILLIONTHS: u64 = 1000000000;
 
-// The same portion of the N and of the TAN in it.
+// A portion of the N, and the same of the TAN in it.
 pub struct Parts {
     pub n: Quotient,
     pub tan: Quotient,
@@ -35,6 +35,7 @@ pub fn portion(amount: u64, shares: u64, of: u64) -> Quotient
     cut::cut(amount * shares, of)
 }
 
+// "Done for N and for TAN" (01).
 pub fn portions(n: u64, tan: u64, shares: u64, of: u64) -> Parts
     requires { ⌜ Modest n tan × Fit n shares of ⌝ }
     ensures { λ r. ⌜ PortionsOf n tan shares of r ⌝ }

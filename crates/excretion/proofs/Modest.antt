@@ -1,4 +1,5 @@
--- What the animals excrete is modest: the N of the largest herd fits, and the TAN is no more than the N. Assumes nothing.
+-- What the animals excrete is modest: the N of the largest herd fits, and the TAN is no more than the N.
+-- Assumes nothing.
 use mathlib.Core.Path.{_≡_, refl, ap}
 use Prim.Native.Nat.{ℕ, _*_, _≤_}
 use native.Mathlib.Omega.{arith}
@@ -19,7 +20,8 @@ use Rattle.excretion.specs.Excretion.{«n_excretion_animal», tanFractio
 
 -- ---- what a roughage herd enters, or leaves to the standard
 
-grams-le : (category : ℕ) {entered : Entered} → EnteredTo mostGrams entered → «n_excretion_animal» category entered ≤ mostGrams
+grams-le : (category : ℕ) {entered : Entered} → EnteredTo mostGrams entered
+    → «n_excretion_animal» category entered ≤ mostGrams
 grams-le category standard = omega (arith, standard-most category)
 grams-le category (number h) = h
 
@@ -36,15 +38,18 @@ module _ (r : Roughage) (s : SoundRoughage r) where
 
 -- ---- N and TAN
 
-module _ (animals grams fraction : ℕ) (ha : animals ≤ mostAnimals) (hg : grams ≤ mostGrams) (hf : fraction ≤ tenThousandths) where
+module _ (animals grams fraction : ℕ) (ha : animals ≤ mostAnimals) (hg : grams ≤ mostGrams)
+    (hf : fraction ≤ tenThousandths) where
   n-le : animals * grams ≤ mostN
   n-le = mul-to mostAnimals mostGrams tt ha hg
 
-  pub excreted-modest : Modest (excreted cutting animals grams fraction .«n_excretion») (excreted cutting animals grams fraction .«tan_excretion»)
+  pub excreted-modest : let e = excreted cutting animals grams fraction in
+      Modest (e .«n_excretion») (e .«tan_excretion»)
   excreted-modest = record { n-most = n-le; tan-most = part-le (animals * grams) fraction tenThousandths hf }
 
   -- so is what the code's struct holds
-  pub excretion-modest : (e : Excretion) → ofExcretion e ≡ excreted cutting animals grams fraction → Modest (e .«n_excretion») (e .«tan_excretion»)
+  pub excretion-modest : (e : Excretion) → ofExcretion e ≡ excreted cutting animals grams fraction
+      → Modest (e .«n_excretion») (e .«tan_excretion»)
   excretion-modest e is = rw (ap (λ x. x .«n_excretion») is, ap (λ x. x .«tan_excretion») is) excreted-modest
 
   -- the code's steps
@@ -55,7 +60,8 @@ module _ (animals grams fraction : ℕ) (ha : animals ≤ mostAnimals) (hg : gra
   fraction-fit = record { amount-most = omega (arith, n-le); of-most = omega arith; above = omega arith; within = hf }
 
   pub is-excretion : (tan : Quotient) → PortionOf (animals * grams) fraction tenThousandths tan
-      → _≡_ {A = ExcretionIn cutting} (record { «n_excretion» = animals * grams; «tan_excretion» = tan .whole }) (excreted cutting animals grams fraction)
+      → _≡_ {A = ExcretionIn cutting} (record { «n_excretion» = animals * grams; «tan_excretion» = tan .whole })
+      (excreted cutting animals grams fraction)
   is-excretion tan p = rw (p .is) refl
 
 pub ruleset excretion-steps = (n-fits, fraction-fit, is-excretion)

@@ -1,4 +1,5 @@
--- No figure of a sound herd, of whatever kind, is above a bound. So the sums over the herds of a farm fit. Assumes nothing.
+-- No figure of a sound herd, of whatever kind, is above a bound. So the sums over the herds of a farm fit.
+-- Assumes nothing.
 use Prim.Native.Nat.{ℕ, _+_, _-_, _≤_}
 use native.Mathlib.Omega.{arith}
 use lib.IntN.{pos, natAbs, _-ℤ_}
@@ -12,13 +13,13 @@ use Rattle.rates.specs.Rates.{roughageRates, pigsRates}
 use Rattle.rates.specs.Bounds.{ModestRates}
 use Rattle.rates.proofs.Modest.{roughage-rates-modest, pigs-rates-modest}
 use Rattle.excretion.specs.Excretion.{ExcretionIn}
-use Rattle.yard.specs.Yard.{intoYard, nh3OnYard, throughYard}
+use Rattle.yard.specs.Yard.{intoYard, throughYard}
 use Rattle.yard.proofs.OnYard.{yard-modest, nh3-on-yard-le}
 use Rattle.pasture.specs.Pasture.{outdoorIntoGrazing, roughageIntoGrazing, pigsIntoGrazing, gas, onPasture, afterGases}
 use Rattle.pasture.proofs.OnPasture.{gases-le}
 use Rattle.pasture.proofs.Into.{outdoor-pasture-modest, roughage-pasture-modest, roughage-housing-modest, pigs-pasture-modest}
-use Rattle.housing.specs.Housing.{nh3InHousing, throughHousing, throughDoor}
-use Rattle.housing.proofs.InHousing.{housing-keeps-tan}
+use Rattle.housing.specs.Housing.{throughHousing, throughDoor}
+use Rattle.housing.proofs.InHousing.{nh3-in-housing-le}
 use Rattle.outputs.specs.Sections.{FiguresIn}
 use Rattle.outputs.specs.Names.{excretion, yard, grazing, housing}
 use Rattle.outputs.specs.Grams.{gramsOf, To}
@@ -35,14 +36,15 @@ most = 4000000000
 excretion-to : (e : ExcretionIn cutting) → Modest (e .«n_excretion») (e .«tan_excretion») → SectionTo most excretion e
 excretion-to e m = omega arith
 
-yard-to : (n tan nh3 : ℕ) → Modest n tan → nh3 ≤ tan → SectionTo most yard (throughYard cutting n tan nh3)
-yard-to n tan nh3 m h = omega arith
+yard-to : {n tan nh3 : ℕ} → Modest n tan → nh3 ≤ tan → SectionTo most yard (throughYard cutting n tan nh3)
+yard-to m h = omega arith
 
-housing-to : (n tan nh3 : ℕ) → Modest n tan → nh3 ≤ tan → SectionTo most housing (throughHousing cutting n tan nh3)
-housing-to n tan nh3 m h = omega arith
+housing-to : {n tan nh3 : ℕ} → Modest n tan → nh3 ≤ tan → SectionTo most housing (throughHousing cutting n tan nh3)
+housing-to m h = omega arith
 
 -- of two kinds the housing is left out, and the door lets through a rest of what is excreted
-door-to : (n tan n′ tan′ : ℕ) → Modest n tan → n′ ≤ n → tan′ ≤ tan → SectionTo most housing (throughDoor cutting n′ tan′)
+door-to : (n tan n′ tan′ : ℕ) → Modest n tan → n′ ≤ n → tan′ ≤ tan
+    → SectionTo most housing (throughDoor cutting n′ tan′)
 door-to n tan n′ tan′ m hn ht = omega arith
 
 -- what is left of the TAN is no larger than the TAN and the gases together
@@ -56,12 +58,14 @@ remain-le tan a b c d =
       abs-sub (pos tan -ℤ pos a -ℤ pos b -ℤ pos c) (pos d),
     )
 
-gases-to : (n tan a b c d : ℕ) → Modest n tan → a + b + c + d ≤ n → SectionTo most grazing (afterGases cutting n tan a b c d)
+gases-to : (n tan a b c d : ℕ) → Modest n tan → a + b + c + d ≤ n
+    → SectionTo most grazing (afterGases cutting n tan a b c d)
 gases-to n tan a b c d m h = omega (arith, remain-le tan a b c d)
 
-pasture-to : (r : Rates) (n tan : ℕ) → ModestRates r → Modest n tan → SectionTo most grazing (onPasture cutting r n tan)
-pasture-to r n tan hr m =
-    gases-to n tan (gas cutting tan (r .nh3)) (gas cutting n (r .n2)) (gas cutting n (r .no)) (gas cutting n (r .n2o)) m (gases-le r n tan hr m)
+pasture-to : (r : Rates) {n tan : ℕ} → ModestRates r → Modest n tan → SectionTo most grazing (onPasture cutting r n tan)
+pasture-to r {n} {tan} hr m =
+    gases-to n tan (gas cutting tan (r .nh3)) (gas cutting n (r .n2)) (gas cutting n (r .no)) (gas cutting n (r .n2o)) m
+    (gases-le r n tan hr m)
 
 -- ---- kind by kind
 
@@ -69,26 +73,24 @@ pub made-to : {f : FiguresIn cutting} → Made f → To most (gramsOf f)
 made-to (of-roughage r e s m) =
     let n = e .«n_excretion» in
     let tan = e .«tan_excretion» in
-    let n′ = n - roughageIntoGrazing cutting r n in
-    let tan′ = tan - roughageIntoGrazing cutting r tan in
     sections-to most _ (excretion-to e m) (omega arith)
-    (pasture-to roughageRates (roughageIntoGrazing cutting r n) (roughageIntoGrazing cutting r tan) roughage-rates-modest (roughage-pasture-modest r s n tan m))
-    (housing-to n′ tan′ (nh3InHousing cutting r tan′) (roughage-housing-modest r s n tan m) (omega (arith, housing-keeps-tan r n′ tan′)))
+    (pasture-to roughageRates roughage-rates-modest (roughage-pasture-modest r s n tan m))
+    (housing-to (roughage-housing-modest r s n tan m) (nh3-in-housing-le r (tan - roughageIntoGrazing cutting r tan)))
 made-to (of-outdoor r o e hr s m) =
     let n = e .«n_excretion» in
     let tan = e .«tan_excretion» in
     sections-to most _ (excretion-to e m)
-    (yard-to (intoYard cutting o n) (intoYard cutting o tan) (nh3OnYard cutting o (intoYard cutting o tan)) (yard-modest o s n tan m)
-    (nh3-on-yard-le o s (intoYard cutting o tan)))
-    (pasture-to r (outdoorIntoGrazing cutting o n) (outdoorIntoGrazing cutting o tan) hr (outdoor-pasture-modest o s n tan m))
-    (door-to n tan (n - intoYard cutting o n - outdoorIntoGrazing cutting o n) (tan - intoYard cutting o tan - outdoorIntoGrazing cutting o tan) m
-    (omega arith) (omega arith))
+    (yard-to (yard-modest o s n tan m) (nh3-on-yard-le o s (intoYard cutting o tan)))
+    (pasture-to r hr (outdoor-pasture-modest o s n tan m))
+    (door-to n tan (n - intoYard cutting o n - outdoorIntoGrazing cutting o n)
+    (tan - intoYard cutting o tan - outdoorIntoGrazing cutting o tan) m (omega arith) (omega arith))
 made-to (of-pigs t e m) =
     let n = e .«n_excretion» in
     let tan = e .«tan_excretion» in
     sections-to most _ (excretion-to e m) (omega arith)
-    (pasture-to pigsRates (pigsIntoGrazing cutting t n) (pigsIntoGrazing cutting t tan) pigs-rates-modest (pigs-pasture-modest t n tan m))
-    (door-to n tan (n - pigsIntoGrazing cutting t n) (tan - pigsIntoGrazing cutting t tan) m (omega arith) (omega arith))
+    (pasture-to pigsRates pigs-rates-modest (pigs-pasture-modest t n tan m))
+    (door-to n tan (n - pigsIntoGrazing cutting t n) (tan - pigsIntoGrazing cutting t tan) m (omega arith)
+    (omega arith))
 
 pub figures-to : (i : Inputs) → Sound i → To most (figuresOf i .grams)
 unfolding figuresOf

@@ -1,5 +1,5 @@
--- The steps of a herd's figures, each in the form that a place of the code wants: what goes where is no more than there is, and the sections
--- that the code made are those of the formulas. Assumes nothing.
+-- The steps of a herd's figures, each in the form that a place of the code wants: what goes where is no more than there
+-- is, and the sections that the code made are those of the formulas. Assumes nothing.
 use Prim.Native.Nat.{ℕ, _+_, _-_, _≤_}
 use mathlib.Core.Path.{_≡_, ap, subst, sym, _∙_}
 use mathlib.Core.List.{List}
@@ -37,22 +37,29 @@ use Rattle.herd.proofs.Made.{Made, of-outdoor, made}
 use Rattle.herd.proofs.Bounds.{most, made-to}
 
 -- sections that are those of some figures are small, and give them
-module _ {f : FiguresIn cutting} (m : Made f) (e : Excretion) (y : Yard) (g : Grazing) (h : Housing) (is : together e y g h ≡ f) where
+module _ {f : FiguresIn cutting} (m : Made f) (e : Excretion) (y : Yard) (g : Grazing) (h : Housing)
+    (is : together e y g h ≡ f) where
   small : To figureMost (gramsOf (together e y g h))
-  small = subst (λ (f : FiguresIn cutting). To figureMost (gramsOf f)) (sym is) (widen most figureMost (made-to m) (omega arith))
+  small =
+      subst (λ (f : FiguresIn cutting). To figureMost (gramsOf f)) (sym is)
+      (widen most figureMost (made-to m) (omega arith))
 
   are-grams : (r : Figures) → r .grams ≡ gramsOf (together e y g h) → r .grams ≡ gramsOf f
   are-grams r q = q ∙ ap gramsOf is
 
 -- ---- a herd with a yard
-module _ (r : Rates) (o : Outdoor) (hr : ModestRates r) (s : SoundOutdoor o) (e : Excretion) (m : Modest (e .«n_excretion») (e .«tan_excretion»))
+module _ (r : Rates) (o : Outdoor) (hr : ModestRates r) (s : SoundOutdoor o) (e : Excretion)
+    (m : Modest (e .«n_excretion») (e .«tan_excretion»))
     (y : Yard) (g : Grazing) (qy : ofYard y ≡ onYard cutting o (e .«n_excretion») (e .«tan_excretion»))
     (qg : ofGrazing g ≡ outdoorGrazing cutting r o (e .«n_excretion») (e .«tan_excretion»)) where
   outdoor-n : y .«n_into_yard» + g .«n_into_grazing» ≤ e .«n_excretion»
-  outdoor-n = rw (ap (λ x. x .«n_into_yard») qy, ap (λ x. x .«n_into_grazing») qg) (outdoor-into-le o s (e .«n_excretion»))
+  outdoor-n =
+      rw (ap (λ x. x .«n_into_yard») qy, ap (λ x. x .«n_into_grazing») qg) (outdoor-into-le o s (e .«n_excretion»))
 
   outdoor-tan : y .«tan_into_yard» + g .«tan_into_grazing» ≤ e .«tan_excretion»
-  outdoor-tan = rw (ap (λ x. x .«tan_into_yard») qy, ap (λ x. x .«tan_into_grazing») qg) (outdoor-into-le o s (e .«tan_excretion»))
+  outdoor-tan =
+      rw (ap (λ x. x .«tan_into_yard») qy, ap (λ x. x .«tan_into_grazing») qg)
+      (outdoor-into-le o s (e .«tan_excretion»))
 
   pub yard-in-n : y .«n_into_yard» ≤ e .«n_excretion»
   yard-in-n = omega (arith, outdoor-n)
@@ -67,24 +74,33 @@ module _ (r : Rates) (o : Outdoor) (hr : ModestRates r) (s : SoundOutdoor o) (e 
   grazing-in-tan = omega (arith, outdoor-tan)
 
   module _ (h : Housing)
-      (qh : ofHousing h ≡ throughDoor cutting (e .«n_excretion» - y .«n_into_yard» - g .«n_into_grazing») (e .«tan_excretion» - y .«tan_into_yard» - g .«tan_into_grazing»)) where
+      (qh : ofHousing h ≡ throughDoor cutting (e .«n_excretion» - y .«n_into_yard» - g .«n_into_grazing»)
+      (e .«tan_excretion» - y .«tan_into_yard» - g .«tan_into_grazing»)) where
     is-outdoor : together e y g h ≡ outdoorOn cutting r o (ofExcretion e)
     is-outdoor =
-        cc (ap (λ x. x .«n_into_yard») qy, ap (λ x. x .«tan_into_yard») qy, ap (λ x. x .«n_into_grazing») qg, ap (λ x. x .«tan_into_grazing») qg)
+        cc (
+          ap (λ x. x .«n_into_yard») qy,
+          ap (λ x. x .«tan_into_yard») qy,
+          ap (λ x. x .«n_into_grazing») qg,
+          ap (λ x. x .«tan_into_grazing») qg,
+        )
 
     pub outdoor-small : To figureMost (gramsOf (together e y g h))
     outdoor-small = small (of-outdoor r o (ofExcretion e) hr s m) e y g h is-outdoor
 
-    pub outdoor-grams : (f : Figures) → f .grams ≡ gramsOf (together e y g h) → f .grams ≡ gramsOf (outdoorOn cutting r o (ofExcretion e))
+    pub outdoor-grams : (f : Figures) → f .grams ≡ gramsOf (together e y g h)
+        → f .grams ≡ gramsOf (outdoorOn cutting r o (ofExcretion e))
     outdoor-grams = are-grams (of-outdoor r o (ofExcretion e) hr s m) e y g h is-outdoor
 
 -- ---- cattle
 module _ (c : Cattle) (s : SoundCattle c) (e : Excretion)
     (q : ofExcretion e ≡ excreted cutting (c .animals) (c .«inp_n_excretion») (c .«tan_fraction»)) where
   pub cattle-modest : Modest (e .«n_excretion») (e .«tan_excretion»)
-  cattle-modest = excretion-modest (c .animals) (c .«inp_n_excretion») (c .«tan_fraction») (s .animals) (s .grams) (s .fraction) e q
+  cattle-modest =
+      excretion-modest (c .animals) (c .«inp_n_excretion») (c .«tan_fraction») (s .animals) (s .grams) (s .fraction) e q
 
-  pub cattle-grams : (r : Rates) (f : Figures) → RatesOf cattleRates r → f .grams ≡ gramsOf (outdoorOn cutting r (c .outdoor) (ofExcretion e))
+  pub cattle-grams : (r : Rates) (f : Figures) → RatesOf cattleRates r
+      → f .grams ≡ gramsOf (outdoorOn cutting r (c .outdoor) (ofExcretion e))
       → f .grams ≡ gramsOf (ofCattle cutting c)
   cattle-grams r f er p =
       p ∙ ap (λ x. gramsOf (outdoorOn cutting x (c .outdoor) (ofExcretion e))) (er .is)
@@ -92,7 +108,8 @@ module _ (c : Cattle) (s : SoundCattle c) (e : Excretion)
 
 -- ---- roughage-consuming animals
 module _ (r : Roughage) (s : SoundRoughage r) (grams fraction : ℕ)
-    (qn : grams ≡ «n_excretion_animal» (r .animalcategory) (r .«inp_n_excretion»)) (qt : fraction ≡ tanFraction (r .«tan_fraction»)) where
+    (qn : grams ≡ «n_excretion_animal» (r .animalcategory) (r .«inp_n_excretion»))
+    (qt : fraction ≡ tanFraction (r .«tan_fraction»)) where
   pub grams-within : grams ≤ mostGrams
   grams-within = rw qn (roughage-grams-le r s)
 
@@ -116,7 +133,8 @@ module _ (r : Roughage) (s : SoundRoughage r) (grams fraction : ℕ)
           (roughage-housing-modest r s (e .«n_excretion») (e .«tan_excretion») roughage-modest)
 
       module _ (y : Yard) (h : Housing) (qy : ofYard y ≡ noYard cutting)
-          (qh : ofHousing h ≡ inHousing cutting r (e .«n_excretion» - g .«n_into_grazing») (e .«tan_excretion» - g .«tan_into_grazing»)) where
+          (qh : ofHousing h ≡ inHousing cutting r (e .«n_excretion» - g .«n_into_grazing»)
+          (e .«tan_excretion» - g .«tan_into_grazing»)) where
         is-roughage : together e y g h ≡ ofRoughage cutting r
         is-roughage =
             let d : together e y g h ≡ roughageOn cutting r (ofExcretion e) =
@@ -126,16 +144,19 @@ module _ (r : Roughage) (s : SoundRoughage r) (grams fraction : ℕ)
         pub roughage-small : To figureMost (gramsOf (together e y g h))
         roughage-small = small (made (roughage s)) e y g h is-roughage
 
-        pub roughage-grams : (f : Figures) → f .grams ≡ gramsOf (together e y g h) → f .grams ≡ gramsOf (ofRoughage cutting r)
+        pub roughage-grams : (f : Figures) → f .grams ≡ gramsOf (together e y g h)
+            → f .grams ≡ gramsOf (ofRoughage cutting r)
         roughage-grams = are-grams (made (roughage s)) e y g h is-roughage
 
 -- ---- pigs
 module _ (p : Pigs) (s : SoundPigs p) (e : Excretion)
     (q : ofExcretion e ≡ excreted cutting (p .animals) (p .«inp_n_excretion») (p .«tan_fraction»)) where
   pub pigs-modest : Modest (e .«n_excretion») (e .«tan_excretion»)
-  pigs-modest = excretion-modest (p .animals) (p .«inp_n_excretion») (p .«tan_fraction») (s .animals) (s .grams) (s .fraction) e q
+  pigs-modest =
+      excretion-modest (p .animals) (p .«inp_n_excretion») (p .«tan_fraction») (s .animals) (s .grams) (s .fraction) e q
 
-  module _ (g : Grazing) (qg : ofGrazing g ≡ pigsGrazing cutting (p .«housing_type») (e .«n_excretion») (e .«tan_excretion»)) where
+  module _ (g : Grazing)
+      (qg : ofGrazing g ≡ pigsGrazing cutting (p .«housing_type») (e .«n_excretion») (e .«tan_excretion»)) where
     pub pigs-n : g .«n_into_grazing» ≤ e .«n_excretion»
     pigs-n = rw (ap (λ x. x .«n_into_grazing») qg) (pigs-into-le (p .«housing_type») (e .«n_excretion»))
 
@@ -143,7 +164,8 @@ module _ (p : Pigs) (s : SoundPigs p) (e : Excretion)
     pigs-tan = rw (ap (λ x. x .«tan_into_grazing») qg) (pigs-into-le (p .«housing_type») (e .«tan_excretion»))
 
     module _ (y : Yard) (h : Housing) (qy : ofYard y ≡ noYard cutting)
-        (qh : ofHousing h ≡ throughDoor cutting (e .«n_excretion» - g .«n_into_grazing») (e .«tan_excretion» - g .«tan_into_grazing»)) where
+        (qh : ofHousing h ≡ throughDoor cutting (e .«n_excretion» - g .«n_into_grazing»)
+        (e .«tan_excretion» - g .«tan_into_grazing»)) where
       is-pigs : together e y g h ≡ ofPigs cutting p
       is-pigs =
           let d : together e y g h ≡ pigsOn cutting (p .«housing_type») (ofExcretion e) =
@@ -166,20 +188,24 @@ figures-are i j f q e = ap ofGrams q ∙ rw e
     ofGrams : List ℤ → Figures
     ofGrams g = record { grams = g }
 
-pub figures-of-roughage : (i : Inputs) (r : Roughage) (f : Figures) → f .grams ≡ gramsOf (ofRoughage cutting r) → i ≡ kinds.Roughage r → f ≡ figuresOf i
+pub figures-of-roughage : (i : Inputs) (r : Roughage) (f : Figures) → f .grams ≡ gramsOf (ofRoughage cutting r)
+    → i ≡ kinds.Roughage r → f ≡ figuresOf i
 figures-of-roughage i r = figures-are i (kinds.Roughage r)
 
-pub figures-of-cattle : (i : Inputs) (c : Cattle) (f : Figures) → f .grams ≡ gramsOf (ofCattle cutting c) → i ≡ kinds.Cattle c → f ≡ figuresOf i
+pub figures-of-cattle : (i : Inputs) (c : Cattle) (f : Figures) → f .grams ≡ gramsOf (ofCattle cutting c)
+    → i ≡ kinds.Cattle c → f ≡ figuresOf i
 figures-of-cattle i c = figures-are i (kinds.Cattle c)
 
-pub figures-of-pigs : (i : Inputs) (p : Pigs) (f : Figures) → f .grams ≡ gramsOf (ofPigs cutting p) → i ≡ kinds.Pigs p → f ≡ figuresOf i
+pub figures-of-pigs : (i : Inputs) (p : Pigs) (f : Figures) → f .grams ≡ gramsOf (ofPigs cutting p) → i ≡ kinds.Pigs p
+    → f ≡ figuresOf i
 figures-of-pigs i p = figures-are i (kinds.Pigs p)
 
 pub ruleset outdoor-steps = (yard-in-n, yard-in-tan, grazing-in-n, grazing-in-tan, outdoor-small, outdoor-grams)
 
 pub ruleset cattle-steps = (cattle-modest, cattle-grams)
 
-pub ruleset roughage-steps = (grams-within, fraction-within, roughage-modest, roughage-n, roughage-tan, housed-modest, roughage-small, roughage-grams)
+pub ruleset roughage-steps =
+    (grams-within, fraction-within, roughage-modest, roughage-n, roughage-tan, housed-modest, roughage-small, roughage-grams)
 
 pub ruleset pigs-steps = (pigs-modest, pigs-n, pigs-tan, pigs-small, pigs-grams)
 

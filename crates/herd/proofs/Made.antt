@@ -16,20 +16,25 @@ use Rattle.herd.specs.Herd.{roughageOn, ofRoughage, outdoorOn, pigsOn, f
 
 -- figures of a herd of some kind that excretes a modest amount
 pub data Made : FiguresIn cutting → Type 0 where
-  of-roughage : (r : Roughage) (e : ExcretionIn cutting) → SoundRoughage r → Modest (e .«n_excretion») (e .«tan_excretion») → Made (roughageOn cutting r e)
-  of-outdoor : (r : Rates) (o : Outdoor) (e : ExcretionIn cutting) → ModestRates r → SoundOutdoor o → Modest (e .«n_excretion») (e .«tan_excretion»)
+  of-roughage : (r : Roughage) (e : ExcretionIn cutting) → SoundRoughage r
+      → Modest (e .«n_excretion») (e .«tan_excretion») → Made (roughageOn cutting r e)
+  of-outdoor : (r : Rates) (o : Outdoor) (e : ExcretionIn cutting) → ModestRates r → SoundOutdoor o
+      → Modest (e .«n_excretion») (e .«tan_excretion»)
       → Made (outdoorOn cutting r o e)
-  of-pigs : (t : HousingType) (e : ExcretionIn cutting) → Modest (e .«n_excretion») (e .«tan_excretion») → Made (pigsOn cutting t e)
+  of-pigs : (t : HousingType) (e : ExcretionIn cutting) → Modest (e .«n_excretion») (e .«tan_excretion»)
+      → Made (pigsOn cutting t e)
 
 module _ (r : Roughage) (s : SoundRoughage r) where
-  pub roughage-starts : Modest (ofRoughage cutting r .excretion .«n_excretion») (ofRoughage cutting r .excretion .«tan_excretion»)
+  pub roughage-starts : let e = ofRoughage cutting r .excretion in Modest (e .«n_excretion») (e .«tan_excretion»)
   roughage-starts =
-      excreted-modest (r .animals) («n_excretion_animal» (r .animalcategory) (r .«inp_n_excretion»)) (tanFraction (r .«tan_fraction»))
-      (s .animals) (roughage-grams-le r s) (roughage-fraction-le r s)
+      excreted-modest (r .animals) («n_excretion_animal» (r .animalcategory) (r .«inp_n_excretion»))
+      (tanFraction (r .«tan_fraction»)) (s .animals) (roughage-grams-le r s) (roughage-fraction-le r s)
 
 pub made : {i : Inputs} → Sound i → Made (figuresIn cutting i)
 made (roughage {r} s) = of-roughage r _ s (roughage-starts r s)
 made (cattle {c} s) =
     of-outdoor _ (c .outdoor) _ cattle-rates-modest (s .outdoor)
     (excreted-modest (c .animals) (c .«inp_n_excretion») (c .«tan_fraction») (s .animals) (s .grams) (s .fraction))
-made (pigs {p} s) = of-pigs (p .«housing_type») _ (excreted-modest (p .animals) (p .«inp_n_excretion») (p .«tan_fraction») (s .animals) (s .grams) (s .fraction))
+made (pigs {p} s) =
+    of-pigs (p .«housing_type») _
+    (excreted-modest (p .animals) (p .«inp_n_excretion») (p .«tan_fraction») (s .animals) (s .grams) (s .fraction))

@@ -1,4 +1,6 @@
--- A herd's figures, kind by kind: excretion, yard, pasture and housing. Once over any arithmetic, and then on whole grams. What goes into the housing is found here, from the other parts: "Into housing is what remains." (01, Steps and cuts.)
+-- A herd's figures, kind by kind: excretion, yard, pasture and housing. Once over any arithmetic, and then on whole
+-- grams. What goes into the housing is found here, from the other parts: "Into housing is what remains." (01, Steps and
+-- cuts.)
 use Rattle.amounts.specs.Arithmetic.{Arithmetic, cutting}
 use Rattle.kinds.specs.declared.Outdoor.{Outdoor}
 use Rattle.kinds.specs.declared.Roughage.{Roughage}
@@ -38,9 +40,11 @@ module _ (A : Arithmetic) where
   abbrev pub ofRoughage : Roughage → FiguresIn A
   ofRoughage r =
       roughageOn r
-      (excreted A (r .animals) («n_excretion_animal» (r .animalcategory) (r .«inp_n_excretion»)) (tanFraction (r .«tan_fraction»)))
+      (excreted A (r .animals) («n_excretion_animal» (r .animalcategory) (r .«inp_n_excretion»))
+      (tanFraction (r .«tan_fraction»)))
 
-  -- a kind with the module `Outdoor`: 2.33 to 2.35, at its rates; into the housing (2.23) goes what yard and pasture leave
+  -- a kind with the module `Outdoor`: 2.33 to 2.35, at its rates; into the housing (2.23) goes what yard and pasture
+  -- leave
   abbrev pub outdoorFrom : ExcretionIn A → YardIn A → GrazingIn A → FiguresIn A
   outdoorFrom e y g =
       record {

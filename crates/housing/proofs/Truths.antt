@@ -16,7 +16,7 @@ use Rattle.kinds.specs.Sound.{SoundRoughage}
 use Rattle.amounts.specs.Units.{percent, thousandths, billionths, year, day}
 use Rattle.amounts.specs.Arithmetic.{cutting}
 use Rattle.amounts.specs.Portion.{portion}
-use Rattle.housing.specs.Housing.{«er_housing», «c_free_factor_housing», «c_grazing», «ef_nh3_nhousing»}
+use Rattle.housing.specs.Housing.{«er_housing», «c_free_factor_housing», «c_grazing», «ef_nh3_nhousing», uncapped}
 use Rattle.housing.proofs.InHousing.{weights}
 
 -- ---- 2.87: a mean of 1 and k, of which k is the larger
@@ -47,12 +47,6 @@ module _ (days hours : ℕ) (hd : days ≤ year) (hh : hours ≤ day) where
 
 -- ---- 2.85
 
--- er_housing * c_grazing * c_free_factor_housing, before the ceiling, in billionths
-abbrev pub beforeCeiling : Roughage → ℕ
-beforeCeiling r =
-    portion cutting (portion cutting («c_grazing» cutting (r .«grazing_days») (r .«grazing_hours»)) «er_housing» thousandths)
-    («c_free_factor_housing» (r .«free_correction_factor»)) percent
-
 module _ (r : Roughage) (s : SoundRoughage r) where
   c-le : «c_grazing» cutting (r .«grazing_days») (r .«grazing_hours») ≤ mostK
   c-le =
@@ -65,8 +59,8 @@ module _ (r : Roughage) (s : SoundRoughage r) where
   free-le : (rate : ℕ) → portion cutting rate («c_free_factor_housing» (r .«free_correction_factor»)) percent ≤ rate
   free-le rate = part-le rate («c_free_factor_housing» (r .«free_correction_factor»)) percent (omega arith)
 
-  pub factor-below-073 : beforeCeiling r < 730000000
+  pub factor-below-073 : uncapped cutting r < 730000000
   factor-below-073 = lt-of-le-of-lt (le-trans (free-le _) (rate-le _ c-le)) (lit< tt)
 
-  pub ceiling-not-reached : «ef_nh3_nhousing» cutting r ≡ beforeCeiling r
-  ceiling-not-reached = rw (le-ltb billionths (beforeCeiling r) (omega (arith, factor-below-073))) refl
+  pub ceiling-not-reached : «ef_nh3_nhousing» cutting r ≡ uncapped cutting r
+  ceiling-not-reached = rw (le-ltb billionths (uncapped cutting r) (omega (arith, factor-below-073))) refl

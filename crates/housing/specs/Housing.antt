@@ -31,20 +31,23 @@ module _ (A : Arithmetic) where
   infixl 6 _⊖_
   infixl 5 _over_
   infixl 4 _atMost_
-  -- 2.87, c_grazing, in billionths: below a whole year on pasture, the hours in the housing, those of grazing days times k, over the hours in
-  -- the housing; else 1
+  -- 2.87, c_grazing, in billionths: below a whole year on pasture, the hours in the housing, those of grazing days
+  -- times k, over the hours in the housing; else 1
   abbrev pub «c_grazing» : ℕ → ℕ → Amount
   «c_grazing» days hours =
       pick (ltb (days * hours) (year * day))
       (whole ((year - days) * day * billionths) ⊕ whole (days * (day - hours)) ⊗ k hours over year * day - hours * days)
       (whole billionths)
 
-  -- 2.85, ef_nh3_nhousing, in billionths: er_housing, then the free factor, then the ceiling of 1
-  abbrev pub «ef_nh3_nhousing» : Roughage → Amount
-  «ef_nh3_nhousing» r =
+  -- 2.85, ef_nh3_nhousing, in billionths: er_housing, then the free factor
+  abbrev pub uncapped : Roughage → Amount
+  uncapped r =
       portion A (portion A («c_grazing» (r .«grazing_days») (r .«grazing_hours»)) «er_housing» thousandths)
       («c_free_factor_housing» (r .«free_correction_factor»)) percent
-      atMost billionths
+
+  -- and then the ceiling of 1
+  abbrev pub «ef_nh3_nhousing» : Roughage → Amount
+  «ef_nh3_nhousing» r = uncapped r atMost billionths
 
   -- 2.85, nh3_nhousing
   abbrev pub nh3InHousing : Roughage → Amount → Amount

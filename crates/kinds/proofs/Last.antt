@@ -5,7 +5,8 @@ use mathlib.Core.List.{List, [], _∷_, _++_}
 use native.Mathlib.Omega.{arith}
 use lib.ListN.{length, getD}
 
-pub is-last : {A : Type 0} (others : List A) (last : A) (place : ℕ) → length others ≤ place → last ≡ getD (others ++ (last ∷ [])) place last
+pub is-last : {A : Type 0} (others : List A) (last : A) (place : ℕ) → length others ≤ place
+    → last ≡ getD (others ++ (last ∷ [])) place last
 is-last [] last zero h = refl
 is-last [] last (suc place) h = refl
 is-last (x ∷ others) last zero h = absurd (omega arith)

@@ -1,5 +1,5 @@
--- What the formulas may count on: each input is in its range (01, "Ranges"). Of every herd that passes the record checks it is a theorem:
--- `typed-sound` of crate `typed`.
+-- What the formulas may count on: each input is in its range (01, "Ranges"). Of every herd that passes the record
+-- checks it is a theorem: `typed-sound` of crate `typed`.
 use Prim.Native.Nat.{ℕ, _≤_}
 use Rattle.tables.specs.Standards.{_kg}
 use Rattle.amounts.specs.Units.{percent, tenThousandths, year, day}

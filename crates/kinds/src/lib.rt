@@ -1,5 +1,5 @@
-// The inputs of each kind of herd, typed and complete, under the names of 01's list: grams a head, ten-thousandths of them, percent, days of a
-// year, tenths of an hour.
+// The inputs of each kind of herd, typed and complete, under the names of 01's list: grams a head, ten-thousandths of
+// them, percent, days of a year, tenths of an hour.
 
 pub mod choices; // the choices by their places in 01's lists
 

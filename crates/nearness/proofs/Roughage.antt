@@ -1,12 +1,11 @@
 -- Other roughage-consuming animals: each figure is as near its exact value as the table says. Assumes nothing.
-use Prim.Native.Nat.{ℕ, _+_, _-_, _*_, _≤_}
+use Prim.Native.Nat.{ℕ, _+_, _-_, _*_}
 use native.Mathlib.Nat.{le-trans}
 use lib.Dec.{lit<}
 use lib.IntN.{pos}
 use Rattle.cut.specs.Frac.{Frac, _⊖_}
 use Rattle.cut.proofs.Near.{Near, near-rest}
-use Rattle.cut.proofs.Shares.{part-le}
-use Rattle.amounts.specs.Units.{billionths, year, day}
+use Rattle.amounts.specs.Units.{year, day}
 use Rattle.amounts.specs.Arithmetic.{cutting}
 use Rattle.amounts.specs.Bounds.{Modest}
 use Rattle.kinds.specs.declared.Roughage.{Roughage}
@@ -17,8 +16,8 @@ use Rattle.excretion.specs.Excretion.{ExcretionIn}
 use Rattle.pasture.specs.Pasture.{roughageGrazingTime, roughageIntoGrazing}
 use Rattle.pasture.proofs.Times.{roughage-grazing-time-le}
 use Rattle.pasture.proofs.Into.{roughage-into-le, roughage-pasture-modest, roughage-housing-modest}
-use Rattle.housing.specs.Housing.{«ef_nh3_nhousing», nh3InHousing}
-use Rattle.housing.proofs.InHousing.{factor-le}
+use Rattle.housing.specs.Housing.{nh3InHousing}
+use Rattle.housing.proofs.InHousing.{nh3-in-housing-le}
 use Rattle.herd.specs.Herd.{roughageOn}
 use Rattle.nearness.specs.ByName.{said}
 use Rattle.nearness.specs.Errors.{exactly, roughageErrors}
@@ -70,9 +69,6 @@ module _ (r : Roughage) (s : SoundRoughage r) (e : ExcretionIn cutting) (e′ : 
       (pos (nh3InHousing cutting r (inside r (e .«tan_excretion»)))) (nh3InHousing exact r (exactInside r (e′ .«tan_excretion»)))
   nh3 = near-nh3-in-housing r s (le-trans (housing .tan-most) (housing .n-most)) tan-inside
 
-  nh3-most : nh3InHousing cutting r (inside r (e .«tan_excretion»)) ≤ inside r (e .«tan_excretion»)
-  nh3-most = part-le (inside r (e .«tan_excretion»)) («ef_nh3_nhousing» cutting r) billionths (factor-le r)
-
   pub near-roughage : NearFigures roughageErrors (roughageOn cutting r e) (roughageOn exact r e′)
   near-roughage =
       near-at
@@ -83,6 +79,6 @@ module _ (r : Roughage) (s : SoundRoughage r) (e : ExcretionIn cutting) (e′ : 
       and n-inside
       then tan-inside
       then nh3
-      then near-rest (le-trans nh3-most (housing .tan-most)) n-inside nh3
-      then near-rest nh3-most tan-inside nh3
+      then near-rest (le-trans (nh3-in-housing-le r _) (housing .tan-most)) n-inside nh3
+      then near-rest (nh3-in-housing-le r _) tan-inside nh3
       then end)

@@ -29,13 +29,15 @@ entered-most m (Number k) n (number h) q = let w : k ≡ n = cc in omega arith
 entered-most m Standard n standard q = clash cc
 
 -- the products of the comparison fit
-pub entered-fits : (k : ℕ) (e : Entered) (grams : ℕ) → k ≤ 13 → EnteredTo mostGrams e → e ≡ Number grams → Fits w64 (k * grams)
+pub entered-fits : (k : ℕ) (e : Entered) (grams : ℕ) → k ≤ 13 → EnteredTo mostGrams e → e ≡ Number grams
+    → Fits w64 (k * grams)
 entered-fits k e grams h s q = mul-fits 13 200000 tt h (entered-most mostGrams e grams s q)
 
 pub standard-fits : (k : ℕ) (category s : ℕ) → k ≤ 13 → s ≡ standardOf category → Fits w64 (k * s)
 standard-fits k category s h q = mul-fits 13 80000 tt h (rw q (standard-most category))
 
-pub fraction-fits : (e : Entered) (fraction : ℕ) → EnteredTo tenThousandths e → e ≡ Number fraction → Fits w64 (fraction + 2000)
+pub fraction-fits : (e : Entered) (fraction : ℕ) → EnteredTo tenThousandths e → e ≡ Number fraction
+    → Fits w64 (fraction + 2000)
 fraction-fits e fraction s q = omega (arith, entered-most tenThousandths e fraction s q)
 
 pub n-standard : (category : ℕ) (e : Entered) → e ≡ Standard → false ≡ offStandard category e

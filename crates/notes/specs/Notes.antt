@@ -1,4 +1,5 @@
--- 01, "Notes": each a yes or no beside a herd's figures. `standard` gives none, and a kind that lacks the input gives none.
+-- 01, "Notes": each a yes or no beside a herd's figures. `standard` gives none, and a kind that lacks the input gives
+-- none.
 use Prim.Native.Nat.{ℕ, _+_, _*_}
 use mathlib.Core.Bool.{Bool, false, not, _||_}
 use lib.Dec.{ltb, eqb}
@@ -15,7 +16,8 @@ use Rattle.notes.specs.declared.Notes.{Notes}
 -- 2.84, n_excretion_animal: below 0.7 or above 1.3 of the standard, in tenths
 abbrev pub offStandard : ℕ → Entered → Bool
 offStandard category Standard = false
-offStandard category (Number grams) = ltb (10 * grams) (7 * standardOf category) || ltb (13 * standardOf category) (10 * grams)
+offStandard category (Number grams) =
+    ltb (10 * grams) (7 * standardOf category) || ltb (13 * standardOf category) (10 * grams)
 
 -- 2.84, tan_excretion: off share_Nsol by more than 0.2, in ten-thousandths
 abbrev pub offShare : Entered → Bool
@@ -27,11 +29,13 @@ abbrev pub freeEntered : ℕ → Bool
 freeEntered free = not (eqb free 0)
 
 abbrev pub noted : Bool → Bool → Bool → Bool → Notes
-noted n tan free share = record { «n_off_standard» = n; «tan_off_standard» = tan; «free_factor» = free; «share_lowered» = share }
+noted n tan free share =
+    record { «n_off_standard» = n; «tan_off_standard» = tan; «free_factor» = free; «share_lowered» = share }
 
 abbrev pub roughageNotes : Roughage → Notes
 roughageNotes r =
-    noted (offStandard (r .animalcategory) (r .«inp_n_excretion»)) (offShare (r .«tan_fraction»)) (freeEntered (r .«free_correction_factor»)) false
+    noted (offStandard (r .animalcategory) (r .«inp_n_excretion»)) (offShare (r .«tan_fraction»))
+    (freeEntered (r .«free_correction_factor»)) false
 
 -- the share is lowered: 2.34, share_excretion_with_grazing
 abbrev pub cattleNotes : Cattle → Notes

@@ -1,5 +1,6 @@
--- What each kind of herd puts on yard and pasture, and what is left for the housing: never more than it excretes, and the TAN never more
--- than the N. With a yard the rest has two cuts, and there the TAN may pass the N by a gram. Assumes nothing.
+-- What each kind of herd puts on yard and pasture, and what is left for the housing: never more than it excretes, and
+-- the TAN never more than the N. With a yard the rest has two cuts, and there the TAN may pass the N by a gram.
+-- Assumes nothing.
 use mathlib.Core.Path.{_≡_, refl, _∙_}
 use Prim.Native.Nat.{ℕ, _+_, _-_, _*_, _≤_}
 use native.Mathlib.Nat.{le-refl}
@@ -30,10 +31,13 @@ use Rattle.pasture.proofs.Times.{outdoor-grazing-time-le, times-le, rou
 module _ (o : Outdoor) (s : SoundOutdoor o) where
   pub outdoor-into-le : (n : ℕ) → intoYard cutting o n + outdoorIntoGrazing cutting o n ≤ n
   outdoor-into-le n =
-      parts-over-le n (yardTime o) (outdoorGrazingTime o) (tenths * year) (day * (tenths * year)) (omega arith) (omega arith) (omega (arith, times-le o s))
+      parts-over-le n (yardTime o) (outdoorGrazingTime o) (tenths * year) (day * (tenths * year)) (omega arith)
+      (omega arith) (omega (arith, times-le o s))
 
-  pub outdoor-pasture-modest : (n tan : ℕ) → Modest n tan → Modest (outdoorIntoGrazing cutting o n) (outdoorIntoGrazing cutting o tan)
-  outdoor-pasture-modest n tan m = modest-share n tan (outdoorGrazingTime o) (day * (tenths * year)) m (outdoor-grazing-time-le o s)
+  pub outdoor-pasture-modest : (n tan : ℕ) → Modest n tan
+      → Modest (outdoorIntoGrazing cutting o n) (outdoorIntoGrazing cutting o tan)
+  outdoor-pasture-modest n tan m =
+      modest-share n tan (outdoorGrazingTime o) (day * (tenths * year)) m (outdoor-grazing-time-le o s)
 
 -- ---- roughage-consuming animals
 
@@ -41,18 +45,23 @@ module _ (r : Roughage) (s : SoundRoughage r) where
   pub roughage-into-le : (n : ℕ) → roughageIntoGrazing cutting r n ≤ n
   roughage-into-le n = part-le n (roughageGrazingTime r) (day * year) (roughage-grazing-time-le r s)
 
-  pub roughage-pasture-modest : (n tan : ℕ) → Modest n tan → Modest (roughageIntoGrazing cutting r n) (roughageIntoGrazing cutting r tan)
-  roughage-pasture-modest n tan m = modest-share n tan (roughageGrazingTime r) (day * year) m (roughage-grazing-time-le r s)
+  pub roughage-pasture-modest : (n tan : ℕ) → Modest n tan
+      → Modest (roughageIntoGrazing cutting r n) (roughageIntoGrazing cutting r tan)
+  roughage-pasture-modest n tan m =
+      modest-share n tan (roughageGrazingTime r) (day * year) m (roughage-grazing-time-le r s)
 
-  pub roughage-housing-modest : (n tan : ℕ) → Modest n tan → Modest (n - roughageIntoGrazing cutting r n) (tan - roughageIntoGrazing cutting r tan)
-  roughage-housing-modest n tan m = modest-rest n tan (roughageGrazingTime r) (day * year) m (omega arith) (roughage-grazing-time-le r s)
+  pub roughage-housing-modest : (n tan : ℕ) → Modest n tan
+      → Modest (n - roughageIntoGrazing cutting r n) (tan - roughageIntoGrazing cutting r tan)
+  roughage-housing-modest n tan m =
+      modest-rest n tan (roughageGrazingTime r) (day * year) m (omega arith) (roughage-grazing-time-le r s)
 
 -- ---- pigs
 
 nothing : Modest 0 0
 nothing = record { n-most = omega arith; tan-most = omega arith }
 
-pub pigs-pasture-modest : (t : HousingType) (n tan : ℕ) → Modest n tan → Modest (pigsIntoGrazing cutting t n) (pigsIntoGrazing cutting t tan)
+pub pigs-pasture-modest : (t : HousingType) (n tan : ℕ) → Modest n tan
+    → Modest (pigsIntoGrazing cutting t n) (pigsIntoGrazing cutting t tan)
 pigs-pasture-modest housed.Outdoor n tan m = m
 pigs-pasture-modest housed.SlurryConventional n tan m = nothing
 pigs-pasture-modest housed.SlurryLabel n tan m = nothing
@@ -68,24 +77,27 @@ pigs-into-le housed.DeepLitter n = zero≤
 
 -- ---- the code's steps
 
-module _ (hours days : ℕ) (hh : hours ≤ day) (hd : days ≤ year) where
-  pub roughage-time-within : hours * days ≤ day * year
-  roughage-time-within = mul-to day year tt hh hd
+pub roughage-time-within : (hours days : ℕ) → hours ≤ day → days ≤ year → hours * days ≤ day * year
+roughage-time-within hours days hh hd = mul-to day year tt hh hd
 
-pub pigs-modest : (t : HousingType) (n tan a b : ℕ) → Modest n tan → a ≡ pigsIntoGrazing cutting t n → b ≡ pigsIntoGrazing cutting t tan → Modest a b
+pub pigs-modest : (t : HousingType) (n tan a b : ℕ) → Modest n tan → a ≡ pigsIntoGrazing cutting t n
+    → b ≡ pigsIntoGrazing cutting t tan → Modest a b
 pigs-modest t n tan a b m ea eb = rw (ea, eb) (pigs-pasture-modest t n tan m)
 
-module _ (r : Rates) (n tan : ℕ) (into : Parts) (g : Grazing) (eg : ofGrazing g ≡ onPasture cutting r (into .n .whole) (into .tan .whole)) where
+module _ (r : Rates) (n tan : ℕ) (into : Parts) (g : Grazing)
+    (eg : ofGrazing g ≡ onPasture cutting r (into .n .whole) (into .tan .whole)) where
   pub is-outdoor-grazing : (o : Outdoor) (time : ℕ) → UpTo (day * (tenths * year)) (outdoorGrazingTime o) time
       → PortionsOf n tan time (day * (tenths * year)) into → ofGrazing g ≡ outdoorGrazing cutting r o n tan
   is-outdoor-grazing o time et p = eg ∙ rw (p .of-n .is, p .of-tan .is, et .is) refl
 
   pub is-roughage-grazing : (h : Roughage) → RatesOf roughageRates r
-      → PortionsOf n tan (h .«grazing_hours» * h .«grazing_days») (day * year) into → ofGrazing g ≡ roughageGrazing cutting h n tan
+      → PortionsOf n tan (h .«grazing_hours» * h .«grazing_days») (day * year) into
+      → ofGrazing g ≡ roughageGrazing cutting h n tan
   unfolding roughageGrazingTime
   is-roughage-grazing h er p = eg ∙ rw (er .is, p .of-n .is, p .of-tan .is) refl
 
-pub is-pigs-grazing : (r : Rates) (t : HousingType) (n tan nInto tanInto : ℕ) (g : Grazing) → ofGrazing g ≡ onPasture cutting r nInto tanInto
+pub is-pigs-grazing : (r : Rates) (t : HousingType) (n tan nInto tanInto : ℕ) (g : Grazing)
+    → ofGrazing g ≡ onPasture cutting r nInto tanInto
     → RatesOf pigsRates r → nInto ≡ pigsIntoGrazing cutting t n → tanInto ≡ pigsIntoGrazing cutting t tan
     → ofGrazing g ≡ pigsGrazing cutting t n tan
 is-pigs-grazing r t n tan nInto tanInto g eg er p q = eg ∙ rw (er .is, p, q) refl

@@ -41,15 +41,17 @@ module _ (r : Rates) (n tan : ℕ) where
   -- ---- conservation: what comes onto the pasture remains there or is emitted
 
   pub pasture-keeps-n : ModestRates r → Modest n tan
-      → onPasture cutting r n tan .«n_into_grazing»
-      ≡ onPasture cutting r n tan .«n_remain_grazing»
-      + (onPasture cutting r n tan .«nh3_ngrazing» + onPasture cutting r n tan .«n2_ngrazing» + onPasture cutting r n tan .«no_ngrazing» + onPasture cutting r n tan .«n2o_ngrazing»)
+      → let g = onPasture cutting r n tan in
+      g .«n_into_grazing»
+      ≡ g .«n_remain_grazing» + (g .«nh3_ngrazing» + g .«n2_ngrazing» + g .«no_ngrazing» + g .«n2o_ngrazing»)
   pasture-keeps-n h m = omega (arith, gases-le h m)
 
-  pub pasture-keeps-tan : pos (onPasture cutting r n tan .«tan_into_grazing»)
-      ≡ onPasture cutting r n tan .«tan_remain_grazing»
-      +ℤ pos (onPasture cutting r n tan .«nh3_ngrazing» + onPasture cutting r n tan .«n2_ngrazing» + onPasture cutting r n tan .«no_ngrazing» + onPasture cutting r n tan .«n2o_ngrazing»)
-  pasture-keeps-tan = rest-back (pos tan) (gas cutting tan (r .nh3)) (gas cutting n (r .n2)) (gas cutting n (r .no)) (gas cutting n (r .n2o))
+  pub pasture-keeps-tan : let g = onPasture cutting r n tan in
+      pos (g .«tan_into_grazing»)
+      ≡ g .«tan_remain_grazing» +ℤ pos (g .«nh3_ngrazing» + g .«n2_ngrazing» + g .«no_ngrazing» + g .«n2o_ngrazing»)
+  pasture-keeps-tan =
+      rest-back (pos tan) (gas cutting tan (r .nh3)) (gas cutting n (r .n2)) (gas cutting n (r .no))
+      (gas cutting n (r .n2o))
     where
       rest-back : (z : ℤ) (a b c d : ℕ) → z ≡ z -ℤ pos a -ℤ pos b -ℤ pos c -ℤ pos d +ℤ pos (a + b + c + d)
       rest-back z a b c d = rw (← less-all z a b c d) (sym (-ℤ-+ℤ-cancel z (pos (a + b + c + d))))
@@ -63,7 +65,8 @@ module _ (r : Rates) (n tan : ℕ) where
   emitted nh3 n2 nO n2o h m p q s t =
       record { is = cc (p .is, q .is, s .is, t .is); together = omega (arith, gases-le h m, p .is, q .is, s .is, t .is) }
 
-  pub remains : (g : Gases) (left : ℤ) → Emitted r n tan g → mag left < 2 ^ 63 → left ≡ pos tan -ℤ pos (g .nh3 + g .n2 + g .no + g .n2o)
+  pub remains : (g : Gases) (left : ℤ) → Emitted r n tan g → mag left < 2 ^ 63
+      → left ≡ pos tan -ℤ pos (g .nh3 + g .n2 + g .no + g .n2o)
       → _≡_ {A = GrazingIn cutting} (record {
         «n_into_grazing» = n;
         «tan_into_grazing» = tan;
@@ -76,4 +79,10 @@ module _ (r : Rates) (n tan : ℕ) where
       })
       (onPasture cutting r n tan)
   remains g left e fits el =
-      rw (kept left fits, el, less-all (pos tan) (g .nh3) (g .n2) (g .no) (g .n2o), rest-all n (g .nh3) (g .n2) (g .no) (g .n2o), e .is) refl
+      rw (
+        kept left fits,
+        el,
+        less-all (pos tan) (g .nh3) (g .n2) (g .no) (g .n2o),
+        rest-all n (g .nh3) (g .n2) (g .no) (g .n2o),
+        e .is,
+      ) refl

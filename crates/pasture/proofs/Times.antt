@@ -1,4 +1,5 @@
--- How much of the year a herd is on pasture, and that it fits into the year, also together with its time on the yard. Assumes nothing.
+-- How much of the year a herd is on pasture, and that it fits into the year, also together with its time on the yard.
+-- Assumes nothing.
 use mathlib.Core.Path.{_≡_, refl, ap}
 use Prim.Native.Nat.{ℕ, _+_, _-_, _*_, _≤_}
 use native.Mathlib.Nat.{mul-le-mul-right}
@@ -18,18 +19,22 @@ use Rattle.pasture.specs.Pasture.{outdoorGrazingTime, roughageGrazingTim
 
 -- ---- a herd with a yard
 
+-- its days on pasture, in tenths of a day
+abbrev pub grazed : Outdoor → ℕ → ℕ → ℕ
+grazed o both shared = (o .«grazing_days» - both) * tenths + (tenths - shared) * both
+
 module _ (o : Outdoor) (s : SoundOutdoor o) (both shared : ℕ) (eb : Both o both) (ht : shared ≤ tenths) where
-  pasture-le : (o .«grazing_days» - both) * tenths + (tenths - shared) * both ≤ tenths * year
+  pasture-le : grazed o both shared ≤ tenths * year
   pasture-le =
       let k : (tenths - shared) * both ≤ tenths * both = mul-le-mul-right both (omega arith) in
       omega (arith, eb .in-grazing, s .days)
 
-  time-le : o .«grazing_hours» * ((o .«grazing_days» - both) * tenths + (tenths - shared) * both) ≤ day * (tenths * year)
+  time-le : o .«grazing_hours» * (grazed o both shared) ≤ day * (tenths * year)
   time-le = mul-to day (tenths * year) tt (s .hours) pasture-le
 
   -- a day on which the herd has both is counted once
   together-le : (share : ℕ) → share ≤ tenths
-      → share * (o .«yard_days» - both) + shared * both + ((o .«grazing_days» - both) * tenths + (tenths - shared) * both) ≤ tenths * year
+      → share * (o .«yard_days» - both) + shared * both + (grazed o both shared) ≤ tenths * year
   together-le share hs = go (o .«yard_days» - both) (tenths - shared) (omega (arith, eb .in-yard)) (omega (arith, ht))
     where
       go : (u w : ℕ) → u + both ≡ o .«yard_days» → w + shared ≡ tenths
@@ -40,14 +45,14 @@ module _ (o : Outdoor) (s : SoundOutdoor o) (both shared : ℕ) (eb : Both o bot
   pub pasture-both-fits : Fits w64 ((tenths - shared) * both)
   pasture-both-fits = omega (arith, pasture-le)
 
-  pub pasture-sum-fits : Fits w64 ((o .«grazing_days» - both) * tenths + (tenths - shared) * both)
+  pub pasture-sum-fits : Fits w64 (grazed o both shared)
   pasture-sum-fits = omega (arith, pasture-le)
 
-  pub time-fits : Fits w64 (o .«grazing_hours» * ((o .«grazing_days» - both) * tenths + (tenths - shared) * both))
+  pub time-fits : Fits w64 (o .«grazing_hours» * (grazed o both shared))
   time-fits = omega (arith, time-le)
 
   pub is-time : shared ≡ «share_excretion_with_grazing» o
-      → UpTo (day * (tenths * year)) (outdoorGrazingTime o) (o .«grazing_hours» * ((o .«grazing_days» - both) * tenths + (tenths - shared) * both))
+      → UpTo (day * (tenths * year)) (outdoorGrazingTime o) (o .«grazing_hours» * (grazed o both shared))
   unfolding outdoorGrazingTime
   is-time et = record { is = rw (et, eb .is) refl; most = time-le }
 
@@ -59,15 +64,17 @@ module _ (o : Outdoor) (s : SoundOutdoor o) where
 
   pub outdoor-grazing-time-le : outdoorGrazingTime o ≤ day * (tenths * year)
   unfolding outdoorGrazingTime
-  outdoor-grazing-time-le = time-le o s («days_with_grazing_and_yard» o) («share_excretion_with_grazing» o) here (shared-le o)
+  outdoor-grazing-time-le =
+      time-le o s («days_with_grazing_and_yard» o) («share_excretion_with_grazing» o) here (shared-le o)
 
   pub times-le : yardTime o * day + outdoorGrazingTime o ≤ day * (tenths * year)
   unfolding yardTime outdoorGrazingTime
   times-le =
       omega (
         arith,
-        together-le o s («days_with_grazing_and_yard» o) («share_excretion_with_grazing» o) here (shared-le o) («share_excretion» (o .«exercise_yard»)) (share-le (o .«exercise_yard»)),
-        mul-le-mul-right ((o .«grazing_days» - «days_with_grazing_and_yard» o) * tenths + (tenths - «share_excretion_with_grazing» o) * «days_with_grazing_and_yard» o) (s .hours),
+        together-le o s («days_with_grazing_and_yard» o) («share_excretion_with_grazing» o) here (shared-le o)
+            («share_excretion» (o .«exercise_yard»)) (share-le (o .«exercise_yard»)),
+        mul-le-mul-right (grazed o («days_with_grazing_and_yard» o) («share_excretion_with_grazing» o)) (s .hours),
       )
 
 -- ---- roughage-consuming animals

@@ -1,4 +1,5 @@
--- What the contracts of the pasture's code promise of sizes: no more leaves a pasture than comes onto it. No figure of 001 is defined here.
+-- What the contracts of the pasture's code promise of sizes: no more leaves a pasture than comes onto it. No figure of
+-- 001 is defined here.
 use mathlib.Core.Path.{_≡_}
 use Prim.Native.Nat.{ℕ, _+_, _≤_}
 use Rattle.amounts.specs.Arithmetic.{cutting}
@@ -7,7 +8,13 @@ use Rattle.pasture.specs.declared.Gases.{Gases}
 use Rattle.pasture.specs.Pasture.{gas}
 
 abbrev pub gasesOf : Rates → ℕ → ℕ → Gases
-gasesOf r n tan = record { nh3 = gas cutting tan (r .nh3); n2 = gas cutting n (r .n2); no = gas cutting n (r .no); n2o = gas cutting n (r .n2o) }
+gasesOf r n tan =
+    record {
+      nh3 = gas cutting tan (r .nh3);
+      n2 = gas cutting n (r .n2);
+      no = gas cutting n (r .no);
+      n2o = gas cutting n (r .n2o);
+    }
 
 pub record Emitted (r : Rates) (n tan : ℕ) (g : Gases) : Type 0 where
   pub is : g ≡ gasesOf r n tan

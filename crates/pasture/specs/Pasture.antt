@@ -16,7 +16,8 @@ use Rattle.pasture.specs.declared.Grazing.{Grazing}
 unfoldable pub outdoorGrazingTime : Outdoor → ℕ
 outdoorGrazingTime o =
     o .«grazing_hours»
-    * ((o .«grazing_days» - «days_with_grazing_and_yard» o) * tenths + (tenths - «share_excretion_with_grazing» o) * «days_with_grazing_and_yard» o)
+    * ((o .«grazing_days» - «days_with_grazing_and_yard» o) * tenths
+    + (tenths - «share_excretion_with_grazing» o) * «days_with_grazing_and_yard» o)
 
 -- 2.88, n_into_grazing: the part of the year, in tenths of an hour
 unfoldable pub roughageGrazingTime : Roughage → ℕ

@@ -4,6 +4,9 @@ use farm::Fault;
 use libc::STDOUT_FILENO;
 use listing::Written;
 
+// As long as kilograms can be.
+const KILOGRAMS_MOST: usize = 21;
+
 fn say(text: &[u8]) {
     io::write_all(STDOUT_FILENO, text);
 }
@@ -16,6 +19,13 @@ pub fn line(text: &[u8]) {
 pub fn number(n: u64) {
     io::print_decimal(STDOUT_FILENO, n);
     say(b"\r\n");
+}
+
+// Grams, as kilograms.
+pub fn kilograms(grams: i64) {
+    let mut text = [0u8; KILOGRAMS_MOST];
+    let n = decimal::put_kilograms(&mut text, 0, grams);
+    line(base::part_of(&text, 0, n));
 }
 
 fn refusal_line(fault: Fault, record: usize) {

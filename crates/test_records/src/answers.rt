@@ -8,21 +8,13 @@ use printing::tell;
 
 const SHORT: usize = 8;
 
-// What is excreted is never below zero.
-fn not_below(grams: i64) -> u64 {
-    if grams < 0 {
-        return 0;
-    }
-    grams as u64
-}
-
 // The answer's grams are zero where it is refused.
 fn figures(h: Herd) {
     let answer = calls::herd_figures(h);
     let checked = answer.checked;
     tell::checked_line(checked);
-    let grams = answer.figures.grams[names::N_EXCRETION];
-    tell::number(not_below(grams));
+    let figures = answer.figures;
+    tell::kilograms(figures.grams[names::N_EXCRETION]);
 }
 
 fn herd_listing(h: Herd) {
@@ -36,8 +28,8 @@ fn totals(f: Farm) {
     let answer = calls::farm_totals(f);
     let checked = answer.checked;
     tell::checked_line(checked);
-    let grams = answer.totals.grams[total_names::N_EXCRETION];
-    tell::number(not_below(grams));
+    let totals = answer.totals;
+    tell::kilograms(totals.grams[total_names::N_EXCRETION]);
 }
 
 fn totals_listing(f: Farm) {

@@ -1,6 +1,5 @@
--- The names beside the choices and the standards are those of 01's list, in its order: so a choice or a category that is known by its place
--- there is the one that its name says.
--- Assumes nothing.
+-- The names beside the choices and the standards are those of 01's list, in its order: so a choice or a category that
+-- is known by its place there is the one that its name says. Assumes nothing.
 use mathlib.Core.Path.{_≡_, refl}
 use mathlib.Core.List.{map}
 use Rattle.tables.specs.Standards.{«standard_N_excretion»}

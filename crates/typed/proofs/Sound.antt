@@ -1,6 +1,5 @@
--- A herd's record that passes the checks gives sound inputs: what stands in a slot is a value of the form of its input, so each number is in
--- its range (01, "Ranges").
--- Assumes nothing.
+-- A herd's record that passes the checks gives sound inputs: what stands in a slot is a value of the form of its input,
+-- so each number is in its range (01, "Ranges"). Assumes nothing.
 use Prim.Native.Nat.{ℕ, zero, suc, _≤_, _<_}
 use mathlib.Core.Path.{_≡_}
 use mathlib.Core.Bool.{true}
@@ -53,7 +52,8 @@ entered-to form (Value v) e = number (value-to form v e)
 
 -- ---- the slot of each input
 
-fits-at : (rows : List Row) (slots : List Slot) (i : ℕ) → Passes rows slots → i < length rows → fits (getD rows i noRow .form) (getD slots i noSlot .given) ≡ true
+fits-at : (rows : List Row) (slots : List Slot) (i : ℕ) → Passes rows slots → i < length rows
+    → fits (getD rows i noRow .form) (getD slots i noSlot .given) ≡ true
 fits-at (row ∷ rows) (s ∷ slots) zero (Passes.next m f p) h = f
 fits-at (row ∷ rows) (s ∷ slots) (suc i) (Passes.next m f p) h = fits-at rows slots i p (omega arith)
 fits-at [] slots i p h = absurd (omega arith)
@@ -86,7 +86,8 @@ typed-as kinds.Cattle h p =
       animals = n 0 (omega arith);
       grams = n 1 (omega arith);
       fraction = n 2 (omega arith);
-      outdoor = record { yard = n 3 (omega arith); free = n 6 (omega arith); days = n 7 (omega arith); hours = n 8 (omega arith) };
+      outdoor =
+          record { yard = n 3 (omega arith); free = n 6 (omega arith); days = n 7 (omega arith); hours = n 8 (omega arith) };
     })
 typed-as kinds.Pigs h p =
     let n = number-at kinds.Pigs h p in

@@ -1,5 +1,5 @@
-// A herd's record as the complete inputs of its kind. The slots are told by their places in 01's list. What is missing reads as 0; no record
-// that passes the checks has that.
+// A herd's record as the complete inputs of its kind. The slots are told by their places in 01's list. What is missing
+// reads as 0; no record that passes the checks has that.
 use farm::Given;
 use farm::Herd;
 use inputs::Kind;

@@ -1,4 +1,5 @@
--- The yard: its part of the N and of the TAN, the ammonia from it, and that nothing is lost on the way. Assumes nothing.
+-- The yard: its part of the N and of the TAN, the ammonia from it, and that nothing is lost on the way.
+-- Assumes nothing.
 use mathlib.Core.Path.{_≡_, refl}
 use Prim.Native.Nat.{ℕ, _+_, _-_, _*_, _≤_}
 use native.Mathlib.Omega.{arith}
@@ -17,11 +18,12 @@ use Rattle.yard.proofs.Times.{yard-time-le}
 
 module _ (o : Outdoor) (s : SoundOutdoor o) where
   pub yard-rate-le : «ef_nh3_nyard» o ≤ tenThousandths * percent * percent
-  yard-rate-le = mul-to 700000 100 tt (omega arith) (omega arith)
+  yard-rate-le = mul-to («er_yard» * percent) percent tt (omega arith) (omega arith)
 
   -- as the code forms it
   pub is-yard-rate : (floor : ℕ) → floor ≡ «c_floor_properties_exercise_yard» (o .«floor_properties_exercise_yard»)
-      → UpTo (tenThousandths * percent * percent) («ef_nh3_nyard» o) («er_yard» * floor * (percent - o .«free_correction_factor»))
+      → UpTo (tenThousandths * percent * percent) («ef_nh3_nyard» o)
+      («er_yard» * floor * (percent - o .«free_correction_factor»))
   is-yard-rate floor e = rw e (record { is = refl; most = yard-rate-le })
 
   pub yard-modest : (n tan : ℕ) → Modest n tan → Modest (intoYard cutting o n) (intoYard cutting o tan)
@@ -33,16 +35,18 @@ module _ (o : Outdoor) (s : SoundOutdoor o) where
   -- ---- conservation: what comes onto the yard is emitted there or leaves it
 
   module _ (n tan : ℕ) where
-    pub yard-keeps-n : Modest n tan → onYard cutting o n tan .«n_into_yard» ≡ onYard cutting o n tan .«nh3_nyard» + onYard cutting o n tan .«n_outyard_liquid»
+    pub yard-keeps-n : Modest n tan
+        → let y = onYard cutting o n tan in y .«n_into_yard» ≡ y .«nh3_nyard» + y .«n_outyard_liquid»
     yard-keeps-n m = omega (arith, yard-modest n tan m .tan-most, nh3-on-yard-le (intoYard cutting o tan))
 
-    pub yard-keeps-tan : onYard cutting o n tan .«tan_into_yard» ≡ onYard cutting o n tan .«nh3_nyard» + onYard cutting o n tan .«tan_outyard_liquid»
+    pub yard-keeps-tan : let y = onYard cutting o n tan in y .«tan_into_yard» ≡ y .«nh3_nyard» + y .«tan_outyard_liquid»
     yard-keeps-tan = omega (arith, nh3-on-yard-le (intoYard cutting o tan))
 
 -- ---- the code's step
 
 pub is-yard : (o : Outdoor) (n tan time rate : ℕ) (into : Parts) (nh3 : Quotient)
     → UpTo (tenths * year) (yardTime o) time → PortionsOf n tan time (tenths * year) into
-    → UpTo (tenThousandths * percent * percent) («ef_nh3_nyard» o) rate → PortionOf (into .tan .whole) rate (tenThousandths * percent * percent) nh3
+    → UpTo (tenThousandths * percent * percent) («ef_nh3_nyard» o) rate
+    → PortionOf (into .tan .whole) rate (tenThousandths * percent * percent) nh3
     → throughYard cutting (into .n .whole) (into .tan .whole) (nh3 .whole) ≡ onYard cutting o n tan
 is-yard o n tan time rate into nh3 et p er g = rw (g .is, p .of-n .is, p .of-tan .is, et .is, er .is) refl

@@ -1,4 +1,5 @@
--- What the contracts of the yard's code promise of sizes, so that nothing is taken from less. No figure of 001 is defined here.
+-- What the contracts of the yard's code promise of sizes, so that nothing is taken from less. No figure of 001 is
+-- defined here.
 use mathlib.Core.Path.{_≡_}
 use Prim.Native.Nat.{ℕ, _+_, _≤_}
 use Rattle.amounts.specs.Units.{year}

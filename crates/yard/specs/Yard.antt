@@ -1,8 +1,8 @@
 -- 2.33 and 2.34: days with both, the yard's share of what is excreted, and what happens on the yard.
 --
--- The trap of these pages: grazing days and yard days may overlap. Both counts stay as they are; a day on which the herd has both is a
--- day with a share of its own. Neither count is cut at what the other leaves of the year, and on the other yard days the share is as
--- chosen, in summer and in winter.
+-- The trap of these pages: grazing days and yard days may overlap. Both counts stay as they are; a day on which the
+-- herd has both is a day with a share of its own. Neither count is cut at what the other leaves of the year, and on the
+-- other yard days the share is as chosen, in summer and in winter.
 use Prim.Native.Nat.{ℕ, _+_, _-_, _*_}
 use mathlib.Core.Bool.{Bool, _&&_}
 use lib.Dec.{ltb}
@@ -58,7 +58,8 @@ abbrev pub «share_excretion» : ExerciseYard → ℕ
 «share_excretion» Partly = «share_available_roughage_is_partly_supplied_in_the_exercise_yard»
 «share_excretion» Exclusively = «share_available_roughage_is_exclusively_supplied_in_the_exercise_yard»
 
--- 2.34, share_excretion_with_grazing, its test: there are days with both, and the share is above that of roughage partly supplied
+-- 2.34, share_excretion_with_grazing, its test: there are days with both, and the share is above that of roughage
+-- partly supplied
 unfoldable pub shareLowered : Outdoor → Bool
 shareLowered o =
     ltb 0 («days_with_grazing_and_yard» o)
@@ -67,7 +68,9 @@ shareLowered o =
 -- 2.34, share_excretion_with_grazing: on days with both
 unfoldable pub «share_excretion_with_grazing» : Outdoor → ℕ
 «share_excretion_with_grazing» o =
-    pick (shareLowered o) «share_available_roughage_is_partly_supplied_in_the_exercise_yard» («share_excretion» (o .«exercise_yard»))
+    pick (shareLowered o)
+    «share_available_roughage_is_partly_supplied_in_the_exercise_yard»
+    («share_excretion» (o .«exercise_yard»))
 
 -- 2.34, n_into_yard: the part of the year, in tenths of a day
 unfoldable pub yardTime : Outdoor → ℕ
@@ -78,7 +81,9 @@ yardTime o =
 -- 2.34, ef_nh3_nyard: er_yard, floor and free factor, in ten-thousandths of percent of percent
 abbrev pub «ef_nh3_nyard» : Outdoor → ℕ
 «ef_nh3_nyard» o =
-    «er_yard» * «c_floor_properties_exercise_yard» (o .«floor_properties_exercise_yard») * «c_free_factor_yard» (o .«free_correction_factor»)
+    «er_yard»
+    * «c_floor_properties_exercise_yard» (o .«floor_properties_exercise_yard»)
+    * «c_free_factor_yard» (o .«free_correction_factor»)
 
 pub record YardIn (A : Arithmetic) : Type 0 where
   pub «n_into_yard» : A .Amount

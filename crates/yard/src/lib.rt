@@ -1,8 +1,9 @@
 // 2.33 and 2.34: days with both, the yard's share of what is excreted, and what happens on the yard.
 //
-// The trap: grazing days and yard days may overlap. Both counts stay as they are, and a day with both has a share of its own. A program
-// that tests ranges of days which overlap one after the other, cuts the yard days at what grazing leaves of the year, or lets the share of
-// the other yard days stand on days with both, gives summer farms a figure that is not theirs.
+// The trap: grazing days and yard days may overlap. Both counts stay as they are, and a day with both has a share of
+// its own. A program that tests ranges of days which overlap one after the other, cuts the yard days at what grazing
+// leaves of the year, or lets the share of the other yard days stand on days with both, gives summer farms a figure
+// that is not theirs.
 use amounts::PERCENT;
 use amounts::TEN_THOUSANDTHS;
 use amounts::TENTHS;

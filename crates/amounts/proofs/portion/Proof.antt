@@ -1,5 +1,5 @@
--- `amounts::portion` meets its contract: the product fits by the bounds that are asked, and a share of at most 1 is no more than the whole.
--- Assumes nothing.
+-- `amounts::portion` meets its contract: the product fits by the bounds that are asked, and a share of at most 1 is no
+-- more than the whole. Assumes nothing.
 use borrow.Author.Needs.{needs}
 use Rattle.amounts.proofs.Amounts.{portion-steps}
 use Rattle.amounts.proofs.portion.Statement.{statement}

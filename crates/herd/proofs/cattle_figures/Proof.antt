@@ -1,4 +1,5 @@
--- `herd::cattle_figures` meets its contract: what cattle excrete is modest, and their rates are those of 2.35. Assumes nothing.
+-- `herd::cattle_figures` meets its contract: what cattle excrete is modest, and their rates are those of 2.35.
+-- Assumes nothing.
 use borrow.Author.Needs.{needs}
 use Rattle.herd.proofs.Herds.{cattle-steps}
 use Rattle.herd.proofs.cattle_figures.Statement.{statement}

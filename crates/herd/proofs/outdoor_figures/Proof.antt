@@ -1,4 +1,5 @@
--- `herd::outdoor_figures` meets its contract: each section's figures are the definition's, and what goes onto yard and pasture is no more than what is excreted. Assumes nothing.
+-- `herd::outdoor_figures` meets its contract: each section's figures are the definition's, and what goes onto yard and
+-- pasture is no more than what is excreted. Assumes nothing.
 use Rattle.herd.proofs.Herds.{outdoor-steps}
 use borrow.Author.Needs.{needs}
 use Rattle.herd.proofs.outdoor_figures.Statement.{statement}

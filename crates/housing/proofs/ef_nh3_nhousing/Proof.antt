@@ -1,4 +1,5 @@
--- `housing::ef_nh3_nhousing` meets its contract: the two parts in their order, and the ceiling by its test. Assumes nothing.
+-- `housing::ef_nh3_nhousing` meets its contract: the two parts in their order, and the ceiling by its test.
+-- Assumes nothing.
 use borrow.Author.Needs.{needs}
 use Rattle.housing.proofs.InHousing.{factor-steps}
 use Rattle.housing.proofs.ef_nh3_nhousing.Statement.{statement}

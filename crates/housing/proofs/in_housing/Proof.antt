@@ -1,4 +1,5 @@
--- `housing::in_housing` meets its contract: the factor is the definition's, and the ammonia is no more than the TAN. Assumes nothing.
+-- `housing::in_housing` meets its contract: the factor is the definition's, and the ammonia is no more than the TAN.
+-- Assumes nothing.
 use borrow.Author.Needs.{needs}
 use Rattle.housing.proofs.InHousing.{is-housing}
 use Rattle.housing.proofs.in_housing.Statement.{statement}

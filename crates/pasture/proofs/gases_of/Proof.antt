@@ -1,4 +1,5 @@
--- `pasture::gases_of` meets its contract: each gas is its rate of an amount, and together they are no more than the N. Assumes nothing.
+-- `pasture::gases_of` meets its contract: each gas is its rate of an amount, and together they are no more than the N.
+-- Assumes nothing.
 use borrow.Author.Needs.{needs}
 use Rattle.pasture.proofs.OnPasture.{emitted}
 use Rattle.pasture.proofs.gases_of.Statement.{statement}

@@ -1,4 +1,5 @@
--- `pasture::outdoor_grazing` meets its contract: the same part of the N and of the TAN comes onto the pasture. Assumes nothing.
+-- `pasture::outdoor_grazing` meets its contract: the same part of the N and of the TAN comes onto the pasture.
+-- Assumes nothing.
 use borrow.Author.Needs.{needs}
 use Rattle.pasture.proofs.Into.{is-outdoor-grazing}
 use Rattle.pasture.proofs.outdoor_grazing.Statement.{statement}

@@ -1,4 +1,5 @@
--- `pasture::outdoor_grazing_time` meets its contract: the days with both are grazing days, and their share is below 1. Assumes nothing.
+-- `pasture::outdoor_grazing_time` meets its contract: the days with both are grazing days, and their share is below 1.
+-- Assumes nothing.
 use borrow.Author.Needs.{needs}
 use Rattle.pasture.proofs.Times.{outdoor-time-steps}
 use Rattle.pasture.proofs.outdoor_grazing_time.Statement.{statement}

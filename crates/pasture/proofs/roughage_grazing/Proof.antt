@@ -1,4 +1,5 @@
--- `pasture::roughage_grazing` meets its contract: the same part of the N and of the TAN comes onto the pasture. Assumes nothing.
+-- `pasture::roughage_grazing` meets its contract: the same part of the N and of the TAN comes onto the pasture.
+-- Assumes nothing.
 use native.Mathlib.Omega.{arith}
 use borrow.Author.Needs.{needs}
 use Rattle.cut.proofs.Products.{mul-fits}

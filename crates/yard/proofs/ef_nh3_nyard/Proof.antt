@@ -1,8 +1,11 @@
--- `yard::ef_nh3_nyard` meets its contract: the floor and the free factor are at most 100 percent each, so the products fit.
--- Assumes nothing.
+-- `yard::ef_nh3_nyard` meets its contract: the floor and the free factor are at most 100 percent each, so the products
+-- fit. Assumes nothing.
+use Prim.Native.Nat.{_*_}
 use native.Mathlib.Omega.{arith}
 use borrow.Author.Needs.{needs}
 use Rattle.cut.proofs.Products.{mul-fits}
+use Rattle.amounts.specs.Units.{percent}
+use Rattle.yard.specs.Yard.{«er_yard»}
 use Rattle.yard.proofs.OnYard.{is-yard-rate}
 use Rattle.yard.proofs.ef_nh3_nyard.Statement.{statement}
 use Rattle.yard.proofs.ef_nh3_nyard.Tie as tie
@@ -17,7 +20,7 @@ sub-result : tie.Need-sub-result
 sub-result c = search needs
 
 mul-result-2 : tie.Need-mul-result-2
-mul-result-2 c = mul-fits 700000 100 tt (omega arith) (omega arith)
+mul-result-2 c = mul-fits («er_yard» * percent) percent tt (omega arith) (omega arith)
 
 returns : tie.Need-returns
 returns c = search (needs, is-yard-rate)

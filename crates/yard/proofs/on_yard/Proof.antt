@@ -1,4 +1,5 @@
--- `yard::on_yard` meets its contract: the same part of the N and of the TAN comes onto the yard, and the ammonia is no more than that TAN. Assumes nothing.
+-- `yard::on_yard` meets its contract: the same part of the N and of the TAN comes onto the yard, and the ammonia is no
+-- more than that TAN. Assumes nothing.
 use borrow.Author.Needs.{needs}
 use Rattle.yard.proofs.OnYard.{is-yard}
 use Rattle.yard.proofs.on_yard.Statement.{statement}

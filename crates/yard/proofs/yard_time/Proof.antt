@@ -1,4 +1,5 @@
--- `yard::yard_time` meets its contract: the days with both are yard days, so what is taken from them is there. Assumes nothing.
+-- `yard::yard_time` meets its contract: the days with both are yard days, so what is taken from them is there.
+-- Assumes nothing.
 use native.Mathlib.Omega.{arith}
 use borrow.Author.Needs.{needs}
 use Rattle.cut.proofs.Products.{mul-fits}

@@ -26,7 +26,9 @@ returns-4 c = search needs
 
 returns-5 : tie.Need-returns-5
 unfolding housingAt
-returns-5 c = is-last (SlurryConventional ∷ SlurryLabel ∷ SlurryLabelOpen ∷ DeepLitter ∷ []) Outdoor (c .before .before .before .before .args .place) (omega arith)
+returns-5 c =
+    is-last (SlurryConventional ∷ SlurryLabel ∷ SlurryLabelOpen ∷ DeepLitter ∷ []) Outdoor
+    (c .before .before .before .before .args .place) (omega arith)
 
 pub housing-at-spec : {M : Type 1} → statement M
 housing-at-spec = tie.close (tie.spec returns returns-2 returns-3 returns-4 returns-5)

@@ -22,7 +22,9 @@ returns-3 c = search needs
 
 returns-4 : tie.Need-returns-4
 unfolding yardAt
-returns-4 c = is-last (NotAvailable ∷ NotSupplied ∷ Partly ∷ []) Exclusively (c .before .before .before .args .place) (omega arith)
+returns-4 c =
+    is-last (NotAvailable ∷ NotSupplied ∷ Partly ∷ []) Exclusively (c .before .before .before .args .place)
+    (omega arith)
 
 pub yard-at-spec : {M : Type 1} → statement M
 yard-at-spec = tie.close (tie.spec returns returns-2 returns-3 returns-4)
