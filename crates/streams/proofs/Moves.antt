@@ -74,7 +74,7 @@ module _ {done size rest : ℕ} {m : Moved} {r : Step} (inside : done ≤ size) 
 
 -- what falls with each turn: a byte more counts for all the patience that it gives back
 abbrev pub left : ℕ → ℕ → ℕ → ℕ
-left size done patience = (size - done) * 100000001 + patience
+left size done patience = (size - done) * 20000001 + patience
 
 module _ {Ends : Outcome → Type 0} {done size : ℕ} where
   further : {n : ℕ} → Going Ends done size (On n) → (done < n) × (n ≤ size)
@@ -85,7 +85,7 @@ module _ {Ends : Outcome → Type 0} {done size : ℕ} where
 
   module _ {r : Step} (going : Going Ends done size r) where
     module _ {n : ℕ} (e : r ≡ On n) {now : ℕ} (same : now ≡ size) where
-      pub on-less : (patience : ℕ) → left now n 100000000 < left size done patience
+      pub on-less : (patience : ℕ) → left now n 20000000 < left size done patience
       on-less patience = let f = further (rw e at going) in omega arith
 
       pub on-inside : n ≤ now

@@ -30,7 +30,7 @@ pub enum Step {
 }
 
 // How often in a row a call is made again before it counts as failed.
-const PATIENCE: usize = 100000000;
+const PATIENCE: usize = 20000000;
 
 fn fault(error: i32) -> Moved
     ensures { λ r. ⌜ r ≡ faultOf error ⌝ }
