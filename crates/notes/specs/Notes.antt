@@ -10,6 +10,8 @@ use Rattle.kinds.specs.declared.Roughage.{Roughage}
 use Rattle.kinds.specs.declared.Cattle.{Cattle}
 use Rattle.kinds.specs.declared.Inputs.{Inputs}
 use Rattle.kinds.specs.declared.Inputs.the-variants as kinds
+use Rattle.amounts.specs.Units.{tenths}
+use Rattle.excretion.specs.Excretion.{leastOfStandard, mostOfStandard, mostOffShare}
 use Rattle.yard.specs.Yard.{shareLowered}
 use Rattle.notes.specs.declared.Notes.{Notes}
 
@@ -17,12 +19,14 @@ use Rattle.notes.specs.declared.Notes.{Notes}
 abbrev pub offStandard : ℕ → Entered → Bool
 offStandard category Standard = false
 offStandard category (Number grams) =
-    ltb (10 * grams) (7 * standardOf category) || ltb (13 * standardOf category) (10 * grams)
+    ltb (tenths * grams) (leastOfStandard * standardOf category)
+    || ltb (mostOfStandard * standardOf category) (tenths * grams)
 
 -- 2.84, tan_excretion: off share_Nsol by more than 0.2, in ten-thousandths
 abbrev pub offShare : Entered → Bool
 offShare Standard = false
-offShare (Number fraction) = ltb (fraction + 2000) «share_Nsol» || ltb («share_Nsol» + 2000) fraction
+offShare (Number fraction) =
+    ltb (fraction + mostOffShare) «share_Nsol» || ltb («share_Nsol» + mostOffShare) fraction
 
 -- 2.33, 2.86: the free factor is not 0
 abbrev pub freeEntered : ℕ → Bool
