@@ -9,7 +9,7 @@ use Rattle.farm.specs.declared.Farm.{Farm}
 use Rattle.farm.specs.declared.Fault.{Fault}
 use Rattle.farm.specs.declared.Checked.{Checked}
 use Rattle.farm.specs.declared.Checked.the-variants.{Accepted, Refused}
-use Rattle.farm.specs.Checks.{herdsOf}
+use Rattle.checks.specs.Checks.{herdsOf}
 use Rattle.farm.specs.Refusals.{number}
 use Rattle.model.specs.Answers.{farmAnswer}
 use Rattle.reader.specs.Files.{readOf}

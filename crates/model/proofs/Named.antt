@@ -3,7 +3,7 @@
 -- Assumes nothing.
 use mathlib.Core.Path.{_≡_, refl}
 use mathlib.Core.List.{map}
-use Rattle.inputs.specs.Inputs.{categories, yards, floors, housingTypes}
+use Rattle.names.specs.Names.{categories, yards, floors, housingTypes}
 use Rattle.tables.specs.Standards.{«standard_N_excretion»}
 use Rattle.model.specs.Typed.{yardChoices, floorChoices, housingChoices}
 

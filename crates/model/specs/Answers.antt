@@ -6,7 +6,7 @@ use Rattle.farm.specs.declared.Herd.{Herd}
 use Rattle.farm.specs.declared.Farm.{Farm}
 use Rattle.farm.specs.declared.Checked.{Checked}
 use Rattle.farm.specs.declared.Checked.the-variants.{Accepted, Refused}
-use Rattle.farm.specs.Checks.{checkHerd, checkFarm, herdsOf}
+use Rattle.checks.specs.Checks.{checkHerd, checkFarm, herdsOf}
 use Rattle.outputs.specs.declared.Figures.{Figures}
 use Rattle.outputs.specs.Grams.{noFigures, summed, totalsOf, To, figureMost}
 use Rattle.model.specs.declared.HerdAnswer.{HerdAnswer}
