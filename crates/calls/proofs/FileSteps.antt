@@ -16,9 +16,9 @@ use Rattle.farm.specs.declared.Farm.{Farm}
 use Rattle.farm.specs.declared.Fault.{Fault}
 use Rattle.farm.specs.declared.Checked.{Checked}
 use Rattle.farm.specs.declared.Checked.the-variants as checks
-use Rattle.farm.specs.Checks.{checkHerd, checkFarm, herdsOf}
+use Rattle.checks.specs.Checks.{checkHerd, checkFarm, herdsOf}
 use Rattle.farm.specs.Herds.{noHerd}
-use Rattle.farm.proofs.Accepts.{farm-count, farm-each}
+use Rattle.checks.proofs.Accepts.{farm-count, farm-each}
 use Rattle.reader.specs.declared.FileAnswer.{FileAnswer}
 use Rattle.reader.specs.Files.{readOf, accepted}
 use Rattle.rules.proofs.Accepts.{accepts-exactly}

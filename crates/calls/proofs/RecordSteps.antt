@@ -8,7 +8,7 @@ use Rattle.farm.specs.declared.Farm.{Farm}
 use Rattle.farm.specs.declared.Fault.{Fault}
 use Rattle.farm.specs.declared.Checked.{Checked}
 use Rattle.farm.specs.declared.Checked.the-variants as checks
-use Rattle.farm.specs.Checks.{checkHerd, checkFarm}
+use Rattle.checks.specs.Checks.{checkHerd, checkFarm}
 use Rattle.model.specs.declared.HerdAnswer.{HerdAnswer}
 use Rattle.model.specs.declared.FarmAnswer.{FarmAnswer}
 use Rattle.model.specs.Answers.{herdFigures, answerHerd, herdAnswer, answerFarm, farmAnswer}

@@ -11,7 +11,7 @@ use Rattle.farm.specs.declared.Herd.{Herd}
 use Rattle.farm.specs.declared.Farm.{Farm}
 use Rattle.farm.specs.declared.Checked.{Checked}
 use Rattle.farm.specs.declared.Checked.the-variants as checks
-use Rattle.farm.specs.Checks.{checkHerd, checkFarm}
+use Rattle.checks.specs.Checks.{checkHerd, checkFarm}
 use Rattle.farm.specs.Herds.{noHerd}
 use Rattle.model.specs.Answers.{farmAnswer}
 use Rattle.reader.specs.Files.{readOf}

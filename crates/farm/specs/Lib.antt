@@ -1,5 +1,4 @@
+pub mod Limits
 pub mod Labels
 pub mod Herds
 pub mod Refusals
-pub mod Checks
-pub mod Accepts

@@ -1,4 +1,5 @@
 -- 01, Refusal numbers. The one definition that gives the number and the record of each answer; the promises of crate `calls` speak through it.
+-- To be believed.
 use Prim.Native.Nat.{ℕ}
 use Rattle.farm.specs.declared.Fault.{Fault}
 use Rattle.farm.specs.declared.Fault.the-variants.{FileTooLong, RecordBroken, NotFourFields, BadLabel, NotInTheList, StandardForbidden, BadValue, EarlierLabel, NoRoomForHerd, OtherKind, GivenAlready, InputMissing, BufferTooShort}

@@ -1,14 +1,14 @@
 // Labels: 1 to 16 bytes from 32 to 126, byte 34 excepted; two are one label where the bytes in use are the same.
+use crate::HERDS_MOST;
+use crate::LABEL_MOST;
 use crate::Label;
 ghost use mathlib.Core.Path.{_≡_};
-ghost use Rattle.farm.specs.Labels.{byteOk, labelOk, sameLabel, noLabels};
+ghost use Rattle.farm.specs.Labels.{byteOk, labelOk, sameLabel, labelOf, noLabel, noLabels};
 
 // Labels of herds, in their order, apart from the rest of a farm: they are handed over for each herd.
 pub struct Labels {
-    pub of: [Label; 64],
+    pub of: [Label; HERDS_MOST],
 }
-
-const LABEL_MOST: usize = 16;
 
 const LOWEST: u8 = 32;
 
@@ -67,14 +67,32 @@ pub fn same_label(a: Label, b: Label) -> bool
     true
 }
 
-// Labels that say nothing.
+// The label that a text is; a longer text keeps its length, and is no good label.
+pub fn label_of(s: &[u8]) -> Label
+    ensures { λ r. ⌜ r ≡ labelOf (now (s .entry)) ⌝ }
+{
+    let mut bytes = [0u8; LABEL_MOST];
+    base::put(&mut bytes, 0, base::part_of(s, 0, LABEL_MOST));
+    Label {
+        bytes,
+        len: s.len(),
+    }
+}
+
+// A label and labels that say nothing.
+pub fn no_label() -> Label
+    ensures { λ r. ⌜ r ≡ noLabel ⌝ }
+{
+    Label {
+        bytes: [0u8; LABEL_MOST],
+        len: 0,
+    }
+}
+
 pub fn no_labels() -> Labels
     ensures { λ r. ⌜ r ≡ noLabels ⌝ }
 {
     Labels {
-        of: [Label {
-            bytes: [0u8; 16],
-            len: 0,
-        }; 64],
+        of: [no_label(); HERDS_MOST],
     }
 }

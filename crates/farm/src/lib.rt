@@ -1,14 +1,20 @@
-// The farm as a record: labelled herds, of which any input may be missing, and the checks of a record that is handed in. Knows nothing of
-// files and formulas.
+// The farm as a record: labelled herds, of which any input may be missing. Knows nothing of files and formulas.
 use inputs::Kind;
 
 pub mod labels; // when a label is good, and when two are one
 pub mod faults; // 01's numbers
-pub mod checks; // 01's checks of a record, in their order
+pub mod herds; // herds and farms that say nothing
+
+// How many bytes a label, how many slots a herd and how many herds a farm has room for.
+pub const LABEL_MOST: usize = 16;
+
+pub const SLOTS: usize = 9;
+
+pub const HERDS_MOST: usize = 64;
 
 // The bytes in use are the first `len`.
 pub struct Label {
-    pub bytes: [u8; 16],
+    pub bytes: [u8; LABEL_MOST],
     pub len: usize,
 }
 
@@ -27,12 +33,12 @@ pub struct Slot {
 pub struct Herd {
     pub label: Label,
     pub kind: Kind,
-    pub slots: [Slot; 9],
+    pub slots: [Slot; SLOTS],
 }
 
 // The herds are the first `count`.
 pub struct Farm {
-    pub herds: [Herd; 64],
+    pub herds: [Herd; HERDS_MOST],
     pub count: usize,
 }
 

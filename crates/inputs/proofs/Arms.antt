@@ -1,56 +1,98 @@
--- The code's data against the definitions: what an arm of a `match` on a place has is what the list has there.
--- Assumes nothing.
-use Prim.Native.Nat.{ℕ, zero, suc, _+_, _<_, _≤_}
-use mathlib.Core.Path.{_≡_, sym, ap, _∙_}
-use mathlib.Core.Bool.{Bool, true, false, _&&_}
-use mathlib.Core.List.{List}
+-- The code's data against the definitions: what an arm of a `match` on a slot, or on a module's place, has is what the list has there. Assumes
+-- nothing.
+use Prim.Native.Nat.{ℕ, zero, suc, _+_, _-_, _≤_}
+use mathlib.Core.Path.{_≡_, refl, sym, ap, _∙_}
+use mathlib.Core.List.{List, [], _∷_}
 use native.Mathlib.Omega.{arith}
-use lib.ListN.{length, getD, List·getD-eq-default}
-use Rattle.base.specs.Text.{bytes}
-use Rattle.base.specs.Part.{sameBytes}
-use Rattle.inputs.specs.declared.Form.{Form}
-use Rattle.inputs.specs.declared.Form.the-variants.{OneOf}
-use Rattle.inputs.specs.Inputs.{Row, rows, noRow, valueNames, formAt}
-use Rattle.inputs.specs.Find.{isRow, isName}
+use lib.ListN.{length, getD}
+use borrow.Author.Tests.{ne-eqb}
+use Rattle.names.specs.declared.Found.{Found}
+use Rattle.names.specs.declared.Found.the-variants.{At}
+use Rattle.inputs.specs.declared.Kind.{Kind}
+use Rattle.inputs.specs.declared.Kind.the-variants.{Roughage, Cattle, Pigs}
+use Rattle.inputs.specs.declared.Input.{Input}
+use Rattle.inputs.specs.declared.Module.{Module}
+use Rattle.inputs.specs.declared.Module.the-variants.{Of, Nowhere}
+use Rattle.inputs.specs.Inputs.{Row, rowsOf, countOf, lastOf, rowAt, formOf}
+use Rattle.inputs.specs.Find.{firstRow, numbered, isPlaced, placedAmong, findPlaced, findSlots, findWithin}
 
--- ---- `is_called`: r says that the names are the same, and q that the modules are
+-- the number is none of those below i
+abbrev pub NoneOf : ℕ → ℕ → Type 0
+NoneOf zero n = Unit
+NoneOf (suc i) n = NoneOf i n × (n ≡ i → ⊥)
 
-module _ {r a : Bool} (b : Bool) (e : r ≡ a) where
-  pub right-name : r ≡ true → {q : Bool} → q ≡ b → q ≡ (a && b)
-  right-name h p = rw (sym e ∙ h) p
+none-below : (i n : ℕ) → NoneOf i n → i ≤ n
+none-below zero n o = omega arith
+none-below (suc i) n o = omega (arith, none-below i n (o .0), o .1)
 
-  pub other-name : r ≡ false → false ≡ (a && b)
-  other-name h = rw (sym e ∙ h)
+-- ---- the arms of a kind
 
--- ---- an arm for the place k
+module _ (k : Kind) where
+  pub numbered-at : {slot i : ℕ} {r : Input} → slot ≡ i → r ≡ numbered (rowAt k i) → r ≡ numbered (rowAt k slot)
+  numbered-at e h = rw e h
 
-pub form-at : {i k : ℕ} {r : Form} → i ≡ k → r ≡ getD rows k noRow .form → r ≡ formAt i
-unfolding formAt
-form-at e h = rw e h
+  getD-last : (rows : List Row) (slot : ℕ) → length rows ≤ slot + 1 → getD rows slot (lastOf rows) ≡ lastOf rows
+  getD-last [] zero h = refl
+  getD-last [] (suc slot) h = refl
+  getD-last (row ∷ []) zero h = refl
+  getD-last (row ∷ []) (suc slot) h = refl
+  getD-last (row ∷ next ∷ rows) zero h = absurd (omega arith)
+  getD-last (row ∷ next ∷ rows) (suc slot) h = getD-last (next ∷ rows) slot (omega arith)
 
-pub row-at : (m n : List ℕ) {i k : ℕ} {r : Bool} → i ≡ k → r ≡ (sameBytes n (bytes (getD rows k noRow .name)) && sameBytes m (bytes (getD rows k noRow .path))) → r ≡ isRow m n (getD rows i noRow)
-unfolding isRow
-row-at m n e h = rw e h
+  -- the last arm
+  pub numbered-last : (slot : ℕ) {r : Input} → NoneOf (countOf k - 1) slot → r ≡ numbered (lastOf (rowsOf k)) → r ≡ numbered (rowAt k slot)
+  numbered-last slot o h =
+      let past = none-below (countOf k - 1) slot o in
+      h ∙ ap numbered (sym (getD-last (rowsOf k) slot (omega arith)))
 
-pub name-at : (s : List ℕ) {i k : ℕ} {r : Bool} → i ≡ k → r ≡ sameBytes s (bytes (getD valueNames k "")) → r ≡ isName s (getD valueNames i "")
-unfolding isName
-name-at s e h = rw e h
+-- ---- of a kind
 
--- ---- the last arm, after arms for the n places from a on
+module _ (kind : Kind) (slot : ℕ) {r : Input} where
+  pub numbered-in : {k : Kind} → kind ≡ k → r ≡ numbered (rowAt k slot) → r ≡ numbered (rowAt kind slot)
+  numbered-in e h = rw e h
 
--- i is none of them
-abbrev pub NoneOf : ℕ → ℕ → ℕ → Type 0
-NoneOf a zero i = Unit
-NoneOf a (suc n) i = NoneOf a n i × (i ≡ a + n → ⊥)
+  pub form-in : r ≡ numbered (rowAt kind slot) → r .1 ≡ formOf kind slot
+  unfolding formOf
+  form-in h = ap (λ (x : Input). x .1) h
 
-pub past : (a n i : ℕ) → a ≤ i → NoneOf a n i → a + n ≤ i
-past a zero i h o = omega arith
-past a (suc n) i h o = omega (arith, past a n i h (o .0), o .1)
+-- ---- the arms of the modules
 
--- nothing comes there where the n places are all that there are
-pub none-left : (a n i : ℕ) → a ≤ i → i < a + n → NoneOf a n i → ⊥
-none-left a n i h b o = omega (arith, past a n i h o)
+pub module-at : {place i : ℕ} (M : Module) → place ≡ i → ((name : Found) → findPlaced (At i) name ≡ findWithin M name) → (name : Found) → findPlaced (At place) name ≡ findWithin M name
+module-at M e h name = rw e (h name)
 
-pub form-past : (i : ℕ) → length rows ≤ i → OneOf 0 0 ≡ formAt i
-unfolding formAt
-form-past i h = sym (ap (λ (row : Row). row .form) (List·getD-eq-default rows noRow h))
+module _ (name : Found) where
+  pub roughage-excretion : findPlaced (At 0) name ≡ findWithin (Of Roughage 0 4) name
+  unfolding findPlaced placedAmong firstRow isPlaced findSlots findWithin
+  roughage-excretion = refl
+
+  pub roughage-housing : findPlaced (At 1) name ≡ findWithin (Of Roughage 4 5) name
+  unfolding findPlaced placedAmong firstRow isPlaced findSlots findWithin
+  roughage-housing = refl
+
+  pub roughage-grazing : findPlaced (At 2) name ≡ findWithin (Of Roughage 5 7) name
+  unfolding findPlaced placedAmong firstRow isPlaced findSlots findWithin
+  roughage-grazing = refl
+
+  pub cattle-excretion : findPlaced (At 3) name ≡ findWithin (Of Cattle 0 3) name
+  unfolding findPlaced placedAmong firstRow isPlaced findSlots findWithin
+  cattle-excretion = refl
+
+  pub cattle-outdoor : findPlaced (At 4) name ≡ findWithin (Of Cattle 3 9) name
+  unfolding findPlaced placedAmong firstRow isPlaced findSlots findWithin
+  cattle-outdoor = refl
+
+  pub pigs-excretion : findPlaced (At 5) name ≡ findWithin (Of Pigs 0 3) name
+  unfolding findPlaced placedAmong firstRow isPlaced findSlots findWithin
+  pigs-excretion = refl
+
+  pub pigs-housing : findPlaced (At 6) name ≡ findWithin (Of Pigs 3 4) name
+  unfolding findPlaced placedAmong firstRow isPlaced findSlots findWithin
+  pigs-housing = refl
+
+pub ruleset stretches = (roughage-excretion, roughage-housing, roughage-grazing, cattle-excretion, cattle-outdoor, pigs-excretion, pigs-housing)
+
+pub module-none : (place : ℕ) → NoneOf 7 place → (name : Found) → findPlaced (At place) name ≡ findWithin Nowhere name
+unfolding findPlaced placedAmong firstRow isPlaced findWithin
+module-none place o name =
+    let past = none-below 7 place o in
+    simp (ne-eqb 0 place (λ e. omega arith), ne-eqb 1 place (λ e. omega arith), ne-eqb 2 place (λ e. omega arith), ne-eqb 3 place (λ e. omega arith), ne-eqb 4 place (λ e. omega arith), ne-eqb 5 place (λ e. omega arith), ne-eqb 6 place (λ e. omega arith))

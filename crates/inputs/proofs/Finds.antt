@@ -1,79 +1,94 @@
--- The steps of the searches through the lists, each in the form that a place of the code wants.
--- Assumes nothing.
-use Prim.Native.Nat.{ℕ, suc, _+_, _-_, _<_, _≤_}
-use Prim.Native.String.{String}
-use mathlib.Core.Path.{_≡_, sym, ap, _∙_}
+-- What a found input is: the one of the list whose module and name were looked for. Assumes nothing.
+use Prim.Native.Nat.{ℕ, suc, _+_, _<_}
+use mathlib.Core.Path.{_≡_, refl, sym, ap, subst, _∙_}
 use mathlib.Core.Bool.{Bool, true, false}
-use mathlib.Core.List.{List, [], _∷_}
-use native.Mathlib.Numerals.{add-one}
+use mathlib.Core.List.{List, [], _∷_, map}
+use mathlib.Core.Logic.{_⊎_, inl, inr, ⊎-elim}
 use native.Mathlib.Omega.{arith}
-use lib.ListN.{length, getD, take, drop, drop-of-length-le}
-use lib.Seq.{drop-cons, take-nil}
+use lib.ListN.{length, getD}
 use Rattle.base.specs.Pick.{pick}
+use Rattle.base.specs.Text.{bytes}
+use Rattle.base.specs.Part.{sameBytes}
+use Rattle.base.proofs.Clash.{clash}
+use Rattle.base.proofs.Holds.{both-true, same-eq}
+use Rattle.names.proofs.Tables.{entry-at, places}
+use Rattle.inputs.specs.declared.Kind.{Kind}
+use Rattle.inputs.specs.declared.Kind.the-variants.{Roughage, Cattle, Pigs}
 use Rattle.inputs.specs.declared.Form.{Form}
-use Rattle.inputs.specs.declared.Form.the-variants.{OneOf}
-use Rattle.inputs.specs.declared.Found.{Found}
-use Rattle.inputs.specs.declared.Found.the-variants.{At, Nowhere}
-use Rattle.inputs.specs.Inputs.{Row, noRow, valueNames}
-use Rattle.inputs.specs.Find.{firstFrom, isRow, isName, findName}
+use Rattle.inputs.specs.declared.FoundInput.{FoundInput}
+use Rattle.inputs.specs.declared.FoundInput.the-variants.{At}
+use Rattle.inputs.specs.Inputs.{Row, rowsOf, kinds, countOf, lastOf, rowAt, formOf}
+use Rattle.inputs.specs.Find.{isRow, firstRow, findAmong, findInput}
 
--- ---- a search: `rest` is still to be looked at from i on, and X is what the whole search finds
+-- the module m and the name n are those of the input in this slot
+pub record IsInput (m n : List ℕ) (k : Kind) (slot : ℕ) : Type 0 where
+  pub inside : slot < countOf k
+  pub path : m ≡ bytes (rowAt k slot .path)
+  pub name : n ≡ bytes (rowAt k slot .name)
 
-module _ {A : Type 0} (test : A → Bool) (i : ℕ) {rest : List A} {X : Found} (inv : firstFrom test i rest ≡ X) where
-  module _ {x : A} {more : List A} (s : rest ≡ x ∷ more) {r : Bool} (e : r ≡ test x) where
-    next : pick r (At i) (firstFrom test (i + 1) more) ≡ X
-    unfolding firstFrom
-    next = rw e (sym (ap (firstFrom test i) s) ∙ inv)
+-- ---- what was found is such a one
 
-    found : r ≡ true → At i ≡ X
-    found h = sym (rw h) ∙ next
+-- it is of this kind and stands `past` places on, where the test holds
+record Seen (k : Kind) (test : Row → Bool) (rows : List Row) (d : Row) (i : ℕ) (k′ : Kind) (j : ℕ) (form : Form) : Type 0 where
+  kind : k′ ≡ k
+  past : ℕ
+  is : j ≡ i + past
+  inside : past < length rows
+  holds : test (getD rows past d) ≡ true
+  reads : form ≡ getD rows past d .form
 
-    onward : r ≡ false → firstFrom test (i + 1) more ≡ X
-    onward h = sym (rw h) ∙ next
+module _ (k : Kind) (test : Row → Bool) (d : Row) {elsewhere : FoundInput} {k′ : Kind} {j : ℕ} {form : Form} where
+  seen : (rows : List Row) (i : ℕ) → firstRow k test i rows elsewhere ≡ At k′ j form → Seen k test rows d i k′ j form ⊎ (elsewhere ≡ At k′ j form)
+  unfolding firstRow
+  seen [] i e = inr e
+  seen (row ∷ rows) i e = go (test row) refl e (seen rows (i + 1))
+    where
+      later : Seen k test rows d (i + 1) k′ j form ⊎ (elsewhere ≡ At k′ j form) → Seen k test (row ∷ rows) d i k′ j form ⊎ (elsewhere ≡ At k′ j form)
+      later (inl r) = inl (record { kind = r .kind; past = suc (r .past); is = omega (arith, r .is); inside = omega (arith, r .inside); holds = r .holds; reads = r .reads })
+      later (inr e) = inr e
 
-  none : rest ≡ [] → Nowhere ≡ X
-  unfolding firstFrom
-  none s = sym (ap (firstFrom test i) s) ∙ inv
+      go : (t : Bool) → test row ≡ t → pick t (At k i (row .form)) (firstRow k test (i + 1) rows elsewhere) ≡ At k′ j form
+          → (firstRow k test (i + 1) rows elsewhere ≡ At k′ j form → Seen k test rows d (i + 1) k′ j form ⊎ (elsewhere ≡ At k′ j form))
+          → Seen k test (row ∷ rows) d i k′ j form ⊎ (elsewhere ≡ At k′ j form)
+      go true h s more =
+          let q : i ≡ j = cc in
+          inl (record { kind = cc; past = 0; is = omega arith; inside = omega arith; holds = h; reads = cc })
+      go false h s more = later (more s)
 
--- the entry at i, and what is left from i + 1
-rest-of : {A : Type 0} (l : List A) (i : ℕ) (d : A) → i < length l → drop i l ≡ getD l i d ∷ drop (i + 1) l
-rest-of l i d h = rw (add-one, drop-cons l i d)
+module _ (m n : List ℕ) {k : Kind} {slot : ℕ} {form : Form} where
+  seen-input : {k′ : Kind} → Seen k′ (isRow m n) (rowsOf k′) (lastOf (rowsOf k′)) 0 k slot form → IsInput m n k slot × (form ≡ formOf k slot)
+  unfolding isRow formOf
+  seen-input {k′} r =
+      let z : r .past ≡ slot = omega (arith, r .is) in
+      let h : isRow m n (rowAt k slot) ≡ true = subst (λ (x : Kind). isRow m n (rowAt x slot) ≡ true) (sym (r .kind)) (subst (λ (i : ℕ). isRow m n (rowAt k′ i) ≡ true) z (r .holds)) in
+      let b = both-true (sameBytes m (bytes (rowAt k slot .path))) (sameBytes n (bytes (rowAt k slot .name))) h in (
+        record {
+          inside = subst (λ (x : Kind). slot < countOf x) (sym (r .kind)) (omega (arith, r .inside));
+          path = same-eq m (bytes (rowAt k slot .path)) (b .0);
+          name = same-eq n (bytes (rowAt k slot .name)) (b .1);
+        },
+        subst (λ (x : Kind). form ≡ rowAt x slot .form) (sym (r .kind)) (subst (λ (i : ℕ). form ≡ rowAt k′ i .form) z (r .reads)),
+      )
 
--- through the rows
-module _ (l : List Row) (m n : List ℕ) (i : ℕ) (X : Found) (inv : firstFrom (isRow m n) i (drop i l) ≡ X) where
-  module _ (b : i < length l) {r : Bool} (e : r ≡ isRow m n (getD l i noRow)) where
-    pub row-found : r ≡ true → At i ≡ X
-    row-found = found (isRow m n) i inv (rest-of l i noRow b) e
+  found-among : (ks : List Kind) → findAmong ks m n ≡ At k slot form → IsInput m n k slot × (form ≡ formOf k slot)
+  unfolding findAmong
+  found-among [] e = clash cc
+  found-among (k′ ∷ ks) e = ⊎-elim seen-input (found-among ks) (seen k′ (isRow m n) (lastOf (rowsOf k′)) (rowsOf k′) 0 e)
 
-    pub row-next : r ≡ false → firstFrom (isRow m n) (i + 1) (drop (i + 1) l) ≡ X
-    row-next = onward (isRow m n) i inv (rest-of l i noRow b) e
+  pub find-input-at : findInput m n ≡ At k slot form → IsInput m n k slot × (form ≡ formOf k slot)
+  unfolding findInput
+  find-input-at e = found-among kinds e
 
-  pub row-none : length l ≤ i → Nowhere ≡ X
-  row-none b = none (isRow m n) i inv (drop-of-length-le l b)
+-- ---- and each is found where it stands
 
-pub ruleset row-steps = (row-found, row-next, row-none)
+-- the one computed test: no input has the module and the name of an earlier one
+all-found : (k : Kind) → map (λ slot. At k slot (formOf k slot)) (places 0 (rowsOf k)) ≡ map (λ row. findInput (bytes (row .path)) (bytes (row .name))) (rowsOf k)
+unfolding formOf findInput findAmong firstRow isRow sameBytes
+all-found Roughage = refl
+all-found Cattle = refl
+all-found Pigs = refl
 
--- through `count` names, of which the i-th stands at `place`
-module _ (l : List String) (place count i : ℕ) (s : List ℕ) (X : Found) (inv : firstFrom (isName s) i (take (count - i) (drop place l)) ≡ X) where
-  module _ (b : place < length l) (h : i < count) {r : Bool} (e : r ≡ isName s (getD l place "")) where
-    taken : take (count - i) (drop place l) ≡ getD l place "" ∷ take (count - (i + 1)) (drop (place + 1) l)
-    taken = let z : count - i ≡ suc (count - (i + 1)) = omega arith in rw (z, rest-of l place "" b)
-
-    pub name-found : r ≡ true → At i ≡ X
-    name-found = found (isName s) i inv taken e
-
-    pub name-next : r ≡ false → firstFrom (isName s) (i + 1) (take (count - (i + 1)) (drop (place + 1) l)) ≡ X
-    name-next = onward (isName s) i inv taken e
-
-  pub name-none : count ≤ i → Nowhere ≡ X
-  name-none h = let z : count - i ≡ 0 = omega arith in none (isName s) i inv (rw z)
-
-  pub name-past : length l ≤ place → Nowhere ≡ X
-  name-past h = none (isName s) i inv (rw (drop-of-length-le l h, take-nil))
-
-pub ruleset name-steps = (name-found, name-next, name-none, name-past)
-
--- a form's names are the stretch that it gives
-pub one-of : {form : Form} {first count : ℕ} {r : Found} (s : List ℕ) → form ≡ OneOf first count → r ≡ firstFrom (isName s) 0 (take count (drop first valueNames)) → r ≡ findName form s
-unfolding findName
-one-of s e h = rw e h
+pub find-input-of : (m n : List ℕ) (k : Kind) (slot : ℕ) → IsInput m n k slot → findInput m n ≡ At k slot (formOf k slot)
+find-input-of m n k slot h =
+    rw (h .path, h .name)
+    (sym (entry-at (λ (i : ℕ). At k i (formOf k i)) (λ (row : Row). findInput (bytes (row .path)) (bytes (row .name))) (rowsOf k) (lastOf (rowsOf k)) (all-found k) slot (h .inside)))

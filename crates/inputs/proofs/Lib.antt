@@ -1,5 +1,3 @@
-pub mod Tables
 pub mod Arms
+pub mod Searches
 pub mod Finds
-pub mod Places
-pub mod Founds

@@ -1,62 +1,17 @@
 -- 01, The farm file: "Inputs per kind", in its order. The one list that says which inputs there are, where they stand in a file, and
--- what their values may be. Numbers count in units of their last decimal: grams for kilograms with three, hundredths of a percent for
+-- what their values may be. To be believed. Numbers count in units of their last decimal: grams for kilograms with three, hundredths of a percent for
 -- percent with two, tenths of an hour for hours with one.
-use Prim.Native.Nat.{ℕ, _+_, _*_}
+use Prim.Native.Nat.{ℕ, _*_}
 use Prim.Native.String.{String}
-use mathlib.Core.List.{List, [], _∷_, _++_}
-use lib.ListN.{length, getD, take, drop}
-use lib.Dec.{ltb}
-use Rattle.base.specs.Pick.{pick}
+use mathlib.Core.Bool.{Bool}
+use mathlib.Core.List.{List, [], _∷_}
+use lib.Dec.{eqb}
+use lib.ListN.{length, getD}
+use Rattle.names.specs.declared.Names.the-variants.{Categories, Yards, Floors, HousingTypes}
 use Rattle.inputs.specs.declared.Kind.{Kind}
 use Rattle.inputs.specs.declared.Kind.the-variants.{Roughage, Cattle, Pigs}
 use Rattle.inputs.specs.declared.Form.{Form}
 use Rattle.inputs.specs.declared.Form.the-variants.{Number, OrStandard, NoStandard, OneOf}
-
--- ---- the names that a value may be
-
--- 2.84, the eleven categories
-abbrev pub categories : List String
-categories =
-    "fallow_deer"
-    ∷ "red_deer"
-    ∷ "wapiti"
-    ∷ "bison_older_than_3yr"
-    ∷ "bison_younger_than_3yr"
-    ∷ "lama_older_than_2yr"
-    ∷ "lama_younger_than_2yr"
-    ∷ "alpaca_older_than_2yr"
-    ∷ "alpaca_younger_than_2yr"
-    ∷ "rabbit_doe_kits"
-    ∷ "rabbit_young"
-    ∷ []
-
--- 2.34, share_excretion
-abbrev pub yards : List String
-yards =
-    "not_available"
-    ∷ "available_roughage_is_not_supplied_in_the_exercise_yard"
-    ∷ "available_roughage_is_partly_supplied_in_the_exercise_yard"
-    ∷ "available_roughage_is_exclusively_supplied_in_the_exercise_yard"
-    ∷ []
-
--- 2.34, c_floor_properties_exercise_yard
-abbrev pub floors : List String
-floors = "solid_floor" ∷ "unpaved_floor" ∷ "perforated_floor" ∷ "paddock_or_pasture_used_as_exercise_yard" ∷ []
-
--- 2.62, the five types
-abbrev pub housingTypes : List String
-housingTypes = "Slurry_Conventional" ∷ "Slurry_Label" ∷ "Slurry_Label_Open" ∷ "Deep_Litter" ∷ "Outdoor" ∷ []
-
--- the lists one after the other
-abbrev pub valueNames : List String
-valueNames = categories ++ yards ++ floors ++ housingTypes
-
--- the names of a form
-abbrev pub namesOf : Form → List String
-namesOf (OneOf first count) = take count (drop first valueNames)
-namesOf (Number d m) = []
-namesOf (OrStandard d m) = []
-namesOf (NoStandard d m) = []
 
 -- ---- 01, "Ranges"
 
@@ -79,16 +34,16 @@ abbrev pub hours : Form
 hours = Number 1 (24 * 10)
 
 abbrev pub category : Form
-category = OneOf 0 (length categories)
+category = OneOf Categories
 
 abbrev pub yard : Form
-yard = OneOf (length categories) (length yards)
+yard = OneOf Yards
 
 abbrev pub floor : Form
-floor = OneOf (length categories + length yards) (length floors)
+floor = OneOf Floors
 
 abbrev pub housingType : Form
-housingType = OneOf (length categories + length yards + length floors) (length housingTypes)
+housingType = OneOf HousingTypes
 
 -- ---- the list
 
@@ -129,27 +84,35 @@ rowsOf Pigs =
     ∷ ("Livestock::FatteningPigs::Housing::Type" has "housing_type" reads housingType)
     ∷ []
 
--- the whole list, kind after kind
-abbrev pub rows : List Row
-rows = rowsOf Roughage ++ rowsOf Cattle ++ rowsOf Pigs
+-- the kinds in the list's order
+abbrev pub kinds : List Kind
+kinds = Roughage ∷ Cattle ∷ Pigs ∷ []
 
--- how many inputs a kind has, and where they start in the whole list
+-- two kinds are one
+abbrev pub numberOf : Kind → ℕ
+numberOf Roughage = 0
+numberOf Cattle = 1
+numberOf Pigs = 2
+
+abbrev pub sameKind : Kind → Kind → Bool
+sameKind a b = eqb (numberOf a) (numberOf b)
+
+-- how many inputs a kind has
 abbrev pub countOf : Kind → ℕ
 countOf k = length (rowsOf k)
 
-abbrev pub firstOf : Kind → ℕ
-firstOf Roughage = 0
-firstOf Cattle = countOf Roughage
-firstOf Pigs = countOf Roughage + countOf Cattle
-
--- the kind that the input at a place belongs to
-abbrev pub kindAt : ℕ → Kind
-kindAt input = pick (ltb input (firstOf Cattle)) Roughage (pick (ltb input (firstOf Pigs)) Cattle Pigs)
-
--- stands for a row past the end: no text is a value of it
+-- stands for a row where there is none
 abbrev pub noRow : Row
-noRow = "" has "" reads OneOf 0 0
+noRow = "" has "" reads Number 0 0
 
--- how the value of the input at a place reads
-unfoldable pub formAt : ℕ → Form
-formAt input = getD rows input noRow .form
+abbrev pub lastOf : List Row → Row
+lastOf [] = noRow
+lastOf (row ∷ []) = row
+lastOf (row ∷ next ∷ rows) = lastOf (next ∷ rows)
+
+-- the input in a slot, past the last slot the last, and how its value reads
+abbrev pub rowAt : Kind → ℕ → Row
+rowAt k slot = getD (rowsOf k) slot (lastOf (rowsOf k))
+
+unfoldable pub formOf : Kind → ℕ → Form
+formOf k slot = rowAt k slot .form

@@ -1,16 +1,16 @@
-// 01's list of inputs, once as data: for each its kind of herd, its module, its name, and how its value reads. The reader, the record
-// checks and whatever writes a farm go by it. The data are matches on a place in the list and not tables, which the compiler would build
-// anew at every use. A new input is a row in form_of, a row in its kind's is_.._input and a row in specs/Inputs.antt, at the end of its
-// kind's; the places after it and the constants that count them go up by one. A new name that a value may be goes in likewise, by its list.
+// 01's list of inputs, once: for each kind of herd its inputs, each with its name and how its value reads, and for each module the stretch of
+// its kind's inputs. The reader, the record checks and whatever writes a farm go by it. An input is known by its kind and its slot, its place
+// among the inputs of the kind. A new input is an arm of its kind's function and a row in specs/Inputs.antt, at the end of its kind's, with its
+// kind's count and its module's stretch; a new name or module has its text in crate `names`.
+use names::Found;
+use names::Names;
 ghost use mathlib.Core.Path.{_≡_};
-ghost use mathlib.Core.Bool.{_&&_};
-ghost use mathlib.Core.List.{_++_};
-ghost use Prim.Native.Nat.{_≤_, _<_};
-ghost use lib.ListN.{length, getD, take, drop};
-ghost use Rattle.base.specs.Part.{sameBytes};
-ghost use Rattle.inputs.specs.declared.Kind.the-variants.{Cattle, Pigs};
-ghost use Rattle.inputs.specs.Inputs.{categories, yards, floors, valueNames, rows, noRow, kindAt, formAt, firstOf, countOf};
-ghost use Rattle.inputs.specs.Find.{firstFrom, isRow, findInput, isName, findName};
+ghost use Rattle.names.specs.declared.Found.{Found};
+ghost use Rattle.names.specs.declared.Found.the-variants.{At};
+ghost use Rattle.inputs.specs.declared.Kind.the-variants.{Roughage, Cattle, Pigs};
+ghost use Rattle.inputs.specs.declared.Module.the-variants.{Of};
+ghost use Rattle.inputs.specs.Inputs.{numberOf, sameKind, countOf, rowAt, formOf};
+ghost use Rattle.inputs.specs.Find.{findInput, numbered, findPlaced, findWithin};
 
 // The three kinds of herd.
 pub enum Kind {
@@ -20,30 +20,21 @@ pub enum Kind {
 }
 
 // How a value reads: a number, by its decimals and the most it may be in units of the last decimal; such a number for which `standard`
-// may stand; one for which it may not, refusal 6; or a name, by where its list starts and how many names it has.
+// may stand; one for which it may not, refusal 6; or a name of a list.
 pub enum Form {
     Number(usize, u32),
     OrStandard(usize, u32),
     NoStandard(usize, u32),
-    OneOf(usize, usize),
+    OneOf(Names),
 }
 
-// A place in a list, if there is one.
-pub enum Found {
-    At(usize),
+// An input of the list, by its kind and slot, and its form; if there is one.
+pub enum FoundInput {
+    At(Kind, usize, Form),
     Nowhere,
 }
 
-// The names that a value may be stand list after list, the categories first: where the other lists start, and how many names there are.
-const FIRST_OF_YARDS: usize = 11;
-
-const FIRST_OF_FLOORS: usize = 15;
-
-const FIRST_OF_HOUSING: usize = 19;
-
-const NAMES_IN_ALL: usize = 24;
-
-// 01, "Ranges", and where each list of names starts and how many it has.
+// 01, "Ranges".
 const HEAD_COUNT: Form = Form::Number(0, 10000);
 
 const KILOGRAMS_OR_STANDARD: Form = Form::OrStandard(3, 200000);
@@ -60,30 +51,28 @@ const DAYS: Form = Form::Number(0, 365);
 
 const HOURS: Form = Form::Number(1, 240);
 
-const CATEGORY: Form = Form::OneOf(0, FIRST_OF_YARDS);
+const CATEGORY: Form = Form::OneOf(Names::Categories);
 
-const YARD: Form = Form::OneOf(FIRST_OF_YARDS, FIRST_OF_FLOORS - FIRST_OF_YARDS);
+const YARD: Form = Form::OneOf(Names::Yards);
 
-const FLOOR: Form = Form::OneOf(FIRST_OF_FLOORS, FIRST_OF_HOUSING - FIRST_OF_FLOORS);
+const FLOOR: Form = Form::OneOf(Names::Floors);
 
-const HOUSING: Form = Form::OneOf(FIRST_OF_HOUSING, NAMES_IN_ALL - FIRST_OF_HOUSING);
+const HOUSING_TYPE: Form = Form::OneOf(Names::HousingTypes);
 
-// The inputs stand kind after kind, those of roughage first: where the other kinds' start, and how many inputs there are.
-const FIRST_OF_CATTLE: usize = 7;
-
-const FIRST_OF_PIGS: usize = 16;
-
-const INPUTS_IN_ALL: usize = 20;
-
-// Where a kind's inputs start in the list.
-pub fn first_of(kind: Kind) -> usize
-    ensures { λ r. ⌜ r ≡ firstOf kind ⌝ }
+fn number_of(kind: Kind) -> u64
+    ensures { λ r. ⌜ r ≡ numberOf kind ⌝ }
 {
     match kind {
         Kind::Roughage => 0,
-        Kind::Cattle => FIRST_OF_CATTLE,
-        Kind::Pigs => FIRST_OF_PIGS,
+        Kind::Cattle => 1,
+        Kind::Pigs => 2,
     }
+}
+
+pub fn same_kind(a: Kind, b: Kind) -> bool
+    ensures { λ r. ⌜ r ≡ sameKind a b ⌝ }
+{
+    number_of(a) == number_of(b)
 }
 
 // How many inputs a kind has.
@@ -91,260 +80,124 @@ pub fn count_of(kind: Kind) -> usize
     ensures { λ r. ⌜ r ≡ countOf kind ⌝ }
 {
     match kind {
-        Kind::Roughage => FIRST_OF_CATTLE,
-        Kind::Cattle => FIRST_OF_PIGS - FIRST_OF_CATTLE,
-        Kind::Pigs => INPUTS_IN_ALL - FIRST_OF_PIGS,
+        Kind::Roughage => 7,
+        Kind::Cattle => 9,
+        Kind::Pigs => 4,
     }
 }
 
-// The kind that the input at a place belongs to.
-pub fn kind_of(input: usize) -> Kind
-    ensures { λ r. ⌜ r ≡ kindAt input ⌝ }
+// An input: the place of its name among the input names, and the form of its value.
+struct Input(usize, Form);
+
+// The inputs of each kind, by their slots; past the last slot the last input stands.
+fn roughage(slot: usize) -> Input
+    ensures { λ r. ⌜ r ≡ numbered (rowAt Roughage slot) ⌝ }
 {
-    if input < FIRST_OF_CATTLE {
-        return Kind::Roughage;
+    match slot {
+        0 => Input(names::ANIMALCATEGORY, CATEGORY),
+        1 => Input(names::ANIMALS, HEAD_COUNT),
+        2 => Input(names::INP_N_EXCRETION, KILOGRAMS_OR_STANDARD),
+        3 => Input(names::TAN_FRACTION, PERCENTAGE_OR_STANDARD),
+        4 => Input(names::FREE_CORRECTION_FACTOR, REDUCTION),
+        5 => Input(names::GRAZING_DAYS, DAYS),
+        _ => Input(names::GRAZING_HOURS, HOURS),
     }
-    if input < FIRST_OF_PIGS {
-        return Kind::Cattle;
-    }
-    Kind::Pigs
 }
 
-// How the value of the input at a place reads; past the list's end no value does.
-pub fn form_of(input: usize) -> Form
-    ensures { λ r. ⌜ r ≡ formAt input ⌝ }
+fn cattle(slot: usize) -> Input
+    ensures { λ r. ⌜ r ≡ numbered (rowAt Cattle slot) ⌝ }
 {
-    match input {
-        0 => CATEGORY,
-        1 => HEAD_COUNT,
-        2 => KILOGRAMS_OR_STANDARD,
-        3 => PERCENTAGE_OR_STANDARD,
-        4 => REDUCTION,
-        5 => DAYS,
-        6 => HOURS,
-        7 => HEAD_COUNT,
-        8 => KILOGRAMS,
-        9 => PERCENTAGE,
-        10 => DAYS,
-        11 => YARD,
-        12 => FLOOR,
-        13 => REDUCTION,
-        14 => DAYS,
-        15 => HOURS,
-        16 => HEAD_COUNT,
-        17 => KILOGRAMS,
-        18 => PERCENTAGE,
-        19 => HOUSING,
-        _ => Form::OneOf(0, 0),
+    match slot {
+        0 => Input(names::ANIMALS, HEAD_COUNT),
+        1 => Input(names::INP_N_EXCRETION, KILOGRAMS),
+        2 => Input(names::TAN_FRACTION, PERCENTAGE),
+        3 => Input(names::YARD_DAYS, DAYS),
+        4 => Input(names::EXERCISE_YARD, YARD),
+        5 => Input(names::FLOOR_PROPERTIES_EXERCISE_YARD, FLOOR),
+        6 => Input(names::FREE_CORRECTION_FACTOR, REDUCTION),
+        7 => Input(names::GRAZING_DAYS, DAYS),
+        _ => Input(names::GRAZING_HOURS, HOURS),
     }
 }
 
-// Are a record's module m and input name n this path and this name?
-fn is_called(m: &[u8], n: &[u8], path: &[u8], name: &[u8]) -> bool
-    ensures { λ r. ⌜ r ≡ (sameBytes (now (n .entry)) (now (name .entry)) && sameBytes (now (m .entry)) (now (path .entry))) ⌝ }
+fn pigs(slot: usize) -> Input
+    ensures { λ r. ⌜ r ≡ numbered (rowAt Pigs slot) ⌝ }
 {
-    if base::same(n, name) {
-        return base::same(m, path);
+    match slot {
+        0 => Input(names::ANIMALS, HEAD_COUNT),
+        1 => Input(names::INP_N_EXCRETION, KILOGRAMS),
+        2 => Input(names::TAN_FRACTION, PERCENTAGE),
+        _ => Input(names::HOUSING_TYPE, HOUSING_TYPE),
     }
-    false
 }
 
-// Has the roughage input at a place this module and this name?
-fn is_roughage_input(input: usize, path: &[u8], name: &[u8]) -> bool
-    requires { ⌜ input < firstOf Cattle ⌝ }
-    ensures { λ r. ⌜ r ≡ isRow (now (path .entry)) (now (name .entry)) (getD rows input noRow) ⌝ }
+fn input_at(kind: Kind, slot: usize) -> Input
+    ensures { λ r. ⌜ r ≡ numbered (rowAt kind slot) ⌝ }
 {
-    let excretion = b"Livestock::RoughageConsuming::Excretion";
-    let housing = b"Livestock::RoughageConsuming::Housing::CFreeFactor";
-    let grazing = b"Livestock::RoughageConsuming::Grazing";
-    match input {
-        0 => is_called(path, name, excretion, b"animalcategory"),
-        1 => is_called(path, name, excretion, b"animals"),
-        2 => is_called(path, name, excretion, b"inp_n_excretion"),
-        3 => is_called(path, name, excretion, b"tan_fraction"),
-        4 => is_called(path, name, housing, b"free_correction_factor"),
-        5 => is_called(path, name, grazing, b"grazing_days"),
-        6 => is_called(path, name, grazing, b"grazing_hours"),
-        _ => false,
+    match kind {
+        Kind::Roughage => roughage(slot),
+        Kind::Cattle => cattle(slot),
+        Kind::Pigs => pigs(slot),
     }
 }
 
-// Has the cattle input at a place this module and this name?
-fn is_cattle_input(input: usize, path: &[u8], name: &[u8]) -> bool
-    requires { ⌜ (firstOf Cattle ≤ input) × (input < firstOf Pigs) ⌝ }
-    ensures { λ r. ⌜ r ≡ isRow (now (path .entry)) (now (name .entry)) (getD rows input noRow) ⌝ }
+// The form of the input in a slot.
+pub fn form_of(kind: Kind, slot: usize) -> Form
+    ensures { λ r. ⌜ r ≡ formOf kind slot ⌝ }
 {
-    let excretion = b"Livestock::OtherCattle::Excretion";
-    let outdoor = b"Livestock::OtherCattle::Outdoor";
-    match input {
-        7 => is_called(path, name, excretion, b"animals"),
-        8 => is_called(path, name, excretion, b"inp_n_excretion"),
-        9 => is_called(path, name, excretion, b"tan_fraction"),
-        10 => is_called(path, name, outdoor, b"yard_days"),
-        11 => is_called(path, name, outdoor, b"exercise_yard"),
-        12 => is_called(path, name, outdoor, b"floor_properties_exercise_yard"),
-        13 => is_called(path, name, outdoor, b"free_correction_factor"),
-        14 => is_called(path, name, outdoor, b"grazing_days"),
-        15 => is_called(path, name, outdoor, b"grazing_hours"),
-        _ => false,
-    }
+    input_at(kind, slot).1
 }
 
-// Has the pigs' input at a place this module and this name?
-fn is_pigs_input(input: usize, path: &[u8], name: &[u8]) -> bool
-    requires { ⌜ (firstOf Pigs ≤ input) × (input < length rows) ⌝ }
-    ensures { λ r. ⌜ r ≡ isRow (now (path .entry)) (now (name .entry)) (getD rows input noRow) ⌝ }
+// A module: its kind, and the slots of its inputs, from the first to before the last.
+enum Module {
+    Of(Kind, usize, usize),
+    Nowhere,
+}
+
+// The module at a place of the modules.
+fn module_at(place: usize) -> Module
+    ensures { λ r. ⌜ ((name : Found) → findPlaced (At place) name ≡ findWithin r name) ⌝ }
 {
-    let excretion = b"Livestock::FatteningPigs::Excretion";
-    let housing = b"Livestock::FatteningPigs::Housing::Type";
-    match input {
-        16 => is_called(path, name, excretion, b"animals"),
-        17 => is_called(path, name, excretion, b"inp_n_excretion"),
-        18 => is_called(path, name, excretion, b"tan_fraction"),
-        19 => is_called(path, name, housing, b"housing_type"),
-        _ => false,
+    match place {
+        names::ROUGHAGE_EXCRETION => Module::Of(Kind::Roughage, 0, 4),
+        names::ROUGHAGE_HOUSING => Module::Of(Kind::Roughage, 4, 5),
+        names::ROUGHAGE_GRAZING => Module::Of(Kind::Roughage, 5, 7),
+        names::CATTLE_EXCRETION => Module::Of(Kind::Cattle, 0, 3),
+        names::CATTLE_OUTDOOR => Module::Of(Kind::Cattle, 3, 9),
+        names::PIGS_EXCRETION => Module::Of(Kind::Pigs, 0, 3),
+        names::PIGS_HOUSING => Module::Of(Kind::Pigs, 3, 4),
+        _ => Module::Nowhere,
     }
 }
 
-// Has the input at a place this module and this name?
-fn is_input(input: usize, path: &[u8], name: &[u8]) -> bool
-    requires { ⌜ input < length rows ⌝ }
-    ensures { λ r. ⌜ r ≡ isRow (now (path .entry)) (now (name .entry)) (getD rows input noRow) ⌝ }
+// The input whose name has this place, among those of a kind that have these slots.
+fn find_within(kind: Kind, from: usize, to: usize, name: usize) -> FoundInput
+    ensures { λ r. ⌜ r ≡ findWithin (Of kind «from» to) (At name) ⌝ }
 {
-    if input < FIRST_OF_CATTLE {
-        return is_roughage_input(input, path, name);
+    let mut slot = from;
+    while slot < to {
+        let input = input_at(kind, slot);
+        if input.0 == name {
+            let form = input.1;
+            return FoundInput::At(kind, slot, form);
+        }
+        slot += 1;
     }
-    if input < FIRST_OF_PIGS {
-        return is_cattle_input(input, path, name);
-    }
-    is_pigs_input(input, path, name)
+    FoundInput::Nowhere
 }
 
-// Where the input of this module and name stands in the list.
-pub fn find_input(path: &[u8], name: &[u8]) -> Found
+// The input of this module and name: by its module first, then among the inputs of that.
+pub fn find_input(path: &[u8], name: &[u8]) -> FoundInput
     ensures { λ r. ⌜ r ≡ findInput (now (path .entry)) (now (name .entry)) ⌝ }
 {
-    let mut i = 0;
-    while i < INPUTS_IN_ALL {
-        if is_input(i, path, name) {
-            return Found::At(i);
-        }
-        i += 1;
-    }
-    Found::Nowhere
-}
-
-// Is this the name at a place of the categories?
-fn is_category(place: usize, name: &[u8]) -> bool
-    requires { ⌜ place < length categories ⌝ }
-    ensures { λ r. ⌜ r ≡ isName (now (name .entry)) (getD valueNames place "") ⌝ }
-{
-    match place {
-        0 => base::same(name, b"fallow_deer"),
-        1 => base::same(name, b"red_deer"),
-        2 => base::same(name, b"wapiti"),
-        3 => base::same(name, b"bison_older_than_3yr"),
-        4 => base::same(name, b"bison_younger_than_3yr"),
-        5 => base::same(name, b"lama_older_than_2yr"),
-        6 => base::same(name, b"lama_younger_than_2yr"),
-        7 => base::same(name, b"alpaca_older_than_2yr"),
-        8 => base::same(name, b"alpaca_younger_than_2yr"),
-        9 => base::same(name, b"rabbit_doe_kits"),
-        10 => base::same(name, b"rabbit_young"),
-        _ => false,
-    }
-}
-
-// Is this the name at a place of the yards?
-fn is_yard(place: usize, name: &[u8]) -> bool
-    requires { ⌜ (length categories ≤ place) × (place < length (categories ++ yards)) ⌝ }
-    ensures { λ r. ⌜ r ≡ isName (now (name .entry)) (getD valueNames place "") ⌝ }
-{
-    let not_supplied = b"available_roughage_is_not_supplied_in_the_exercise_yard";
-    let partly = b"available_roughage_is_partly_supplied_in_the_exercise_yard";
-    let exclusively = b"available_roughage_is_exclusively_supplied_in_the_exercise_yard";
-    match place {
-        11 => base::same(name, b"not_available"),
-        12 => base::same(name, not_supplied),
-        13 => base::same(name, partly),
-        14 => base::same(name, exclusively),
-        _ => false,
-    }
-}
-
-// Is this the name at a place of the floors?
-fn is_floor(place: usize, name: &[u8]) -> bool
-    requires { ⌜ (length (categories ++ yards) ≤ place) × (place < length (categories ++ yards ++ floors)) ⌝ }
-    ensures { λ r. ⌜ r ≡ isName (now (name .entry)) (getD valueNames place "") ⌝ }
-{
-    match place {
-        15 => base::same(name, b"solid_floor"),
-        16 => base::same(name, b"unpaved_floor"),
-        17 => base::same(name, b"perforated_floor"),
-        18 => base::same(name, b"paddock_or_pasture_used_as_exercise_yard"),
-        _ => false,
-    }
-}
-
-// Is this the name at a place of the types of housing?
-fn is_housing_type(place: usize, name: &[u8]) -> bool
-    requires { ⌜ (length (categories ++ yards ++ floors) ≤ place) × (place < length valueNames) ⌝ }
-    ensures { λ r. ⌜ r ≡ isName (now (name .entry)) (getD valueNames place "") ⌝ }
-{
-    match place {
-        19 => base::same(name, b"Slurry_Conventional"),
-        20 => base::same(name, b"Slurry_Label"),
-        21 => base::same(name, b"Slurry_Label_Open"),
-        22 => base::same(name, b"Deep_Litter"),
-        23 => base::same(name, b"Outdoor"),
-        _ => false,
-    }
-}
-
-// Is this the name at a place of the name lists?
-fn is_name(place: usize, name: &[u8]) -> bool
-    requires { ⌜ place < length valueNames ⌝ }
-    ensures { λ r. ⌜ r ≡ isName (now (name .entry)) (getD valueNames place "") ⌝ }
-{
-    if place < FIRST_OF_YARDS {
-        return is_category(place, name);
-    }
-    if place < FIRST_OF_FLOORS {
-        return is_yard(place, name);
-    }
-    if place < FIRST_OF_HOUSING {
-        return is_floor(place, name);
-    }
-    is_housing_type(place, name)
-}
-
-// Which of a stretch of the name lists this is, counted from the stretch's start.
-fn find_among(first: usize, count: usize, name: &[u8]) -> Found
-    ensures { λ r. ⌜ r ≡ firstFrom (isName (now (name .entry))) 0 (take count (drop first valueNames)) ⌝ }
-{
-    let mut place = first;
-    let mut i = 0;
-    while i < count {
-        if NAMES_IN_ALL <= place {
-            return Found::Nowhere;
-        }
-        if is_name(place, name) {
-            return Found::At(i);
-        }
-        place += 1;
-        i += 1;
-    }
-    Found::Nowhere
-}
-
-// Which of the form's names this is, counted from 0.
-pub fn find_name(form: Form, name: &[u8]) -> Found
-    ensures { λ r. ⌜ r ≡ findName form (now (name .entry)) ⌝ }
-{
-    match form {
-        Form::Number(_, _) => Found::Nowhere,
-        Form::OrStandard(_, _) => Found::Nowhere,
-        Form::NoStandard(_, _) => Found::Nowhere,
-        Form::OneOf(first, count) => find_among(first, count, name),
+    let Found::At(module) = names::find_module(path) else {
+        return FoundInput::Nowhere;
+    };
+    let Found::At(place) = names::find_input_name(name) else {
+        return FoundInput::Nowhere;
+    };
+    match module_at(module) {
+        Module::Of(kind, from, to) => find_within(kind, from, to, place),
+        Module::Nowhere => FoundInput::Nowhere,
     }
 }

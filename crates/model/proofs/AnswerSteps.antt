@@ -15,8 +15,8 @@ use Rattle.farm.specs.declared.Farm.{Farm}
 use Rattle.farm.specs.declared.Fault.{Fault}
 use Rattle.farm.specs.declared.Checked.{Checked}
 use Rattle.farm.specs.declared.Checked.the-variants.{Accepted, Refused}
-use Rattle.farm.specs.Checks.{checkHerd, checkFarm, herdsOf}
-use Rattle.farm.proofs.Accepts.{farm-count, farm-each}
+use Rattle.checks.specs.Checks.{checkHerd, checkFarm, herdsOf}
+use Rattle.checks.proofs.Accepts.{farm-count, farm-each}
 use Rattle.farm.proofs.Left.{taken-at, taken-end}
 use Rattle.kinds.specs.declared.Inputs.{Inputs}
 use Rattle.kinds.specs.Sound.{Sound}

@@ -18,8 +18,8 @@ use Rattle.cut.specs.Total.{signedTotal}
 use Rattle.farm.specs.declared.Herd.{Herd}
 use Rattle.farm.specs.declared.Farm.{Farm}
 use Rattle.farm.specs.declared.Checked.the-variants.{Accepted}
-use Rattle.farm.specs.Checks.{checkHerd, checkFarm, herdsOf}
-use Rattle.farm.proofs.Accepts.{farm-each}
+use Rattle.checks.specs.Checks.{checkHerd, checkFarm, herdsOf}
+use Rattle.checks.proofs.Accepts.{farm-each}
 use Rattle.amounts.specs.Arithmetic.{cutting}
 use Rattle.amounts.specs.Bounds.{Modest}
 use Rattle.kinds.specs.declared.Roughage.{Roughage}

@@ -6,7 +6,7 @@ use Rattle.farm.specs.declared.Herd.{Herd}
 use Rattle.farm.specs.declared.Farm.{Farm}
 use Rattle.farm.specs.declared.Checked.{Checked}
 use Rattle.farm.specs.declared.Checked.the-variants.{Accepted, Refused}
-use Rattle.farm.specs.Checks.{checkHerd, checkFarm, herdsOf}
+use Rattle.checks.specs.Checks.{checkHerd, checkFarm, herdsOf}
 use Rattle.notes.specs.Notes.{notesOf, noNotes}
 use Rattle.typed.specs.Typed.{typedOf}
 use Rattle.outputs.specs.declared.Figures.{Figures}

@@ -4,12 +4,11 @@ use crate::HerdAnswer;
 use farm::Checked;
 use farm::Farm;
 use farm::Herd;
-use farm::checks;
 use outputs::Figures;
 use outputs::sums;
 ghost use mathlib.Core.Path.{_≡_};
 ghost use Rattle.farm.specs.declared.Checked.the-variants.{Accepted};
-ghost use Rattle.farm.specs.Checks.{checkFarm};
+ghost use Rattle.checks.specs.Checks.{checkFarm};
 ghost use Rattle.model.specs.Answers.{Added, herdAnswer, farmAnswer};
 
 pub fn herd_answer(h: Herd) -> HerdAnswer

@@ -10,7 +10,7 @@ use borrow.Author.Tests.{le-leb}
 use Rattle.farm.specs.declared.Herd.{Herd}
 use Rattle.farm.specs.declared.Farm.{Farm}
 use Rattle.farm.specs.declared.Checked.the-variants.{Accepted}
-use Rattle.farm.specs.Checks.{checkHerd, checkFarm, herdsOf}
+use Rattle.checks.specs.Checks.{checkHerd, checkFarm, herdsOf}
 use Rattle.reader.specs.Files.{readOf, accepted}
 use Rattle.rules.specs.Rules.{KeepsRules}
 use Rattle.rules.proofs.Accepts.{accepts-exactly}

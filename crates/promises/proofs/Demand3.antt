@@ -12,8 +12,8 @@ use Rattle.cut.specs.Frac.{Within}
 use Rattle.farm.specs.declared.Herd.{Herd}
 use Rattle.farm.specs.declared.Farm.{Farm}
 use Rattle.farm.specs.declared.Checked.the-variants.{Accepted}
-use Rattle.farm.specs.Checks.{checkHerd, checkFarm, herdsOf}
-use Rattle.farm.proofs.Accepts.{farm-each}
+use Rattle.checks.specs.Checks.{checkHerd, checkFarm, herdsOf}
+use Rattle.checks.proofs.Accepts.{farm-each}
 use Rattle.reader.specs.Files.{readOf, accepted}
 use Rattle.rules.proofs.Passing.{accepted-passes}
 use Rattle.kinds.specs.declared.Inputs.{Inputs}

@@ -1,6 +1,3 @@
-pub mod ValueSteps
-pub mod EntrySteps
-pub mod HerdSteps
 pub mod FileSteps
-pub mod TurnSays
-pub mod ReadSteps
+pub mod Effects
+pub mod LoopSteps

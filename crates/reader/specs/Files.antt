@@ -1,30 +1,28 @@
 -- 01, Refusal numbers, over a whole file: 1 before all, then records from the front, in each 2 to 11 in that order, then 12. The first that
--- applies is given; where none does, the farm that the records say. This is how the reader goes; what it means is said of the records alone in
--- `rules/specs`, and proved to be the same there.
+-- applies is given; where none does, the farm that the records say. It mirrors the code for its contracts: this is how the reader goes; what it
+-- means is said of the records alone in `rules/specs`, and proved to be the same there.
 use Prim.Native.Nat.{ℕ, _+_}
 use mathlib.Core.Bool.{Bool, not, _&&_}
 use mathlib.Core.List.{List, [], _∷_, _++_}
-use lib.ListN.{length, set, replicate}
+use lib.ListN.{length, set}
 use lib.Dec.{eqb, leb, ltb}
 use Rattle.base.specs.Pick.{pick}
 use Rattle.base.specs.First.{Test, _when_, first}
 use Rattle.csv.specs.Reading.{Parts, partsOf, Reading, _then_, end, broken, readingOf}
-use Rattle.inputs.specs.Inputs.{kindAt}
+use Rattle.inputs.specs.Inputs.{sameKind}
 use Rattle.farm.specs.declared.Herd.{Herd}
 use Rattle.farm.specs.declared.Farm.{Farm}
 use Rattle.farm.specs.declared.Fault.{Fault}
 use Rattle.farm.specs.declared.Fault.the-variants.{FileTooLong, RecordBroken, EarlierLabel, NoRoomForHerd, OtherKind, GivenAlready, InputMissing}
 use Rattle.farm.specs.declared.Checked.the-variants.{Accepted, Refused}
+use Rattle.farm.specs.Limits.{herdsMost}
 use Rattle.farm.specs.Labels.{sameLabel}
-use Rattle.farm.specs.Checks.{lacks, earlierLabel, herdsOf}
-use Rattle.farm.specs.Herds.{noHerd}
+use Rattle.farm.specs.Herds.{noHerd, noFarm}
+use Rattle.checks.specs.Checks.{earlierLabel, herdsOf}
+use Rattle.records.specs.Entries.{entryTests, labelIn, kindIn, slotIn, givenIn}
+use Rattle.progress.specs.Herds.{withInput, newHerd, hasInput}
+use Rattle.progress.specs.Farms.{lackingWith}
 use Rattle.reader.specs.declared.FileAnswer.{FileAnswer}
-use Rattle.reader.specs.Entries.{entryTests, labelIn, inputIn, givenIn}
-use Rattle.reader.specs.Herds.{sameKind, withInput, newHerd, hasInput}
-
--- a farm of no herds
-abbrev pub noFarm : Farm
-noFarm = record { herds = replicate 64 noHerd; count = 0 }
 
 abbrev pub refused : ℕ → Fault → FileAnswer
 refused record′ fault = record { checked = Refused fault record′; farm = noFarm }
@@ -49,10 +47,6 @@ nothingRead = record { farm = noFarm; herd = noHerd; first = 0; lacking = 0 }
 abbrev pub withHerd : Farm → Herd → Farm
 withHerd f h = record { herds = set (f .herds) (f .count) h; count = f .count + 1 }
 
--- of the herds up to the one being read, the first record of the first that lacks an input: `before` where a herd before this one does
-abbrev pub lackingWith : ℕ → Herd → ℕ → ℕ
-lackingWith before h first′ = pick (eqb before 0) (pick (lacks h) first′ 0) before
-
 abbrev pub lackingNow : Progress → ℕ
 lackingNow p = lackingWith (p .lacking) (p .herd) (p .first)
 
@@ -71,19 +65,19 @@ unfoldable pub recordTests : ℕ → Progress → Parts → List (Test FileAnswe
 recordTests n p x =
     entryTests (refused n) x
     ++ (refused n EarlierLabel when (not (isCurrent p x) && earlierLabel (herdsOf (p .farm)) (labelIn x))
-    ∷ refused n NoRoomForHerd when (not (isCurrent p x) && leb 64 (closed p .farm .count))
-    ∷ refused n OtherKind when (isCurrent p x && not (sameKind (p .herd .kind) (kindAt (inputIn x))))
-    ∷ refused n GivenAlready when (isCurrent p x && hasInput (p .herd) (inputIn x))
+    ∷ refused n NoRoomForHerd when (not (isCurrent p x) && leb herdsMost (closed p .farm .count))
+    ∷ refused n OtherKind when (isCurrent p x && not (sameKind (p .herd .kind) (kindIn x)))
+    ∷ refused n GivenAlready when (isCurrent p x && hasInput (p .herd) (slotIn x))
     ∷ [])
 
 -- the record adds to the herd being read, or begins another
 unfoldable pub taken : ℕ → Progress → Parts → Progress
 taken n p x =
     pick (isCurrent p x)
-    (record { farm = p .farm; herd = withInput (p .herd) (inputIn x) (givenIn x); first = p .first; lacking = p .lacking })
+    (record { farm = p .farm; herd = withInput (p .herd) (slotIn x) (givenIn x); first = p .first; lacking = p .lacking })
     (record {
       farm = closed p .farm;
-      herd = newHerd (labelIn x) (inputIn x) (givenIn x);
+      herd = newHerd (labelIn x) (kindIn x) (slotIn x) (givenIn x);
       first = n;
       lacking = closed p .lacking;
     })

@@ -1,5 +1,2 @@
-pub mod Values
-pub mod Entries
-pub mod Herds
 pub mod Files
-pub mod Turns
+pub mod Steps

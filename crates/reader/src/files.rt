@@ -1,39 +1,31 @@
 // The whole file: 1 before all, then records from the front, then 12.
-use crate::Current;
 use crate::FileAnswer;
-use crate::Met;
-use crate::Turn;
-use crate::entries;
-use crate::herds;
 use csv::ReaderPlace;
-use csv::Step;
 use farm::Checked;
 use farm::Farm;
 use farm::Fault;
 use farm::Herd;
-use farm::Label;
-use farm::checks;
+use farm::herds;
 use farm::labels;
-use farm::labels::Labels;
+use progress::Effect;
+use progress::farms;
+use progress::places;
 ghost use mathlib.Core.Path.{_≡_};
 ghost use Prim.Native.Nat.{_<_};
 ghost use Rattle.csv.specs.Reading.{readingOf};
-ghost use lib.ListN.{take};
-ghost use Rattle.reader.specs.Files.{noFarm, refused, nothingRead, lackingWith, finished, readFrom, readOf};
-ghost use Rattle.reader.specs.Turns.{Underway, progress, nothingCurrent, followedBy, counted, admitted, metAt};
+ghost use Rattle.farm.specs.Limits.{herdsMost};
+ghost use Rattle.reader.specs.Files.{refused, nothingRead, finished, readFrom, readOf};
+ghost use Rattle.reader.specs.Steps.{Underway, progress};
 
-// At most so many bytes, and so many herds.
-const FILE_MOST: usize = 65536;
+// At most so many bytes.
+pub const FILE_MOST: usize = 65536;
 
-const HERDS_MOST: usize = 64;
-
-fn no_farm() -> Farm
-    ensures { λ r. ⌜ r ≡ noFarm ⌝ }
-{
-    Farm {
-        herds: [herds::no_herd(); 64],
-        count: 0,
-    }
+// The herd being read, and the number of its first record, 0 where there is none yet; and of the herds before it, the first record of the
+// first that lacks an input, 0 where none does.
+struct Current {
+    herd: Herd,
+    first: usize,
+    lacking: usize,
 }
 
 fn refused(record: usize, fault: Fault) -> FileAnswer
@@ -41,110 +33,26 @@ fn refused(record: usize, fault: Fault) -> FileAnswer
 {
     FileAnswer {
         checked: Checked::Refused(fault, record),
-        farm: no_farm(),
-    }
-}
-
-fn nothing_read() -> Current
-    ensures { λ r. ⌜ r ≡ nothingCurrent ⌝ }
-{
-    Current {
-        herd: herds::no_herd(),
-        first: 0,
-        lacking: 0,
-    }
-}
-
-// The first record of the first herd that lacks an input: `before` where one of those before this herd does.
-fn lacking_with(before: usize, herd: Herd, first: usize) -> usize
-    ensures { λ r. ⌜ r ≡ lackingWith before herd first ⌝ }
-{
-    if before != 0 {
-        return before;
-    }
-    if checks::lacks_input(herd) {
-        return first;
-    }
-    0
-}
-
-// How many herds the farm has with the one being read, where there is one.
-fn counted(count: usize, first: usize) -> usize
-    requires { ⌜ count < 64 ⌝ }
-    ensures { λ r. ⌜ r ≡ counted count first ⌝ }
-{
-    if first == 0 {
-        return count;
-    }
-    count + 1
-}
-
-// A record of another label than the herd being read, the farm having these labels: 8, or 9.
-fn admitted(labels: Labels, count: usize, first: usize, label: Label, number: usize) -> Checked
-    requires { ⌜ count < 64 ⌝ }
-    ensures { λ r. ⌜ r ≡ admitted (take count (labels .of)) (counted count first) label number ⌝ }
-{
-    if checks::earlier_label(labels, count, label) {
-        return Checked::Refused(Fault::EarlierLabel, number);
-    }
-    if HERDS_MOST <= counted(count, first) {
-        return Checked::Refused(Fault::NoRoomForHerd, number);
-    }
-    Checked::Accepted
-}
-
-// The herd whose first record has this number, after the one that was being read.
-fn followed_by(c: Current, herd: Herd, number: usize) -> Current
-    ensures { λ r. ⌜ r ≡ followedBy c herd number ⌝ }
-{
-    Current {
-        herd,
-        first: number,
-        lacking: lacking_with(c.lacking, c.herd, c.first),
+        farm: herds::no_farm(),
     }
 }
 
 // Read through: 12, or the farm.
-fn finished(closed: Farm, c: Current) -> FileAnswer
-    requires { ⌜ (closed .count < 64) × Underway (progress closed c) ⌝ }
-    ensures { λ r. ⌜ r ≡ finished (progress closed c) ⌝ }
+fn finished(mut farm: Farm, c: Current) -> FileAnswer
+    requires { ⌜ (farm .count < herdsMost) × Underway (progress farm c) ⌝ }
+    ensures { λ r. ⌜ r ≡ finished (progress farm c) ⌝ }
 {
     let herd = c.herd;
-    let lacking = lacking_with(c.lacking, herd, c.first);
+    let lacking = farms::lacking_with(c.lacking, herd, c.first);
     if lacking != 0 {
         return refused(lacking, Fault::InputMissing);
     }
-    let mut farm = closed;
     let count = farm.count;
     farm.herds[count] = herd;
-    farm.count = counted(count, c.first);
+    farm.count = farms::counted(count, c.first);
     FileAnswer {
         checked: Checked::Accepted,
         farm,
-    }
-}
-
-// What stands at a place.
-fn met_at(s: &[u8], place: ReaderPlace, herd: Herd) -> Met
-    ensures { λ r. ⌜ r ≡ metAt (now (s .entry)) place herd ⌝ }
-{
-    match place.next(s) {
-        Step::End => Met {
-            turn: Turn::Ends,
-            herd,
-            next: place,
-        },
-        Step::Broken => Met {
-            turn: Turn::Wrong(Fault::RecordBroken),
-            herd,
-            next: place,
-        },
-        Step::Record(f, next) => {
-            let t = herds::turn_of(herd, entries::entry_of(s, f));
-            let turn = t.turn;
-            let herd = t.herd;
-            Met { turn, herd, next }
-        }
     }
 }
 
@@ -153,37 +61,46 @@ fn read_records(s: &[u8]) -> FileAnswer
     ensures { λ r. ⌜ r ≡ readFrom 1 nothingRead (readingOf (now (s .entry))) ⌝ }
 {
     let mut place = ReaderPlace::front();
-    let mut farm = no_farm();
+    let mut farm = herds::no_farm();
     let mut labels = labels::no_labels();
-    let mut c = nothing_read();
+    let mut c = Current {
+        herd: herds::no_herd(),
+        first: 0,
+        lacking: 0,
+    };
     let mut number: usize = 1;
     loop {
-        let m = met_at(s, place, c.herd);
-        let turn = m.turn;
-        let herd = m.herd;
+        let read = places::read_at(s, place, c.herd);
+        let effect = read.effect;
+        let herd = read.herd;
         let after = number + 1;
-        match turn {
-            Turn::Ends => return finished(farm, c),
-            Turn::Wrong(fault) => return refused(number, fault),
-            Turn::Adds => {
+        match effect {
+            Effect::Ends => return finished(farm, c),
+            Effect::Wrong(fault) => return refused(number, fault),
+            Effect::Adds => {
                 c.herd = herd;
-                place = m.next;
+                place = read.next;
                 number = after;
                 continue;
             }
-            Turn::Begins => {
+            Effect::Begins => {
                 let count = farm.count;
-                let checked = admitted(labels, count, c.first, herd.label, number);
+                let checked = farms::admitted(labels, count, c.first, herd.label, number);
                 if let Checked::Refused(fault, record) = checked {
                     return refused(record, fault);
                 }
                 let done = c.herd;
                 let label = done.label;
                 farm.herds[count] = done;
-                farm.count = counted(count, c.first);
+                farm.count = farms::counted(count, c.first);
                 labels.of[count] = label;
-                c = followed_by(c, herd, number);
-                place = m.next;
+                let lacking = farms::lacking_with(c.lacking, c.herd, c.first);
+                c = Current {
+                    herd,
+                    first: number,
+                    lacking,
+                };
+                place = read.next;
                 number = after;
                 continue;
             }

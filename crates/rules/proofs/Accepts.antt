@@ -13,8 +13,8 @@ use Rattle.reader.specs.declared.FileAnswer.{FileAnswer}
 use Rattle.reader.specs.Files.{accepted, nothingRead, readFrom, fileMost, readOf}
 use Rattle.rules.specs.Rules.{FarmOf, KeepsRules}
 use Rattle.rules.proofs.Readings.{whole-thens}
-use Rattle.rules.proofs.Through.{says-read}
-use Rattle.rules.proofs.Runs.{Ran, accepts, breaks, wrong, missing, Answered, too-long, read, answered}
+use Rattle.rules.proofs.SaysRead.{says-read}
+use Rattle.rules.proofs.Answers.{Ran, accepts, breaks, wrong, missing, Answered, too-long, read, answered}
 
 -- what is accepted keeps the rules
 keeps : {s : List ℕ} {x : FileAnswer} {f : Farm} → Answered s x → x ≡ accepted f → KeepsRules s f

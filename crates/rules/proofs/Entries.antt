@@ -10,21 +10,23 @@ use borrow.Author.Tests.{eqb-true, eqb-false}
 use Rattle.base.specs.First.{first}
 use Rattle.base.proofs.Clash.{clash}
 use Rattle.csv.specs.Reading.{partsOf}
-use Rattle.inputs.specs.declared.Found.{Found}
-use Rattle.inputs.specs.declared.Found.the-variants.{At, Nowhere}
-use Rattle.inputs.specs.Inputs.{formAt}
+use Rattle.inputs.specs.declared.Kind.{Kind}
+use Rattle.inputs.specs.declared.Form.{Form}
+use Rattle.inputs.specs.declared.FoundInput.{FoundInput}
+use Rattle.inputs.specs.declared.FoundInput.the-variants.{At, Nowhere}
+use Rattle.inputs.specs.Inputs.{formOf}
 use Rattle.inputs.specs.Find.{findInput}
-use Rattle.inputs.proofs.Founds.{find-input-at, find-input-of}
+use Rattle.inputs.proofs.Finds.{find-input-at, find-input-of}
 use Rattle.farm.specs.declared.Given.{Given}
 use Rattle.farm.specs.declared.Fault.{Fault}
 use Rattle.farm.specs.declared.Fault.the-variants.{NotFourFields, BadLabel, NotInTheList, StandardForbidden, BadValue}
 use Rattle.farm.specs.Labels.{labelOk, labelOf}
 use Rattle.farm.specs.Refusals.{number}
-use Rattle.reader.specs.declared.Said.{Said}
-use Rattle.reader.specs.declared.Said.the-variants.{Is, Forbidden, Unfit}
+use Rattle.records.specs.declared.ValueRead.{ValueRead}
+use Rattle.records.specs.declared.ValueRead.the-variants.{Is, Forbidden, Unfit}
 use Rattle.reader.specs.declared.FileAnswer.{FileAnswer}
-use Rattle.reader.specs.Values.{valueOf}
-use Rattle.reader.specs.Entries.{inputIn, givenIn, entryTests}
+use Rattle.records.specs.Values.{valueOf}
+use Rattle.records.specs.Entries.{kindIn, slotIn, givenIn, entryTests}
 use Rattle.reader.specs.Files.{refused}
 use Rattle.rules.specs.Rules.{Record, GoodLabel, Names, ValueIs, RecordSays, says}
 use Rattle.rules.specs.Refusals.{labelText, valueIn, NamesInput, Applies, not-four-fields, bad-label, not-in-the-list, standard-forbidden, bad-value}
@@ -34,49 +36,61 @@ use Rattle.rules.proofs.Faults.{NoneBelow, none-yet, none-next}
 
 -- ---- the input that a record names
 
-pub found-named : (m n : List ℕ) (i : ℕ) → findInput m n ≡ At i → Names m n i
-found-named m n i e = let x = find-input-at m n i e in record { inside = x .inside; path = x .path; name = x .name }
+found-named : (m n : List ℕ) {k : Kind} {i : ℕ} {form : Form} → findInput m n ≡ At k i form → Names m n k i × (form ≡ formOf k i)
+found-named m n e = let x = find-input-at m n e in (record { inside = x .0 .inside; path = x .0 .path; name = x .0 .name }, x .1)
 
-pub named-found : {m n : List ℕ} {i : ℕ} → Names m n i → findInput m n ≡ At i
-named-found {m} {n} {i} x = find-input-of m n i (record { inside = x .inside; path = x .path; name = x .name })
+named-found : {m n : List ℕ} {k : Kind} {i : ℕ} → Names m n k i → findInput m n ≡ At k i (formOf k i)
+named-found {m} {n} {k} {i} x = find-input-of m n k i (record { inside = x .inside; path = x .path; name = x .name })
 
-pub one-input : {m n : List ℕ} {i j : ℕ} → Names m n i → Names m n j → i ≡ j
-one-input x y = let a = named-found x in let b = named-found y in cc
+pub one-kind : {m n : List ℕ} {k k′ : Kind} {i j : ℕ} → Names m n k i → Names m n k′ j → k ≡ k′
+one-kind x y = let a = named-found x in let b = named-found y in cc
+
+pub one-slot : {m n : List ℕ} {k k′ : Kind} {i j : ℕ} → Names m n k i → Names m n k′ j → i ≡ j
+one-slot x y = let a = named-found x in let b = named-found y in cc
 
 -- ---- a record that says something passes 3 to 7, and is read as what it says
 
-pub record Reads (cs : Record) (l : List ℕ) (i : ℕ) (g : Given) : Type 0 where
+pub record Reads (cs : Record) (l : List ℕ) (k : Kind) (i : ℕ) (g : Given) : Type 0 where
   pub label : labelText cs ≡ l
   pub good : GoodLabel l
-  pub names : NamesInput cs i
-  pub input : inputIn (partsOf cs) ≡ i
+  pub names : NamesInput cs k i
+  pub kind : kindIn (partsOf cs) ≡ k
+  pub slot : slotIn (partsOf cs) ≡ i
   pub given : givenIn (partsOf cs) ≡ g
-  pub value : ValueIs (formAt i) (valueIn cs) g
+  pub value : ValueIs (formOf k i) (valueIn cs) g
   pub passes : (n : ℕ) (z : FileAnswer) → first (entryTests (refused n) (partsOf cs)) z ≡ z
 
-pub reads : {cs : Record} {l : List ℕ} {i : ℕ} {g : Given} → RecordSays cs l i g → Reads cs l i g
-reads (says {label = l} {path = m} {name = n} {value = v} {input = i} {given = g} good names value) =
+pub reads : {cs : Record} {l : List ℕ} {k : Kind} {i : ℕ} {g : Given} → RecordSays cs l k i g → Reads cs l k i g
+reads (says {label = l} good names value) =
     let found = named-found names in
-    let said = value-said i (names .inside) (formAt i) refl value in
+    let said = value-said value in
     record {
       label = refl;
       good = good;
       names = names;
-      input = rw found;
+      kind = rw found;
+      slot = rw found;
       given = rw (found, said);
       value = value;
-      passes = λ k z. rw (good-ok l good, found, said);
+      passes = λ n z. rw (good-ok l good, found, said);
     }
 
-pub one-given : {cs : Record} {l l′ : List ℕ} {i j : ℕ} {g g′ : Given} → RecordSays cs l i g → RecordSays cs l′ j g′ → (l ≡ l′) × ((i ≡ j) × (g ≡ g′))
+-- a record says one thing
+pub record Same {A : Type 0} (l l′ : A) (k k′ : Kind) (i j : ℕ) (g g′ : Given) : Type 0 where
+  pub label : l ≡ l′
+  pub kind : k ≡ k′
+  pub slot : i ≡ j
+  pub given : g ≡ g′
+
+pub one-given : {cs : Record} {l l′ : List ℕ} {k k′ : Kind} {i j : ℕ} {g g′ : Given} → RecordSays cs l k i g → RecordSays cs l′ k′ j g′ → Same l l′ k k′ i j g g′
 one-given a b =
     let r = reads a in
     let q = reads b in
-    (sym (r .label) ∙ q .label, (sym (r .input) ∙ q .input, sym (r .given) ∙ q .given))
+    record { label = sym (r .label) ∙ q .label; kind = sym (r .kind) ∙ q .kind; slot = sym (r .slot) ∙ q .slot; given = sym (r .given) ∙ q .given }
 
 -- ---- the other way
 
-four : {i : ℕ} {g : Given} (cs : Record) → length cs ≡ 4 → GoodLabel (labelText cs) → NamesInput cs i → ValueIs (formAt i) (valueIn cs) g → RecordSays cs (labelText cs) i g
+four : {k : Kind} {i : ℕ} {g : Given} (cs : Record) → length cs ≡ 4 → GoodLabel (labelText cs) → NamesInput cs k i → ValueIs (formOf k i) (valueIn cs) g → RecordSays cs (labelText cs) k i g
 four [] e = absurd (omega arith)
 four (a ∷ []) e = absurd (omega arith)
 four (a ∷ b ∷ []) e = absurd (omega arith)
@@ -85,7 +99,7 @@ four (a ∷ b ∷ c ∷ d ∷ []) e = says
 four (a ∷ b ∷ c ∷ d ∷ x ∷ cs) e = absurd (omega arith)
 
 pub data Alone (before : List Record) (cs : Record) : Type 0 where
-  tells : {l : List ℕ} {i : ℕ} {g : Given} → RecordSays cs l i g → NoneBelow before cs 8 → Alone before cs
+  tells : {l : List ℕ} {k : Kind} {i : ℕ} {g : Given} → RecordSays cs l k i g → NoneBelow before cs 8 → Alone before cs
   wrong : {fault : Fault} → Applies before cs fault → NoneBelow before cs (number fault)
       → ((n : ℕ) (z : FileAnswer) → first (entryTests (refused n) (partsOf cs)) z ≡ refused n fault) → Alone before cs
 
@@ -96,44 +110,46 @@ module _ (before : List Record) (cs : Record) where
   no-4 : GoodLabel (labelText cs) → Applies before cs BadLabel → ⊥
   no-4 g (bad-label n) = n g
 
-  module _ {i : ℕ} (names : NamesInput cs i) where
+  module _ {k : Kind} {i : ℕ} (names : NamesInput cs k i) where
     no-5 : Applies before cs NotInTheList → ⊥
-    no-5 (not-in-the-list n) = n i names
+    no-5 (not-in-the-list n) = n k i names
 
-    module _ {r : Said} (e : valueOf (formAt i) (valueIn cs) ≡ r) where
+    -- the one input that it names has one form
+    one-form : {k′ : Kind} {j : ℕ} → NamesInput cs k′ j → formOf k′ j ≡ formOf k i
+    one-form x = let q = one-kind x names in let s = one-slot x names in cc
+
+    module _ {r : ValueRead} (e : valueOf (formOf k i) (valueIn cs) ≡ r) where
       no-6 : (r ≡ Forbidden → ⊥) → Applies before cs StandardForbidden → ⊥
-      no-6 n (standard-forbidden x f s) =
-          let q = ap formAt (one-input x names) in
-          n (sym e ∙ ap (λ form. valueOf form (valueIn cs)) (sym q) ∙ forbidden-said (valueIn cs) f s)
+      no-6 n (standard-forbidden x f s) = n (sym e ∙ ap (λ form. valueOf form (valueIn cs)) (sym (one-form x)) ∙ forbidden-said (valueIn cs) f s)
 
-    no-7 : {g : Given} → ValueIs (formAt i) (valueIn cs) g → Applies before cs BadValue → ⊥
-    no-7 {g} v (bad-value x n) = n g (rw (one-input x names) v)
+    no-7 : {g : Given} → ValueIs (formOf k i) (valueIn cs) g → Applies before cs BadValue → ⊥
+    no-7 {g} v (bad-value x n) = n g (rw (one-form x) v)
 
   pub alone : Alone before cs
   alone = count (eqb (length cs) 4) refl
     where
-      value : {i : ℕ} → length cs ≡ 4 → eqb (length cs) 4 ≡ true → GoodLabel (labelText cs) → labelOk (labelOf (labelText cs)) ≡ true → NamesInput cs i → findInput (getD cs 1 []) (getD cs 2 []) ≡ At i
-          → NoneBelow before cs 6 → (r : Said) → valueOf (formAt i) (valueIn cs) ≡ r → Alone before cs
-      value {i} h e3 good e4 names e5 below (Is g) e =
-          let v = said-value (formAt i) (valueIn cs) e in
+      value : {k : Kind} {i : ℕ} → length cs ≡ 4 → eqb (length cs) 4 ≡ true → GoodLabel (labelText cs) → labelOk (labelOf (labelText cs)) ≡ true → NamesInput cs k i
+          → findInput (getD cs 1 []) (getD cs 2 []) ≡ At k i (formOf k i) → NoneBelow before cs 6 → (r : ValueRead) → valueOf (formOf k i) (valueIn cs) ≡ r → Alone before cs
+      value {k} {i} h e3 good e4 names e5 below (Is g) e =
+          let v = said-value (formOf k i) (valueIn cs) e in
           tells (four cs h good names v) (none-next 7 (none-next 6 below (no-6 names e (λ d. clash cc))) (no-7 names v))
-      value {i} h e3 good e4 names e5 below Forbidden e =
-          let f = said-forbidden (formAt i) (valueIn cs) e in
+      value {k} {i} h e3 good e4 names e5 below Forbidden e =
+          let f = said-forbidden (formOf k i) (valueIn cs) e in
           wrong (standard-forbidden names (f .0) (f .1)) below (λ n z. rw (e3, e4, e5, e))
-      value {i} h e3 good e4 names e5 below Unfit e =
+      value h e3 good e4 names e5 below Unfit e =
           wrong
-          (bad-value names (λ g v. let s = value-said i (names .inside) (formAt i) refl v in clash cc))
+          (bad-value names (λ g v. let s = value-said v in clash cc))
           (none-next 6 below (no-6 names e (λ d. clash cc)))
           (λ n z. rw (e3, e4, e5, e))
 
       input : length cs ≡ 4 → eqb (length cs) 4 ≡ true → GoodLabel (labelText cs) → labelOk (labelOf (labelText cs)) ≡ true → NoneBelow before cs 5
-          → (r : Found) → findInput (getD cs 1 []) (getD cs 2 []) ≡ r → Alone before cs
-      input h e3 good e4 below (At i) e =
-          let names = found-named (getD cs 1 []) (getD cs 2 []) i e in
-          value h e3 good e4 names e (none-next 5 below (no-5 names)) (valueOf (formAt i) (valueIn cs)) refl
+          → (r : FoundInput) → findInput (getD cs 1 []) (getD cs 2 []) ≡ r → Alone before cs
+      input h e3 good e4 below (At k i form) e =
+          let x = found-named (getD cs 1 []) (getD cs 2 []) e in
+          value h e3 good e4 (x .0) (named-found (x .0)) (none-next 5 below (no-5 (x .0))) (valueOf (formOf k i) (valueIn cs)) refl
       input h e3 good e4 below Nowhere e =
           wrong
-          (not-in-the-list (λ i names. let f = named-found names in clash cc))
+          (not-in-the-list (λ k i names. let f = named-found names in clash cc))
           below
           (λ n z. rw (e3, e4, e))
 

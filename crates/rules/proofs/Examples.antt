@@ -1,6 +1,6 @@
 -- Files on both sides of the rules, among them the pigs of 01, computed from the definitions under one statement.
 -- Assumes nothing.
-use Prim.Native.Nat.{ℕ}
+use Prim.Native.Nat.{ℕ, _-_}
 use Prim.Native.String.{String}
 use mathlib.Core.Path.{_≡_, refl, ap}
 use mathlib.Core.List.{List, [], _∷_, _++_, map}
@@ -10,19 +10,21 @@ use Rattle.base.specs.Part.{sameBytes, lower, lowered}
 use Rattle.csv.specs.Reading.{atStart, inPlain, inQuotes, pastQuote, pastCR, readingFrom, readingOf}
 use Rattle.decimal.specs.Reading.{fractionFrom, pointFrom, wholeFrom, zeroFrom, anyNumberOf, numberOf}
 use Rattle.inputs.specs.declared.Kind.the-variants.{Roughage, Pigs}
-use Rattle.inputs.specs.Inputs.{formAt}
-use Rattle.inputs.specs.Find.{firstFrom, isRow, findInput, isName, findName}
+use Rattle.names.specs.Find.{firstFrom, isName, findText, findName}
+use Rattle.inputs.specs.Inputs.{countOf}
+use Rattle.inputs.specs.Find.{isRow, firstRow, findAmong, findInput}
 use Rattle.farm.specs.declared.Given.{Given}
 use Rattle.farm.specs.declared.Given.the-variants.{Standard, Value}
 use Rattle.farm.specs.declared.Slot.{Slot}
 use Rattle.farm.specs.declared.Herd.{Herd}
 use Rattle.farm.specs.declared.Fault.the-variants.{RecordBroken, NotFourFields, BadLabel, NotInTheList, StandardForbidden, BadValue, EarlierLabel, OtherKind, GivenAlready, InputMissing}
+use Rattle.farm.specs.Limits.{slots}
 use Rattle.farm.specs.Labels.{byteOk, labelOk, sameLabel, labelOf}
-use Rattle.farm.specs.Checks.{lacks, earlierLabel}
+use Rattle.checks.specs.Checks.{lacks, earlierLabel}
 use Rattle.farm.specs.Herds.{noSlot}
 use Rattle.reader.specs.declared.FileAnswer.{FileAnswer}
-use Rattle.reader.specs.Values.{isStandard, valueOf}
-use Rattle.reader.specs.Herds.{withInput, newHerd}
+use Rattle.records.specs.Values.{isStandard, valueOf}
+use Rattle.progress.specs.Herds.{withInput, newHerd}
 use Rattle.reader.specs.Files.{refused, accepted, closed, recordTests, taken, finished, readFrom, readOf}
 use Rattle.rules.specs.Rules.{farmOf, KeepsRules}
 use Rattle.rules.proofs.Accepts.{accepts-exactly}
@@ -59,7 +61,7 @@ pigHerd =
     record {
       label = labelOf (bytes "P1");
       kind = Pigs;
-      slots = slot (Value 10) ∷ slot (Value 13000) ∷ slot (Value 7000) ∷ slot (Value 4) ∷ replicate 5 noSlot;
+      slots = slot (Value 10) ∷ slot (Value 13000) ∷ slot (Value 7000) ∷ slot (Value 4) ∷ replicate (slots - countOf Pigs) noSlot;
     }
 
 -- ten red deer by the standards
@@ -75,7 +77,7 @@ deerHerd =
     record {
       label = labelOf (bytes "D");
       kind = Roughage;
-      slots = slot (Value 1) ∷ slot (Value 10) ∷ slot Standard ∷ slot Standard ∷ slot (Value 0) ∷ slot (Value 365) ∷ slot (Value 75) ∷ replicate 2 noSlot;
+      slots = slot (Value 1) ∷ slot (Value 10) ∷ slot Standard ∷ slot Standard ∷ slot (Value 0) ∷ slot (Value 365) ∷ slot (Value 75) ∷ replicate (slots - countOf Roughage) noSlot;
     }
 
 -- ---- what they are read as
@@ -110,7 +112,7 @@ examples =
     ∷ []
 
 worked : map (λ (e : Example). readOf (e .file)) examples ≡ map (λ (e : Example). e .answer) examples
-unfolding readOf readFrom recordTests taken closed finished readingOf readingFrom atStart inPlain inQuotes pastQuote pastCR labelOf labelOk byteOk sameLabel sameBytes lower lowered findInput firstFrom isRow formAt valueOf isStandard numberOf anyNumberOf zeroFrom wholeFrom pointFrom fractionFrom findName isName newHerd withInput lacks earlierLabel
+unfolding readOf readFrom recordTests taken closed finished readingOf readingFrom atStart inPlain inQuotes pastQuote pastCR labelOf labelOk byteOk sameLabel sameBytes lower lowered findInput findAmong firstRow isRow valueOf isStandard numberOf anyNumberOf zeroFrom wholeFrom pointFrom fractionFrom findName findText firstFrom isName newHerd withInput lacks earlierLabel
 worked = refl
 
 -- the pigs of 01 keep the rules

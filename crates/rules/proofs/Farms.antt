@@ -13,79 +13,83 @@ use Rattle.base.specs.First.{Test, _when_, first}
 use Rattle.base.proofs.Clash.{clash}
 use Rattle.base.specs.Each.{Each, none, more}
 use Rattle.csv.specs.Reading.{partsOf}
-use Rattle.inputs.specs.Inputs.{kindAt}
+use Rattle.inputs.specs.declared.Kind.{Kind}
+use Rattle.inputs.specs.Inputs.{sameKind}
 use Rattle.farm.specs.declared.Label.{Label}
 use Rattle.farm.specs.declared.Given.{Given}
 use Rattle.farm.specs.declared.Herd.{Herd}
 use Rattle.farm.specs.declared.Farm.{Farm}
 use Rattle.farm.specs.declared.Fault.the-variants.{EarlierLabel, NoRoomForHerd, OtherKind, GivenAlready}
 use Rattle.farm.specs.Labels.{sameLabel, labelOf}
-use Rattle.farm.specs.Checks.{labelsOf, earlierLabel, herdsOf}
+use Rattle.checks.specs.Checks.{labelsOf, earlierLabel, herdsOf}
 use Rattle.farm.specs.Herds.{noHerd}
 use Rattle.reader.specs.declared.FileAnswer.{FileAnswer}
-use Rattle.reader.specs.Entries.{inputIn, givenIn}
-use Rattle.reader.specs.Herds.{sameKind, withInput, newHerd, hasInput}
-use Rattle.reader.specs.Files.{Progress, refused, withHerd, lackingWith, closed, recordTests, taken}
+use Rattle.records.specs.Entries.{kindIn, slotIn, givenIn}
+use Rattle.progress.specs.Herds.{withInput, newHerd, hasInput}
+use Rattle.progress.specs.Farms.{lackingWith}
+use Rattle.reader.specs.Files.{Progress, refused, withHerd, closed, recordTests, taken}
 use Rattle.rules.specs.Lists.{Some, here, there, Apart, Pairs}
-use Rattle.rules.specs.Rules.{Record, GoodLabel, RecordSays, Gives, PartOf, Stand, farmOf}
+use Rattle.rules.specs.Rules.{herdsMost, Record, GoodLabel, RecordSays, Gives, PartOf, Stand, farmOf}
 use Rattle.rules.proofs.Lists.{neither, apart-last}
 use Rattle.rules.proofs.Labels.{same-texts, other-label, own-label}
 use Rattle.rules.proofs.Entries.{reads}
 
 -- ---- a record that says something, with 8 to 11 before it
 
-abbrev pub turnTests : ℕ → Progress → Label → ℕ → List (Test FileAnswer)
-turnTests n p l i =
+abbrev pub herdTests : ℕ → Progress → Label → Kind → ℕ → List (Test FileAnswer)
+herdTests n p l k i =
     refused n EarlierLabel when (not (sameLabel (p .herd .label) l) && earlierLabel (herdsOf (p .farm)) l)
-    ∷ refused n NoRoomForHerd when (not (sameLabel (p .herd .label) l) && leb 64 (closed p .farm .count))
-    ∷ refused n OtherKind when (sameLabel (p .herd .label) l && not (sameKind (p .herd .kind) (kindAt i)))
+    ∷ refused n NoRoomForHerd when (not (sameLabel (p .herd .label) l) && leb herdsMost (closed p .farm .count))
+    ∷ refused n OtherKind when (sameLabel (p .herd .label) l && not (sameKind (p .herd .kind) k))
     ∷ refused n GivenAlready when (sameLabel (p .herd .label) l && hasInput (p .herd) i)
     ∷ []
 
-abbrev pub tookTo : ℕ → Progress → Label → ℕ → Given → Progress
-tookTo n p l i g =
+abbrev pub tookTo : ℕ → Progress → Label → Kind → ℕ → Given → Progress
+tookTo n p l k i g =
     pick (sameLabel (p .herd .label) l) (record { farm = p .farm; herd = withInput (p .herd) i g; first = p .first; lacking = p .lacking })
-    (record { farm = closed p .farm; herd = newHerd l i g; first = n; lacking = closed p .lacking })
+    (record { farm = closed p .farm; herd = newHerd l k i g; first = n; lacking = closed p .lacking })
 
-module _ {cs : Record} {l : List ℕ} {i : ℕ} {g : Given} (said : RecordSays cs l i g) (n : ℕ) (p : Progress) where
-  pub record-turn : (z : FileAnswer) → first (recordTests n p (partsOf cs)) z ≡ first (turnTests n p (labelOf l) i) z
+module _ {cs : Record} {l : List ℕ} {k : Kind} {i : ℕ} {g : Given} (said : RecordSays cs l k i g) (n : ℕ) (p : Progress) where
+  pub record-tests : (z : FileAnswer) → first (recordTests n p (partsOf cs)) z ≡ first (herdTests n p (labelOf l) k i) z
   unfolding recordTests
-  record-turn z =
+  record-tests z =
       let r = reads said in
       r .passes n _
-      ∙ ap (λ (t : List ℕ). first (turnTests n p (labelOf t) (inputIn (partsOf cs))) z) (r .label)
-      ∙ ap (λ (j : ℕ). first (turnTests n p (labelOf l) j) z) (r .input)
+      ∙ ap (λ (t : List ℕ). first (herdTests n p (labelOf t) (kindIn (partsOf cs)) (slotIn (partsOf cs))) z) (r .label)
+      ∙ ap (λ (x : Kind). first (herdTests n p (labelOf l) x (slotIn (partsOf cs))) z) (r .kind)
+      ∙ ap (λ (j : ℕ). first (herdTests n p (labelOf l) k j) z) (r .slot)
 
-  pub record-took : taken n p (partsOf cs) ≡ tookTo n p (labelOf l) i g
+  pub record-took : taken n p (partsOf cs) ≡ tookTo n p (labelOf l) k i g
   unfolding taken
   record-took =
       let r = reads said in
-      ap (λ (t : List ℕ). tookTo n p (labelOf t) (inputIn (partsOf cs)) (givenIn (partsOf cs))) (r .label)
-      ∙ ap (λ (j : ℕ). tookTo n p (labelOf l) j (givenIn (partsOf cs))) (r .input)
-      ∙ ap (λ (v : Given). tookTo n p (labelOf l) i v) (r .given)
+      ap (λ (t : List ℕ). tookTo n p (labelOf t) (kindIn (partsOf cs)) (slotIn (partsOf cs)) (givenIn (partsOf cs))) (r .label)
+      ∙ ap (λ (x : Kind). tookTo n p (labelOf l) x (slotIn (partsOf cs)) (givenIn (partsOf cs))) (r .kind)
+      ∙ ap (λ (j : ℕ). tookTo n p (labelOf l) k j (givenIn (partsOf cs))) (r .slot)
+      ∙ ap (λ (v : Given). tookTo n p (labelOf l) k i v) (r .given)
 
 -- ---- farms
 
 pub herds-of : (hs : List Herd) → herdsOf (farmOf hs) ≡ hs
-herds-of hs = take-append-seam hs (replicate (64 - length hs) noHerd)
+herds-of hs = take-append-seam hs (replicate (herdsMost - length hs) noHerd)
 
 farm-eq : (a b : Farm) → a .herds ≡ b .herds → a .count ≡ b .count → a ≡ b
 farm-eq a b p q = ap (λ (x : List Herd). record { herds = x; count = a .count }) p ∙ ap (λ (n : ℕ). record { herds = b .herds; count = n }) q
 
 -- one herd more
-pub one-more : (hs : List Herd) (h : Herd) → length hs < 64 → withHerd (farmOf hs) h ≡ farmOf (hs ++ (h ∷ []))
+pub one-more : (hs : List Herd) (h : Herd) → length hs < herdsMost → withHerd (farmOf hs) h ≡ farmOf (hs ++ (h ∷ []))
 one-more hs h room =
     farm-eq (withHerd (farmOf hs) h) (farmOf (hs ++ (h ∷ [])))
     (ap (λ (n : ℕ). set (hs ++ replicate n noHerd) (length hs) h) front
-    ∙ set-append-seam hs noHerd (replicate (63 - length hs) noHerd) h
-    ∙ sym (append-assoc hs (h ∷ []) (replicate (63 - length hs) noHerd))
+    ∙ set-append-seam hs noHerd (replicate (herdsMost - 1 - length hs) noHerd) h
+    ∙ sym (append-assoc hs (h ∷ []) (replicate (herdsMost - 1 - length hs) noHerd))
     ∙ ap (λ (n : ℕ). (hs ++ (h ∷ [])) ++ replicate n noHerd) back)
     (sym (length-append hs (h ∷ [])))
   where
-    front : 64 - length hs ≡ suc (63 - length hs)
+    front : herdsMost - length hs ≡ suc (herdsMost - 1 - length hs)
     front = omega arith
 
-    back : 63 - length hs ≡ 64 - length (hs ++ (h ∷ []))
+    back : herdsMost - 1 - length hs ≡ herdsMost - length (hs ++ (h ∷ []))
     back = omega (arith, length-append hs (h ∷ []))
 
 -- ---- how far a file is read
@@ -93,7 +97,7 @@ one-more hs h room =
 abbrev pub at : List Herd → Herd → ℕ → ℕ → Progress
 at hs h first′ lacking′ = record { farm = farmOf hs; herd = h; first = first′; lacking = lacking′ }
 
-module _ (hs : List Herd) (h : Herd) (m k : ℕ) (room : length hs < 64) where
+module _ (hs : List Herd) (h : Herd) (m k : ℕ) (room : length hs < herdsMost) where
   pub closed-farm : closed (at hs h (m + 1) k) .farm ≡ farmOf (hs ++ (h ∷ []))
   unfolding closed
   closed-farm = rw (ne-eqb (m + 1) 0 (λ e. omega arith)) (one-more hs h room)

@@ -16,16 +16,17 @@ use Rattle.base.proofs.Each.{each-map}
 use Rattle.inputs.specs.declared.Kind.{Kind}
 use Rattle.inputs.specs.declared.Kind.the-variants.{Roughage, Cattle, Pigs}
 use Rattle.inputs.specs.declared.Form.{Form}
-use Rattle.inputs.specs.Inputs.{Row, rows, rowsOf, countOf, firstOf, kindAt}
-use Rattle.inputs.proofs.Places.{count-most, kind-starts, within-kind}
+use Rattle.inputs.specs.Inputs.{Row, rowsOf, sameKind, countOf}
 use Rattle.farm.specs.declared.Label.{Label}
 use Rattle.farm.specs.declared.Given.{Given}
 use Rattle.farm.specs.declared.Slot.{Slot}
 use Rattle.farm.specs.declared.Herd.{Herd}
-use Rattle.farm.specs.Checks.{isMissing, lacksOne, lacks}
+use Rattle.checks.specs.Checks.{lacksOne, lacks}
+use Rattle.farm.specs.Limits.{slots}
 use Rattle.farm.specs.Labels.{labelOf}
-use Rattle.farm.specs.Herds.{noSlot, slotOf}
-use Rattle.reader.specs.Herds.{sameKind, withInput, newHerd, hasInput}
+use Rattle.farm.specs.Herds.{isMissing, noSlot}
+use Rattle.farm.proofs.Slots.{count-most}
+use Rattle.progress.specs.Herds.{withInput, newHerd, hasInput}
 use Rattle.rules.specs.Lists.{Some, here, there, Apart, Pairs}
 use Rattle.rules.specs.Rules.{Record, ValueIs, RecordSays, Gives, PartOf, HerdOf}
 use Rattle.rules.proofs.Lists.{neither, each-front, each-back, meet, apart-last, pairs-append, pairs-map, fellow}
@@ -54,15 +55,8 @@ kind-two a b e d = let t : false ≡ true = sym e ∙ ap (λ (k : Kind). sameKin
 
 -- ---- slots
 
--- of one kind, two inputs have two slots
-pub slot-one : (i j : ℕ) → kindAt i ≡ kindAt j → slotOf i ≡ slotOf j → i ≡ j
-slot-one i j e h = omega (arith, kind-starts i, kind-starts j, ap firstOf e)
-
-pub slot-place : (i : ℕ) (k : Kind) → k ≡ kindAt i → i ≡ firstOf k + slotOf i
-slot-place i k e = omega (arith, kind-starts i, ap firstOf e)
-
-slot-room : (i : ℕ) → i < length rows → slotOf i < 9
-slot-room i h = omega (arith, within-kind i h, count-most (kindAt i))
+slot-room : (k : Kind) (slot : ℕ) → slot < countOf k → slot < slots
+slot-room k slot h = omega (arith, count-most k)
 
 blank : (n j : ℕ) → getD (replicate n noSlot) j noSlot ≡ noSlot
 blank zero zero = refl
@@ -70,15 +64,15 @@ blank zero (suc j) = refl
 blank (suc n) zero = refl
 blank (suc n) (suc j) = blank n j
 
--- a slot of one of the inputs, or of none
-pub some-slot : (j : ℕ) (is : List ℕ) → Some (λ i. slotOf i ≡ j) is ⊎ Each (λ i. slotOf i ≡ j → ⊥) is
+-- a slot is one of these, or none
+pub some-slot : (j : ℕ) (is : List ℕ) → Some (λ i. i ≡ j) is ⊎ Each (λ i. i ≡ j → ⊥) is
 some-slot j [] = inr none
-some-slot j (i ∷ is) = go (eqb (slotOf i) j) refl (some-slot j is)
+some-slot j (i ∷ is) = go (eqb i j) refl (some-slot j is)
   where
-    go : (t : Bool) → eqb (slotOf i) j ≡ t → Some (λ i. slotOf i ≡ j) is ⊎ Each (λ i. slotOf i ≡ j → ⊥) is → Some (λ i. slotOf i ≡ j) (i ∷ is) ⊎ Each (λ i. slotOf i ≡ j → ⊥) (i ∷ is)
-    go true e r = inl (here (eqb-true (slotOf i) j e))
+    go : (t : Bool) → eqb i j ≡ t → Some (λ i. i ≡ j) is ⊎ Each (λ i. i ≡ j → ⊥) is → Some (λ i. i ≡ j) (i ∷ is) ⊎ Each (λ i. i ≡ j → ⊥) (i ∷ is)
+    go true e r = inl (here (eqb-true i j e))
     go false e (inl s) = inl (there s)
-    go false e (inr n) = inr (more (eqb-false (slotOf i) j e) n)
+    go false e (inr n) = inr (more (eqb-false i j e) n)
 
 -- ---- values
 
@@ -93,19 +87,22 @@ value-given (ValueIs.name _) = refl
 abbrev pub missingAt : Herd → ℕ → Bool
 missingAt h j = isMissing (getD (h .slots) j noSlot .given)
 
-pub gives-filled : {h : Herd} {cs : Record} {i : ℕ} → Gives h cs i → missingAt h (slotOf i) ≡ false
-gives-filled x = ap (λ (s : Slot). isMissing (s .given)) (x .slot) ∙ value-given (reads (x .says) .value)
+pub gives-filled : {h : Herd} {cs : Record} {i : ℕ} → Gives h cs i → missingAt h i ≡ false
+gives-filled x = ap (λ (s : Slot). isMissing (s .given)) (x .has) ∙ value-given (reads (x .says) .value)
 
 -- no input has a slot that is missing
-pub unfilled : {h : Herd} {rs : List Record} {is : List ℕ} (j : ℕ) → Pairs (Gives h) rs is → missingAt h j ≡ true → Each (λ i. slotOf i ≡ j → ⊥) is
+pub unfilled : {h : Herd} {rs : List Record} {is : List ℕ} (j : ℕ) → Pairs (Gives h) rs is → missingAt h j ≡ true → Each (λ i. i ≡ j → ⊥) is
 unfilled j Pairs.none e = none
 unfilled {h} j (Pairs.more {b = i} x p) e =
     more (λ d. let f : true ≡ false = sym e ∙ ap (missingAt h) (sym d) ∙ gives-filled x in clash cc) (unfilled j p e)
 
 -- ---- a herd grows by a record
 
-module _ {cs : Record} {l : List ℕ} {i : ℕ} {g : Given} (said : RecordSays cs l i g) where
-  pub part-new : PartOf (cs ∷ []) (newHerd (labelOf l) i g)
+module _ {cs : Record} {l : List ℕ} {k : Kind} {i : ℕ} {g : Given} (said : RecordSays cs l k i g) where
+  inside : i < slots
+  inside = slot-room k i (reads said .names .inside)
+
+  pub part-new : PartOf (cs ∷ []) (newHerd (labelOf l) k i g)
   unfolding newHerd withInput
   part-new =
       record {
@@ -113,66 +110,57 @@ module _ {cs : Record} {l : List ℕ} {i : ℕ} {g : Given} (said : RecordSays c
         some = omega arith;
         each =
             Pairs.more
-            (record {
-              label = l;
-              given = g;
-              says = said;
-              own = refl;
-              kind = refl;
-              slot = getD-set-same (replicate 9 noSlot) (slotOf i) (record { given = g }) noSlot (slot-room i (reads said .names .inside));
-            })
+            (record { label = l; given = g; says = said; own = refl; has = getD-set-same (replicate slots noSlot) i (record { given = g }) noSlot inside })
             Pairs.none;
         once = Apart.next none Apart.none;
-        room = length-set (replicate 9 noSlot) (slotOf i) (record { given = g });
+        room = length-set (replicate slots noSlot) i (record { given = g });
         rest = fresh;
       }
     where
-      fresh : (j : ℕ) → Each (λ i. slotOf i ≡ j → ⊥) (i ∷ []) → getD (set (replicate 9 noSlot) (slotOf i) (record { given = g })) j noSlot ≡ noSlot
-      fresh j (more n none) = getD-set-other (replicate 9 noSlot) (slotOf i) j (record { given = g }) noSlot (λ e. n (sym e)) ∙ blank 9 j
+      fresh : (j : ℕ) → Each (λ i. i ≡ j → ⊥) (i ∷ []) → getD (set (replicate slots noSlot) i (record { given = g })) j noSlot ≡ noSlot
+      fresh j (more n none) = getD-set-other (replicate slots noSlot) i j (record { given = g }) noSlot (λ e. n (sym e)) ∙ blank slots j
 
-  module _ (h : Herd) (own : h .label ≡ labelOf l) (kind : h .kind ≡ kindAt i) where
-    gives-kept : (r : Record) (i′ : ℕ) → Gives h r i′ → (slotOf i′ ≡ slotOf i → ⊥) → Gives (withInput h i g) r i′
+  module _ (h : Herd) (own : h .label ≡ labelOf l) (kind : h .kind ≡ k) where
+    gives-kept : (r : Record) (j : ℕ) → Gives h r j → (j ≡ i → ⊥) → Gives (withInput h i g) r j
     unfolding withInput
-    gives-kept r i′ x n =
+    gives-kept r j x n =
         record {
           label = x .label;
           given = x .given;
           says = x .says;
           own = x .own;
-          kind = x .kind;
-          slot = getD-set-other (h .slots) (slotOf i) (slotOf i′) (record { given = g }) noSlot n ∙ x .slot;
+          has = getD-set-other (h .slots) i j (record { given = g }) noSlot n ∙ x .has;
         }
 
-    gives-new : length (h .slots) ≡ 9 → Gives (withInput h i g) cs i
+    gives-new : length (h .slots) ≡ slots → Gives (withInput h i g) cs i
     unfolding withInput
     gives-new room =
         record {
           label = l;
           given = g;
-          says = said;
+          says = rw kind said;
           own = own;
-          kind = kind;
-          slot = getD-set-same (h .slots) (slotOf i) (record { given = g }) noSlot (omega (arith, slot-room i (reads said .names .inside)));
+          has = getD-set-same (h .slots) i (record { given = g }) noSlot (omega (arith, inside));
         }
 
     pub part-more : {rs : List Record} → PartOf rs h → hasInput h i ≡ false → PartOf (rs ++ (cs ∷ [])) (withInput h i g)
     unfolding withInput
     part-more {rs} p e =
-        let open′ = unfilled (slotOf i) (p .each) (not-false (missingAt h (slotOf i)) e) in
+        let open′ = unfilled i (p .each) (not-false (missingAt h i) e) in
         record {
           inputs = p .inputs ++ (i ∷ []);
           some = omega (arith, p .some, length-append rs (cs ∷ []));
           each = pairs-append (pairs-map gives-kept (p .each) open′) (Pairs.more (gives-new (p .room)) Pairs.none);
-          once = apart-last (p .once) (each-map (λ i′ n d. n (ap slotOf d)) open′);
-          room = length-set (h .slots) (slotOf i) (record { given = g }) ∙ p .room;
+          once = apart-last (p .once) open′;
+          room = length-set (h .slots) i (record { given = g }) ∙ p .room;
           rest = fresh;
         }
       where
-        fresh : (j : ℕ) → Each (λ i. slotOf i ≡ j → ⊥) (p .inputs ++ (i ∷ [])) → getD (set (h .slots) (slotOf i) (record { given = g })) j noSlot ≡ noSlot
+        fresh : (j : ℕ) → Each (λ i. i ≡ j → ⊥) (p .inputs ++ (i ∷ [])) → getD (set (h .slots) i (record { given = g })) j noSlot ≡ noSlot
         fresh j n = last (each-back (p .inputs) (i ∷ []) n) ∙ p .rest j (each-front (p .inputs) (i ∷ []) n)
           where
-            last : Each (λ i. slotOf i ≡ j → ⊥) (i ∷ []) → getD (set (h .slots) (slotOf i) (record { given = g })) j noSlot ≡ getD (h .slots) j noSlot
-            last (more m none) = getD-set-other (h .slots) (slotOf i) j (record { given = g }) noSlot (λ d. m (sym d))
+            last : Each (λ i. i ≡ j → ⊥) (i ∷ []) → getD (set (h .slots) i (record { given = g })) j noSlot ≡ getD (h .slots) j noSlot
+            last (more m none) = getD-set-other (h .slots) i j (record { given = g }) noSlot (λ d. m (sym d))
 
 -- ---- the records determine the herd
 
@@ -184,14 +172,14 @@ herd-eq a b p q r =
 
 pub record Agree (h h′ : Herd) (is is′ : List ℕ) : Type 0 where
   pub inputs : is ≡ is′
-  pub slots : Each (λ i. getD (h .slots) (slotOf i) noSlot ≡ getD (h′ .slots) (slotOf i) noSlot) is
+  pub slots : Each (λ i. getD (h .slots) i noSlot ≡ getD (h′ .slots) i noSlot) is
 
 module _ {h h′ : Herd} where
-  slots-agree : {cs : Record} {i j : ℕ} → Gives h cs i → Gives h′ cs j → (i ≡ j) × (getD (h .slots) (slotOf i) noSlot ≡ getD (h′ .slots) (slotOf i) noSlot)
+  slots-agree : {cs : Record} {i j : ℕ} → Gives h cs i → Gives h′ cs j → (i ≡ j) × (getD (h .slots) i noSlot ≡ getD (h′ .slots) i noSlot)
   slots-agree x y =
       let o = one-given (x .says) (y .says) in
-      let e = o .1 .0 in
-      (e, x .slot ∙ ap (λ (g : Given). record { given = g }) (o .1 .1) ∙ sym (y .slot) ∙ ap (λ (n : ℕ). getD (h′ .slots) (slotOf n) noSlot) (sym e))
+      let e = o .slot in
+      (e, x .has ∙ ap (λ (g : Given). record { given = g }) (o .given) ∙ sym (y .has) ∙ ap (λ (n : ℕ). getD (h′ .slots) n noSlot) (sym e))
 
   pub agree : {rs : List Record} {is is′ : List ℕ} → Pairs (Gives h) rs is → Pairs (Gives h′) rs is′ → Agree h h′ is is′
   agree Pairs.none Pairs.none = record { inputs = refl; slots = none }
@@ -202,9 +190,7 @@ module _ {h h′ : Herd} where
 
   pub heads : {rs : List Record} {is is′ : List ℕ} → 1 ≤ length rs → Pairs (Gives h) rs is → Pairs (Gives h′) rs is′ → (h .label ≡ h′ .label) × (h .kind ≡ h′ .kind)
   heads n Pairs.none q = absurd (omega arith)
-  heads n (Pairs.more x p) (Pairs.more y q) =
-      let o = one-given (x .says) (y .says) in
-      (x .own ∙ ap labelOf (o .0) ∙ sym (y .own), x .kind ∙ ap kindAt (o .1 .0) ∙ sym (y .kind))
+  heads n (Pairs.more x p) (Pairs.more y q) = let o = one-given (x .says) (y .says) in (x .own ∙ ap labelOf (o .label) ∙ sym (y .own), o .kind)
 
   pub one-herd : {rs : List Record} → PartOf rs h → PartOf rs h′ → h ≡ h′
   one-herd p q =
@@ -212,7 +198,7 @@ module _ {h h′ : Herd} where
       let e = heads (p .some) (p .each) (q .each) in
       herd-eq h h′ (e .0) (e .1) (ext-getD noSlot (h .slots) (h′ .slots) (p .room ∙ sym (q .room)) (λ j _. at a j (some-slot j (p .inputs))))
     where
-      at : Agree h h′ (p .inputs) (q .inputs) → (j : ℕ) → Some (λ i. slotOf i ≡ j) (p .inputs) ⊎ Each (λ i. slotOf i ≡ j → ⊥) (p .inputs) → getD (h .slots) j noSlot ≡ getD (h′ .slots) j noSlot
+      at : Agree h h′ (p .inputs) (q .inputs) → (j : ℕ) → Some (λ i. i ≡ j) (p .inputs) ⊎ Each (λ i. i ≡ j → ⊥) (p .inputs) → getD (h .slots) j noSlot ≡ getD (h′ .slots) j noSlot
       at a j (inl s) = let m = meet (a .slots) s in rw (m .other) at (m .one)
       at a j (inr n) = p .rest j n ∙ sym (q .rest j (rw (a .inputs) at n))
 
@@ -249,29 +235,22 @@ module _ {rs : List Record} {h : Herd} (p : PartOf rs h) where
   room = omega (arith, p .room, count-most (h .kind))
 
   -- the slot of an input that a record gives
-  filled : (j : ℕ) → Some (λ i. i ≡ firstOf (h .kind) + j) (p .inputs) → missingAt h j ≡ false
-  filled j s =
-      let f = fellow (p .each) s in
-      let e : slotOf (f .of) ≡ j = omega (arith, f .has, slot-place (f .of) (h .kind) (f .pair .kind)) in
-      rw e at (gives-filled (f .pair))
+  filled : (j : ℕ) → Some (λ i. i ≡ j) (p .inputs) → missingAt h j ≡ false
+  filled j s = let f = fellow (p .each) s in rw (f .has) at (gives-filled (f .pair))
 
   -- the record that fills a slot
-  filling : (j : ℕ) → missingAt h j ≡ false → Some (λ i. i ≡ firstOf (h .kind) + j) (p .inputs)
+  filling : (j : ℕ) → missingAt h j ≡ false → Some (λ i. i ≡ j) (p .inputs)
   filling j e = go (some-slot j (p .inputs))
     where
-      place : {rs : List Record} {is : List ℕ} → Pairs (Gives h) rs is → Some (λ i. slotOf i ≡ j) is → Some (λ i. i ≡ firstOf (h .kind) + j) is
-      place (Pairs.more {b = i} x q) (here d) = let e : i ≡ firstOf (h .kind) + j = omega (arith, slot-place i (h .kind) (x .kind)) in here e
-      place (Pairs.more x q) (there s) = there (place q s)
-
-      go : Some (λ i. slotOf i ≡ j) (p .inputs) ⊎ Each (λ i. slotOf i ≡ j → ⊥) (p .inputs) → Some (λ i. i ≡ firstOf (h .kind) + j) (p .inputs)
-      go (inl s) = place (p .each) s
+      go : Some (λ i. i ≡ j) (p .inputs) ⊎ Each (λ i. i ≡ j → ⊥) (p .inputs) → Some (λ i. i ≡ j) (p .inputs)
+      go (inl s) = s
       go (inr n) = let b = ap (λ (s : Slot). isMissing (s .given)) (p .rest j n) in clash cc
 
   pub part-all : lacks h ≡ false → HerdOf rs h
   unfolding lacks
   part-all e = record { part = p; all = λ j b. filling j (lacks-none (rowsOf (h .kind)) (h .slots) e j (omega arith)) }
 
-  pub all-part : ((j : ℕ) → j < countOf (h .kind) → Some (λ i. i ≡ firstOf (h .kind) + j) (p .inputs)) → lacks h ≡ false
+  pub all-part : ((j : ℕ) → j < countOf (h .kind) → Some (λ i. i ≡ j) (p .inputs)) → lacks h ≡ false
   unfolding lacks
   all-part all = none-lacks (rowsOf (h .kind)) (h .slots) room (λ j b. filled j (all j b))
 

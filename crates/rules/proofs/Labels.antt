@@ -11,18 +11,18 @@ use borrow.Author.Tests.{leb-true, le-leb, not-true, eqb-false, ne-eqb}
 use Rattle.base.specs.Each.{Each, none, more}
 use Rattle.farm.specs.Labels.{byteOk, allOk, text, labelOk, sameLabel, noLabel, labelOf}
 use Rattle.farm.proofs.LabelTexts.{same-text, text-same}
-use Rattle.rules.specs.Rules.{LabelByte, GoodLabel}
+use Rattle.rules.specs.Rules.{labelMost, LabelByte, GoodLabel}
 use Rattle.rules.proofs.Lists.{both}
 
 -- ---- the bytes in use are the text
 
-pub text-of : (s : List ℕ) → length s ≤ 16 → text (labelOf s) ≡ s
+pub text-of : (s : List ℕ) → length s ≤ labelMost → text (labelOf s) ≡ s
 unfolding labelOf
-text-of s h = take-take (length s) 16 (s ++ replicate 16 0) h ∙ take-append-seam s (replicate 16 0)
+text-of s h = take-take (length s) labelMost (s ++ replicate labelMost 0) h ∙ take-append-seam s (replicate labelMost 0)
 
-room : (s : List ℕ) → length (labelOf s .bytes) ≡ 16
+room : (s : List ℕ) → length (labelOf s .bytes) ≡ labelMost
 unfolding labelOf
-room s = length-take-le 16 (s ++ replicate 16 0) (omega (arith, length-append s (replicate 16 0), length-replicate {A = ℕ} 16 0))
+room s = length-take-le labelMost (s ++ replicate labelMost 0) (omega (arith, length-append s (replicate labelMost 0), length-replicate {A = ℕ} labelMost 0))
 
 -- ---- good labels
 
@@ -48,14 +48,14 @@ good-bytes (more {a = b} g gs) = rw (good-byte b g) (good-bytes gs)
 pub ok-good : (s : List ℕ) → labelOk (labelOf s) ≡ true → GoodLabel s
 unfolding labelOk labelOf
 ok-good s e =
-    let a = both (leb 1 (length s)) (leb (length s) 16 && allOk (text (labelOf s))) e in
-    let b = both (leb (length s) 16) (allOk (text (labelOf s))) (a .1) in
-    let h = leb-true (length s) 16 (b .0) in
+    let a = both (leb 1 (length s)) (leb (length s) labelMost && allOk (text (labelOf s))) e in
+    let b = both (leb (length s) labelMost) (allOk (text (labelOf s))) (a .1) in
+    let h = leb-true (length s) labelMost (b .0) in
     record { some = leb-true 1 (length s) (a .0); most = h; bytes = bytes-good s (ap allOk (sym (text-of s h)) ∙ b .1) }
 
 pub good-ok : (s : List ℕ) → GoodLabel s → labelOk (labelOf s) ≡ true
 unfolding labelOk labelOf
-good-ok s g = rw (le-leb 1 (length s) (g .some), le-leb (length s) 16 (g .most)) (ap allOk (text-of s (g .most)) ∙ good-bytes (g .bytes))
+good-ok s g = rw (le-leb 1 (length s) (g .some), le-leb (length s) labelMost (g .most)) (ap allOk (text-of s (g .most)) ∙ good-bytes (g .bytes))
 
 -- ---- one label
 

@@ -6,11 +6,11 @@ pub mod Entries
 pub mod Readings
 pub mod Herds
 pub mod Farms
-pub mod Through
+pub mod SaysRead
 pub mod Records
-pub mod Going
-pub mod Ended
-pub mod Runs
+pub mod Verdicts
+pub mod FileEnd
+pub mod Answers
 pub mod Accepts
 pub mod Passing
 pub mod Refuses

@@ -4,29 +4,30 @@ use mathlib.Core.Path.{_≡_, refl, sym, ap, subst, _∙_}
 use mathlib.Core.Bool.{true, false}
 use mathlib.Core.List.{List, [], _∷_}
 use native.Mathlib.Omega.{arith}
-use lib.ListN.{length, getD, drop, length-take}
+use lib.ListN.{length, getD}
 use borrow.Author.Tests.{le-leb, lt-ltb}
 use Rattle.base.specs.Each.{Each, none, more}
+use Rattle.names.specs.Names.{sizeOf}
 use Rattle.inputs.specs.declared.Form.{Form}
-use Rattle.inputs.specs.Inputs.{Row, noRow, rowsOf, countOf, formAt, valueNames}
-use Rattle.inputs.proofs.Places.{count-most, form-of-place}
+use Rattle.inputs.specs.Inputs.{Row, rowsOf, countOf, lastOf, rowAt, formOf}
 use Rattle.farm.specs.declared.Given.{Given}
 use Rattle.farm.specs.declared.Slot.{Slot}
 use Rattle.farm.specs.declared.Herd.{Herd}
 use Rattle.farm.specs.declared.Farm.{Farm}
 use Rattle.farm.specs.declared.Checked.the-variants.{Accepted}
 use Rattle.farm.specs.Labels.{labelOk, sameLabel}
-use Rattle.farm.specs.Checks.{labelsOf, fits, isMissing, checkFarm}
-use Rattle.farm.specs.Accepts.{Passes, GoodHerd, Distinct, GoodFarm}
-use Rattle.farm.proofs.Accepts.{good-farm}
-use Rattle.farm.specs.Herds.{noSlot, slotOf}
+use Rattle.checks.specs.Checks.{labelsOf, fits, checkFarm}
+use Rattle.checks.specs.Accepts.{Passes, GoodHerd, Distinct, GoodFarm}
+use Rattle.checks.proofs.Accepts.{good-farm}
+use Rattle.farm.specs.Herds.{isMissing, noSlot}
+use Rattle.farm.proofs.Slots.{count-most}
 use Rattle.reader.specs.Files.{accepted, readOf}
 use Rattle.rules.specs.Lists.{Apart}
 use Rattle.rules.specs.Rules.{Record, ValueIs, HerdOf, Stand, FarmOf}
 use Rattle.rules.proofs.Lists.{fellow}
 use Rattle.rules.proofs.Labels.{good-ok}
 use Rattle.rules.proofs.Entries.{reads}
-use Rattle.rules.proofs.Herds.{slot-place, gives-filled}
+use Rattle.rules.proofs.Herds.{gives-filled}
 use Rattle.rules.proofs.Farms.{herds-of, Labelled, part-labelled, other-herd}
 use Rattle.rules.proofs.Accepts.{accepts-exactly}
 
@@ -37,37 +38,34 @@ value-fits (ValueIs.number {most = m} {v = v} _ h) = le-leb v m h
 value-fits (ValueIs.or-standard {most = m} {v = v} _ h) = le-leb v m h
 value-fits (ValueIs.no-standard {most = m} {v = v} _ h) = le-leb v m h
 value-fits (ValueIs.standard _) = refl
-value-fits (ValueIs.name {from = from} {count = count} {place = j} x) = lt-ltb j count (omega (arith, x .inside, length-take count (drop from valueNames)))
+value-fits (ValueIs.name {names = names} {place = j} x) = lt-ltb j (sizeOf names) (x .inside)
 
 record Fine (row : Row) (s : Slot) : Type 0 where
   given : isMissing (s .given) ≡ false
   fitting : fits (row .form) (s .given) ≡ true
 
-passes : (rs : List Row) (slots : List Slot) → length rs ≤ length slots → ((j : ℕ) → j < length rs → Fine (getD rs j noRow) (getD slots j noSlot)) → Passes rs slots
-passes [] slots h f = Passes.none
-passes (row ∷ rs) [] h f = absurd (omega arith)
-passes (row ∷ rs) (s ∷ slots) h f =
+passes : (d : Row) (rs : List Row) (slots : List Slot) → length rs ≤ length slots → ((j : ℕ) → j < length rs → Fine (getD rs j d) (getD slots j noSlot)) → Passes rs slots
+passes d [] slots h f = Passes.none
+passes d (row ∷ rs) [] h f = absurd (omega arith)
+passes d (row ∷ rs) (s ∷ slots) h f =
     let x = f 0 (omega arith) in
-    Passes.next (x .given) (x .fitting) (passes rs slots (omega arith) (λ j b. f (suc j) (omega arith)))
+    Passes.next (x .given) (x .fitting) (passes d rs slots (omega arith) (λ j b. f (suc j) (omega arith)))
 
 herd-good : {rs : List Record} {h : Herd} → HerdOf rs h → GoodHerd h
+unfolding formOf
 herd-good {rs} {h} x =
     let l = part-labelled (x .part) in
     record {
       label = ap labelOk (l .is) ∙ good-ok (l .text) (l .good);
-      inputs = passes (rowsOf (h .kind)) (h .slots) (omega (arith, x .part .room, count-most (h .kind))) fine;
+      inputs = passes (lastOf (rowsOf (h .kind))) (rowsOf (h .kind)) (h .slots) (omega (arith, x .part .room, count-most (h .kind))) fine;
     }
   where
-    fine : (j : ℕ) → j < countOf (h .kind) → Fine (getD (rowsOf (h .kind)) j noRow) (getD (h .slots) j noSlot)
+    fine : (j : ℕ) → j < countOf (h .kind) → Fine (rowAt (h .kind) j) (getD (h .slots) j noSlot)
     fine j b =
         let f = fellow (x .part .each) (x .all j b) in
-        let e : slotOf (f .of) ≡ j = omega (arith, f .has, slot-place (f .of) (h .kind) (f .pair .kind)) in
-        let form : formAt (f .of) ≡ getD (rowsOf (h .kind)) j noRow .form = ap formAt (f .has) ∙ form-of-place (h .kind) j b in
-        let slot : getD (h .slots) j noSlot ≡ record { given = f .pair .given } = ap (λ (n : ℕ). getD (h .slots) n noSlot) (sym e) ∙ f .pair .slot in
-        record {
-          given = rw e at (gives-filled (f .pair));
-          fitting = rw slot (ap (λ (y : Form). fits y (f .pair .given)) (sym form) ∙ value-fits (reads (f .pair .says) .value));
-        }
+        let slot : getD (h .slots) j noSlot ≡ record { given = f .pair .given } = ap (λ (n : ℕ). getD (h .slots) n noSlot) (sym (f .has)) ∙ f .pair .has in
+        let fit : fits (rowAt (h .kind) (f .of) .form) (f .pair .given) ≡ true = value-fits (reads (f .pair .says) .value) in
+        record { given = rw (f .has) at (gives-filled (f .pair)); fitting = rw slot (rw (f .has) at fit) }
 
 -- ---- labels
 

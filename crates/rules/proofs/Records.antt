@@ -7,12 +7,11 @@ use native.Mathlib.Omega.{arith}
 use lib.ListN.{length, length-map}
 use Rattle.base.specs.Each.{Each, none, more}
 use Rattle.base.proofs.Each.{each-map}
-use Rattle.inputs.specs.Inputs.{kindAt}
-use Rattle.farm.specs.Checks.{labelsOf}
+use Rattle.checks.specs.Checks.{labelsOf}
 use Rattle.farm.specs.declared.Herd.{Herd}
 use Rattle.farm.specs.Labels.{text, labelOf}
 use Rattle.rules.specs.Lists.{Some, here, there, Apart}
-use Rattle.rules.specs.Rules.{Record, GoodLabel, Gives, PartOf, Stand}
+use Rattle.rules.specs.Rules.{herdsMost, Record, GoodLabel, Gives, PartOf, Stand}
 use Rattle.rules.specs.Refusals.{labelText, NamesInput, ManyLabels}
 use Rattle.rules.proofs.Lists.{meet, some-front, some-back, some-split, each-left}
 use Rattle.rules.proofs.Labels.{text-of, one-text}
@@ -24,14 +23,13 @@ use Rattle.rules.proofs.Farms.{Labelled}
 pub record OfHerd (h : Herd) (r : Record) : Type 0 where
   pub is : h .label ≡ labelOf (labelText r)
   pub good : GoodLabel (labelText r)
-  pub input : ℕ
-  pub names : NamesInput r input
-  pub kind : h .kind ≡ kindAt input
+  pub slot : ℕ
+  pub names : NamesInput r (h .kind) slot
 
 pub of-herd : {h : Herd} (r : Record) (i : ℕ) → Gives h r i → OfHerd h r
 of-herd r i x =
     let q = reads (x .says) in
-    record { is = x .own ∙ ap labelOf (sym (q .label)); good = rw (q .label) (q .good); input = i; names = q .names; kind = x .kind }
+    record { is = x .own ∙ ap labelOf (sym (q .label)); good = rw (q .label) (q .good); slot = i; names = q .names }
 
 pub part-records : {b : List Record} {h : Herd} → PartOf b h → Each (OfHerd h) b
 part-records p = each-left of-herd (p .each)
@@ -90,7 +88,7 @@ seen-texts Stand.none none = none
 seen-texts (Stand.more {rs = rs} {rest = rest} p s) (more x xs) =
     more (some-front rest (seen-text p x)) (each-map (λ l m. some-back rs m) (seen-texts s xs))
 
-pub many-labels : {a : List Record} {hs : List Herd} → Stand PartOf a hs → Each Labelled hs → Apart (labelsOf hs) → length hs ≡ 64 → ManyLabels a
+pub many-labels : {a : List Record} {hs : List Herd} → Stand PartOf a hs → Each Labelled hs → Apart (labelsOf hs) → length hs ≡ herdsMost → ManyLabels a
 many-labels {hs = hs} s xs d n =
     record { labels = texts hs; many = length-map hs (λ h. text (h .label)) ∙ n; apart = apart-texts xs d; each = seen-texts s xs }
 
@@ -140,6 +138,6 @@ module _ {A : Type 0} where
       let r = no-longer (t .left) d (all-still (t .is) n ss) in
       omega (arith, one-less (t .is))
 
-pub few-labels : {a : List Record} {hs : List Herd} → Stand PartOf a hs → ManyLabels a → 64 ≤ length hs
+pub few-labels : {a : List Record} {hs : List Herd} → Stand PartOf a hs → ManyLabels a → herdsMost ≤ length hs
 few-labels {hs = hs} s m =
     omega (arith, no-longer (texts hs) (m .apart) (each-map (λ l x. text-seen l s x) (m .each)), m .many, length-map hs (λ h. text (h .label)))

@@ -23,7 +23,7 @@ use Rattle.reader.specs.Files.{refused, accepted, fileMost, readOf}
 use Rattle.rules.specs.Rules.{Record, KeepsRules}
 use Rattle.rules.specs.Refusals.{Applies, Lacks, RecordAt, AppliesAt, Sooner, too-long-first, from-the-front, in-that-order, then-missing, first-herd, First}
 use Rattle.rules.proofs.Faults.{one-fault, applies-within, NoneBelow}
-use Rattle.rules.proofs.Runs.{Clean, Ran, accepts, breaks, wrong, missing, Answered, too-long, read, answered}
+use Rattle.rules.proofs.Answers.{Clean, Ran, accepts, breaks, wrong, missing, Answered, too-long, read, answered}
 use Rattle.rules.proofs.Readings.{thens, whole-thens, broken-thens, record-read, read-record, Stops, at-end, at-break, split-read, one-thens, end-not-broken, shorter, as-long, split-list, at-split}
 use Rattle.rules.proofs.Accepts.{accepts-exactly}
 

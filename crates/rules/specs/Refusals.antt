@@ -1,20 +1,21 @@
 -- 01, Refusal numbers: when each refusal applies, said of a file's records and not of how they are read, and which is the first.
--- proofs/Refuses.antt shows that the reader gives exactly that one.
+-- proofs/Refuses.antt shows that the reader gives exactly that one. To be believed.
 use Prim.Native.Nat.{ℕ, _+_, _<_}
 use mathlib.Core.Path.{_≡_}
 use mathlib.Core.List.{List, [], _∷_, _++_}
 use lib.ListN.{length, getD}
 use Rattle.base.specs.Each.{Each}
 use Rattle.csv.specs.Grammar.{FileOf, Front, Before, Breaks}
+use Rattle.inputs.specs.declared.Kind.{Kind}
 use Rattle.inputs.specs.declared.Form.{Form}
 use Rattle.inputs.specs.declared.Form.the-variants.{NoStandard}
-use Rattle.inputs.specs.Inputs.{rows, kindAt, formAt}
+use Rattle.inputs.specs.Inputs.{countOf, formOf}
 use Rattle.farm.specs.declared.Given.{Given}
 use Rattle.farm.specs.declared.Fault.{Fault}
 use Rattle.farm.specs.declared.Fault.the-variants.{FileTooLong, RecordBroken, NotFourFields, BadLabel, NotInTheList, StandardForbidden, BadValue, EarlierLabel, NoRoomForHerd, OtherKind, GivenAlready, InputMissing}
 use Rattle.farm.specs.Refusals.{number}
 use Rattle.rules.specs.Lists.{Some, Apart, Last}
-use Rattle.rules.specs.Rules.{Record, GoodLabel, Names, IsStandard, ValueIs, herdsMost, bytesMost}
+use Rattle.rules.specs.Rules.{Record, GoodLabel, Names, IsStandard, ValueIs, herdsMost, fileMost}
 
 -- ---- a record's fields; one that is not there is empty
 
@@ -25,8 +26,8 @@ abbrev pub valueIn : Record → List ℕ
 valueIn cs = getD cs 3 []
 
 -- the record names the input
-abbrev pub NamesInput : Record → ℕ → Type 0
-NamesInput cs input = Names (getD cs 1 []) (getD cs 2 []) input
+abbrev pub NamesInput : Record → Kind → ℕ → Type 0
+NamesInput cs kind slot = Names (getD cs 1 []) (getD cs 2 []) kind slot
 
 -- two records have one label
 abbrev pub SameLabel : Record → Record → Type 0
@@ -48,25 +49,25 @@ pub record ManyLabels (rs : List Record) : Type 0 where
 pub data Applies (before : List Record) (cs : Record) : Fault → Type 0 where
   not-four-fields : (length cs ≡ 4 → ⊥) → Applies before cs NotFourFields
   bad-label : (GoodLabel (labelText cs) → ⊥) → Applies before cs BadLabel
-  not-in-the-list : ((input : ℕ) → NamesInput cs input → ⊥) → Applies before cs NotInTheList
-  standard-forbidden : {input : ℕ} → NamesInput cs input → Forbids (formAt input) → IsStandard (valueIn cs) → Applies before cs StandardForbidden
-  bad-value : {input : ℕ} → NamesInput cs input → ((given : Given) → ValueIs (formAt input) (valueIn cs) given → ⊥) → Applies before cs BadValue
+  not-in-the-list : ((kind : Kind) (slot : ℕ) → NamesInput cs kind slot → ⊥) → Applies before cs NotInTheList
+  standard-forbidden : {kind : Kind} {slot : ℕ} → NamesInput cs kind slot → Forbids (formOf kind slot) → IsStandard (valueIn cs) → Applies before cs StandardForbidden
+  bad-value : {kind : Kind} {slot : ℕ} → NamesInput cs kind slot → ((given : Given) → ValueIs (formOf kind slot) (valueIn cs) given → ⊥) → Applies before cs BadValue
   earlier-label : Some (λ r. SameLabel r cs) before → ((r : Record) → Last before r → SameLabel r cs → ⊥) → Applies before cs EarlierLabel
   no-room-for-herd : (Some (λ r. SameLabel r cs) before → ⊥) → ManyLabels before → Applies before cs NoRoomForHerd
-  other-kind : {r : Record} {i input : ℕ} → Last before r → SameLabel r cs → NamesInput r i → NamesInput cs input → (kindAt i ≡ kindAt input → ⊥)
+  other-kind : {r : Record} {own kind : Kind} {i slot : ℕ} → Last before r → SameLabel r cs → NamesInput r own i → NamesInput cs kind slot → (own ≡ kind → ⊥)
       → Applies before cs OtherKind
-  given-already : {input : ℕ} → NamesInput cs input → Some (λ r. SameLabel r cs × NamesInput r input) before → Applies before cs GivenAlready
+  given-already : {kind : Kind} {slot : ℕ} → NamesInput cs kind slot → Some (λ r. SameLabel r cs × NamesInput r kind slot) before → Applies before cs GivenAlready
 
 -- ---- 12
 
 -- the herd of the record cs lacks an input: there is one of its kind that no record of its label names
 pub record Lacks (rs : List Record) (cs : Record) : Type 0 where
+  pub kind : Kind
   pub named : ℕ
-  pub names : NamesInput cs named
-  pub input : ℕ
-  pub inside : input < length rows
-  pub kind : kindAt input ≡ kindAt named
-  pub lacking : Each (λ r. SameLabel r cs → NamesInput r input → ⊥) rs
+  pub names : NamesInput cs kind named
+  pub slot : ℕ
+  pub inside : slot < countOf kind
+  pub lacking : Each (λ r. SameLabel r cs → NamesInput r kind slot → ⊥) rs
 
 -- ---- a file's refusals
 
@@ -79,7 +80,7 @@ pub record RecordAt (s : List ℕ) (before : List Record) (cs : Record) : Type 0
 
 -- the refusal applies to the file, with this record number; 12 with each record of a herd that lacks an input
 pub data AppliesAt (s : List ℕ) : ℕ → Fault → Type 0 where
-  too-long : bytesMost < length s → AppliesAt s 0 FileTooLong
+  too-long : fileMost < length s → AppliesAt s 0 FileTooLong
   broken : {rs : List Record} → Breaks rs s → AppliesAt s (length rs + 1) RecordBroken
   wrong : {before : List Record} {cs : Record} {fault : Fault} → RecordAt s before cs → Applies before cs fault → AppliesAt s (length before + 1) fault
   missing : (before : List Record) (cs : Record) (after : List Record) → FileOf (before ++ (cs ∷ after)) s → Lacks (before ++ (cs ∷ after)) cs

@@ -3,7 +3,7 @@
 use mathlib.Core.Path.{_≡_, refl}
 use mathlib.Core.List.{map}
 use Rattle.tables.specs.Standards.{«standard_N_excretion»}
-use Rattle.inputs.specs.Inputs.{categories, yards, floors, housingTypes}
+use Rattle.names.specs.Names.{categories, yards, floors, housingTypes}
 use Rattle.kinds.specs.Choices.{yardChoices, floorChoices, housingChoices}
 
 pub yards-named : map (λ c. c .name) yardChoices ≡ yards

@@ -18,10 +18,10 @@ use Rattle.farm.specs.declared.Given.the-variants.{Missing, Standard, Value}
 use Rattle.farm.specs.declared.Slot.{Slot}
 use Rattle.farm.specs.declared.Herd.{Herd}
 use Rattle.farm.specs.declared.Checked.the-variants.{Accepted}
-use Rattle.farm.specs.Checks.{fits, checkHerd}
-use Rattle.farm.specs.Accepts.{Passes}
+use Rattle.checks.specs.Checks.{fits, checkHerd}
+use Rattle.checks.specs.Accepts.{Passes}
 use Rattle.farm.specs.Herds.{noSlot}
-use Rattle.farm.proofs.Accepts.{passes}
+use Rattle.checks.proofs.Accepts.{passes}
 use Rattle.kinds.specs.Sound.{EnteredTo, standard, number, Sound, roughage, cattle, pigs}
 use Rattle.typed.specs.Typed.{numberIn, enteredIn, givenAt, numberAt, enteredAt, roughageOf, outdoorOf, cattleOf, pigsOf, typedAs, typedOf}
 

@@ -10,7 +10,7 @@ use Rattle.base.proofs.ToCome.{ToCome, begun, gone-on, ended}
 use Rattle.farm.specs.declared.Herd.{Herd}
 use Rattle.farm.specs.declared.Farm.{Farm}
 use Rattle.farm.specs.declared.Checked.the-variants.{Accepted}
-use Rattle.farm.specs.Checks.{checkFarm, herdsOf}
+use Rattle.checks.specs.Checks.{checkFarm, herdsOf}
 use Rattle.farm.proofs.Left.{taken-at, taken-end}
 use Rattle.kinds.specs.declared.Inputs.{Inputs}
 use Rattle.kinds.specs.Sound.{Sound}

@@ -10,7 +10,7 @@ use Rattle.farm.specs.declared.Farm.{Farm}
 use Rattle.farm.specs.declared.Fault.{Fault}
 use Rattle.farm.specs.declared.Checked.{Checked}
 use Rattle.farm.specs.declared.Checked.the-variants as checks
-use Rattle.farm.specs.Checks.{checkFarm}
+use Rattle.checks.specs.Checks.{checkFarm}
 use Rattle.reader.specs.declared.FileAnswer.{FileAnswer}
 use Rattle.reader.specs.Files.{readOf, accepted}
 use Rattle.rules.proofs.Passing.{accepted-passes}

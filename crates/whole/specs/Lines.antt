@@ -12,7 +12,7 @@ use Rattle.farm.specs.declared.Herd.{Herd}
 use Rattle.farm.specs.declared.Farm.{Farm}
 use Rattle.farm.specs.declared.Fault.{Fault}
 use Rattle.farm.specs.Labels.{text}
-use Rattle.farm.specs.Checks.{herdsOf}
+use Rattle.checks.specs.Checks.{herdsOf}
 use Rattle.farm.specs.Refusals.{number}
 use Rattle.notes.specs.declared.Notes.{Notes}
 use Rattle.typed.specs.Typed.{typedOf}

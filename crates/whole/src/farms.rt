@@ -6,7 +6,7 @@ ghost use Prim.Native.Nat.{_≤_};
 ghost use lib.ListN.{length};
 ghost use Rattle.base.specs.Wrote.{Wrote};
 ghost use Rattle.farm.specs.declared.Checked.the-variants.{Accepted};
-ghost use Rattle.farm.specs.Checks.{checkFarm};
+ghost use Rattle.checks.specs.Checks.{checkFarm};
 ghost use Rattle.whole.specs.Lines.{farmListing};
 ghost use Rattle.whole.specs.Rooms.{farmRoom};
 

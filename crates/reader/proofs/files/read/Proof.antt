@@ -5,19 +5,19 @@ use Rattle.reader.specs.Files.{readOf}
 use Rattle.reader.proofs.files.read.Statement.{statement}
 use Rattle.reader.proofs.files.read.Tie as tie
 
-refused-requires : tie.Need-refused-requires
-refused-requires c κs = search needs
-
 returns : tie.Need-returns
 unfolding readOf
 returns c = search (needs, picks)
-
-read-records-requires : tie.Need-read-records-requires
-read-records-requires c κs = search needs
 
 returns-2 : tie.Need-returns-2
 unfolding readOf
 returns-2 c = search (needs, picks)
 
 pub read-spec : {M : Type 1} → statement M
-read-spec = tie.close (tie.spec refused-requires returns read-records-requires returns-2)
+read-spec =
+    tie.close
+    (tie.spec
+    (λ c κs. search needs)
+    returns
+    (λ c κs. search needs)
+    returns-2)

@@ -1,0 +1,5 @@
+pub mod LabelsSoFar
+pub mod SlotSteps
+pub mod Tests
+pub mod HerdSteps
+pub mod Accepts

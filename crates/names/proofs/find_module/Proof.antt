@@ -1,0 +1,41 @@
+-- `names::find_module` meets its contract: each text of the list is tried at its place. Assumes nothing.
+use borrow.Author.Needs.{needs}
+use Rattle.names.specs.Find.{modules}
+use Rattle.names.proofs.Chains.{or-at-next, tried-all}
+use Rattle.names.proofs.find_module.Statement.{statement}
+use Rattle.names.proofs.find_module.Tie as tie
+
+pub find-module-spec : {M : Type 1} → statement M
+find-module-spec =
+    tie.close
+    (tie.spec
+    -- the literal and the call of each text
+    (λ c. search needs)
+    (λ c κs. search needs)
+    (λ c. search needs)
+    (λ c κs. search needs)
+    (λ c. search needs)
+    (λ c κs. search needs)
+    (λ c. search needs)
+    (λ c κs. search needs)
+    (λ c. search needs)
+    (λ c κs. search needs)
+    (λ c. search needs)
+    (λ c κs. search needs)
+    (λ c. search needs)
+    (λ c κs. search needs)
+    -- what was found after each call
+    (λ c.
+    let p6 = c .before .before in
+    let p5 = p6 .before .before in
+    let p4 = p5 .before .before in
+    let p3 = p4 .before .before in
+    let p2 = p3 .before .before in
+    let p1 = p2 .before .before in
+    let e1 = p1 .or-at .ensures in
+    let e2 = or-at-next 1 _ _ (p2 .or-at2 .ensures) e1 in
+    let e3 = or-at-next 2 _ _ (p3 .or-at3 .ensures) e2 in
+    let e4 = or-at-next 3 _ _ (p4 .or-at4 .ensures) e3 in
+    let e5 = or-at-next 4 _ _ (p5 .or-at5 .ensures) e4 in
+    let e6 = or-at-next 5 _ _ (p6 .or-at6 .ensures) e5 in
+    tried-all modules _ (or-at-next 6 _ _ (c .or-at7 .ensures) e6)))

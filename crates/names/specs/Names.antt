@@ -1,0 +1,49 @@
+-- The names that a value may be (01, The farm file), list by list, in the order of their page in 001. To be believed.
+use Prim.Native.Nat.{ℕ}
+use Prim.Native.String.{String}
+use mathlib.Core.List.{List, [], _∷_}
+use lib.ListN.{length}
+use Rattle.names.specs.declared.Names.{Names}
+use Rattle.names.specs.declared.Names.the-variants.{Categories, Yards, Floors, HousingTypes}
+
+-- 2.84, the eleven categories
+abbrev pub categories : List String
+categories =
+    "fallow_deer"
+    ∷ "red_deer"
+    ∷ "wapiti"
+    ∷ "bison_older_than_3yr"
+    ∷ "bison_younger_than_3yr"
+    ∷ "lama_older_than_2yr"
+    ∷ "lama_younger_than_2yr"
+    ∷ "alpaca_older_than_2yr"
+    ∷ "alpaca_younger_than_2yr"
+    ∷ "rabbit_doe_kits"
+    ∷ "rabbit_young"
+    ∷ []
+
+-- 2.34, share_excretion
+abbrev pub yards : List String
+yards =
+    "not_available"
+    ∷ "available_roughage_is_not_supplied_in_the_exercise_yard"
+    ∷ "available_roughage_is_partly_supplied_in_the_exercise_yard"
+    ∷ "available_roughage_is_exclusively_supplied_in_the_exercise_yard"
+    ∷ []
+
+-- 2.34, c_floor_properties_exercise_yard
+abbrev pub floors : List String
+floors = "solid_floor" ∷ "unpaved_floor" ∷ "perforated_floor" ∷ "paddock_or_pasture_used_as_exercise_yard" ∷ []
+
+-- 2.62, the five types
+abbrev pub housingTypes : List String
+housingTypes = "Slurry_Conventional" ∷ "Slurry_Label" ∷ "Slurry_Label_Open" ∷ "Deep_Litter" ∷ "Outdoor" ∷ []
+
+abbrev pub namesOf : Names → List String
+namesOf Categories = categories
+namesOf Yards = yards
+namesOf Floors = floors
+namesOf HousingTypes = housingTypes
+
+abbrev pub sizeOf : Names → ℕ
+sizeOf names = length (namesOf names)

@@ -1,0 +1,3 @@
+pub mod HerdSteps
+pub mod FarmSteps
+pub mod PlaceSteps

@@ -1,0 +1,3 @@
+pub mod Herds
+pub mod Farms
+pub mod Places

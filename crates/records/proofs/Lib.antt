@@ -1,0 +1,3 @@
+pub mod ValueSteps
+pub mod EntrySteps
+pub mod RecordReads

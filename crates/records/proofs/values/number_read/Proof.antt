@@ -1,0 +1,15 @@
+-- `records::values::number_read` meets its contract: what the number's reading answers, said as a value. Assumes nothing.
+use borrow.Author.Needs.{needs}
+use Rattle.records.proofs.ValueSteps.{value-steps}
+use Rattle.records.proofs.values.number_read.Statement.{statement}
+use Rattle.records.proofs.values.number_read.Tie as tie
+
+pub number-read-spec : {M : Type 1} → statement M
+number-read-spec =
+    tie.close
+    (tie.spec
+    (λ c κs. search needs)
+    (λ c. search needs)
+    (λ c. search needs)
+    (λ c. search (needs, value-steps))
+    (λ c. search (needs, value-steps)))
