@@ -25,7 +25,7 @@ use Rattle.rules.specs.Rules.{KeepsRules, Record}
 use Rattle.rules.specs.Refusals.{First, AppliesAt, too-long, broken, wrong, missing, Applies, not-four-fields, bad-label, not-in-the-list, standard-forbidden, bad-value, earlier-label, no-room-for-herd, other-kind, given-already}
 use Rattle.rules.proofs.Accepts.{accepts-exactly}
 use Rattle.rules.proofs.Refuses.{Outcome, takes, gives as gives-first, outcome}
-use Rattle.rules.proofs.Runs.{answered}
+use Rattle.rules.proofs.Answers.{answered}
 use Rattle.listing.specs.declared.Written.{Written}
 use Rattle.listing.specs.declared.Written.the-variants.{Length, Refused}
 use Rattle.listing.specs.Answer.{leaves, answers, saysOf}

@@ -10,6 +10,7 @@ use borrow.Author.Needs.{zero≤}
 use borrow.Author.Tests.{leb-true, ltb-true}
 use Rattle.inputs.specs.declared.Kind.{Kind}
 use Rattle.inputs.specs.declared.Kind.the-variants as kinds
+use Rattle.names.specs.Names.{sizeOf}
 use Rattle.inputs.specs.declared.Form.{Form}
 use Rattle.inputs.specs.declared.Form.the-variants.{Number, OrStandard, NoStandard, OneOf}
 use Rattle.inputs.specs.Inputs.{Row, rowsOf, noRow}
@@ -32,13 +33,13 @@ abbrev mostOf : Form → ℕ
 mostOf (Number d m) = m
 mostOf (OrStandard d m) = m
 mostOf (NoStandard d m) = m
-mostOf (OneOf from count) = count
+mostOf (OneOf names) = sizeOf names
 
 value-to : (form : Form) (v : ℕ) → fits form (Value v) ≡ true → v ≤ mostOf form
 value-to (Number d m) v e = leb-true v m e
 value-to (OrStandard d m) v e = leb-true v m e
 value-to (NoStandard d m) v e = leb-true v m e
-value-to (OneOf from count) v e = omega (arith, ltb-true v count e)
+value-to (OneOf names) v e = omega (arith, ltb-true v (sizeOf names) e)
 
 number-to : (form : Form) (g : Given) → fits form g ≡ true → numberIn g ≤ mostOf form
 number-to form Missing e = zero≤

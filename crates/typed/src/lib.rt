@@ -13,6 +13,7 @@ use kinds::choices;
 ghost use mathlib.Core.Path.{_≡_};
 ghost use Prim.Native.Nat.{_<_};
 ghost use Rattle.inputs.specs.declared.Kind.the-variants as kinds;
+ghost use Rattle.farm.specs.Limits.{slots};
 ghost use Rattle.typed.specs.Typed.{numberIn, enteredIn, numberAt, enteredAt, roughageOf, outdoorOf, cattleOf, pigsOf, typedOf};
 
 fn number_in(given: Given) -> u64
@@ -37,7 +38,7 @@ fn entered_in(given: Given) -> Entered
 
 // The number in a slot.
 fn number_at(h: Herd, place: usize) -> u64
-    requires { ⌜ place < 9 ⌝ }
+    requires { ⌜ place < slots ⌝ }
     ensures { λ r. ⌜ r ≡ numberAt h place ⌝ }
 {
     let slot = h.slots[place];
@@ -46,7 +47,7 @@ fn number_at(h: Herd, place: usize) -> u64
 }
 
 fn entered_at(h: Herd, place: usize) -> Entered
-    requires { ⌜ place < 9 ⌝ }
+    requires { ⌜ place < slots ⌝ }
     ensures { λ r. ⌜ r ≡ enteredAt h place ⌝ }
 {
     let slot = h.slots[place];

@@ -1,10 +1,11 @@
 -- How long an answer can be: the room that the writers ask for. No reader has to believe it.
 use Prim.Native.Nat.{ℕ, _+_, _*_}
+use Rattle.farm.specs.Limits.{herdsMost}
 use Rattle.listing.specs.Bounds.{longest}
 
 -- a listing a herd, and the totals'
 abbrev pub farmRoom : ℕ
-farmRoom = (64 + 1) * longest
+farmRoom = (herdsMost + 1) * longest
 
 -- `refused,` and two numbers of at most 20 digits, a comma and CRLF
 abbrev pub lineRoom : ℕ

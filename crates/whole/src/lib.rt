@@ -12,7 +12,5 @@ pub struct Answer {
     pub length: usize,
 }
 
-const HERDS_MOST: usize = 64;
-
 // Room for the listing of any farm.
-pub const FARM_ROOM: usize = (HERDS_MOST + 1) * listing::LONGEST;
+pub const FARM_ROOM: usize = (farm::HERDS_MOST + 1) * listing::LONGEST;
