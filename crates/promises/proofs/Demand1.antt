@@ -29,7 +29,8 @@ use Rattle.rules.proofs.Answers.{answered}
 use Rattle.listing.specs.declared.Written.{Written}
 use Rattle.listing.specs.declared.Written.the-variants.{Length, Refused}
 use Rattle.listing.specs.Answer.{leaves, answers, saysOf}
-use Rattle.calls.specs.Listings.{Call, Called, left, said}
+use Rattle.whole.specs.declared.Answer.{Answer}
+use Rattle.calls.specs.Listings.{Call, Called, left, said, PutAnswer}
 
 -- ---- a file
 
@@ -122,3 +123,17 @@ pub record Same (new new′ : List ℕ) (r r′ : Written) : Type 0 where
 
 pub one-result : {c : Call} {old new new′ : List ℕ} {r r′ : Written} → Called c old new r → Called c old new′ r′ → Same new new′ r r′
 one-result w v = record { bytes = w .buffer ∙ sym (v .buffer); answer = w .answer ∙ sym (v .answer) }
+
+-- and so of what the program prints
+pub record SameOutput (new new′ : List ℕ) (a a′ : Answer) : Type 0 where
+  pub bytes : new ≡ new′
+  pub length : a .length ≡ a′ .length
+  pub checked : a .checked ≡ a′ .checked
+
+pub one-output : {s old new new′ : List ℕ} {a a′ : Answer} → PutAnswer s old new a → PutAnswer s old new′ a′ → SameOutput new new′ a a′
+one-output w v =
+    record {
+      bytes = w .printed .buffer ∙ sym (v .printed .buffer);
+      length = w .printed .answer ∙ sym (v .printed .answer);
+      checked = w .checked ∙ sym (v .checked);
+    }
