@@ -1,19 +1,18 @@
--- Lines written one after the other: what is still to be written, where the middle of a line stands in the table, and a turn of the loop.
+-- Lines written one after the other: where the middle of a line stands in the table, and a turn of the loop.
 -- Assumes nothing.
 use Prim.Native.Nat.{ℕ, suc, _+_, _≤_, _<_}
 use mathlib.Core.Path.{_≡_, refl, ap, subst, _∙_}
 use mathlib.Core.List.{List, [], _∷_, _++_}
 use native.Mathlib.Omega.{arith}
 use lib.Dec.{ltb, leb, ltb→lt, leb→le}
-use lib.ListN.{length, getD, drop, length-append}
-use lib.Seq.{sets}
+use lib.ListN.{length, getD, drop}
 use lib.IntN.{ℤ}
 use Rattle.base.specs.Part.{part}
 use Rattle.base.specs.Runs.{starts}
 use Rattle.base.specs.Wrote.{Wrote}
 use Rattle.base.proofs.Rest.{rest-at, rest-end}
 use Rattle.base.proofs.Runs.{Run, run-at, all-at}
-use Rattle.base.proofs.Writes.{sets-join, kept}
+use Rattle.base.proofs.ToCome.{ToCome, gone-on, ended}
 use Rattle.decimal.specs.Writing.{kilogramsOf}
 use Rattle.outputs.specs.Grams.{at}
 use Rattle.listing.specs.Bounds.{longestMiddle}
@@ -22,28 +21,6 @@ use Rattle.listing.specs.Numbered.{putTogether, numbered, Known}
 pub line-is : (owner middle : List ℕ) (g : ℤ) → owner ++ middle ++ kilogramsOf g ++ (13 ∷ 10 ∷ []) ≡ putTogether owner middle g
 unfolding putTogether
 line-is owner middle g = refl
-
--- ---- `left`, stored from `next` on, would make `now` the buffer in which the whole is written from `start` on
-
-pub record ToCome (old : List ℕ) (start : ℕ) (whole now left : List ℕ) (next : ℕ) : Type 0 where
-  pub to-come : sets now next left ≡ sets old start whole
-  pub adds-up : next + length left ≡ start + length whole
-  pub same : length now ≡ length old
-
-module _ {old whole : List ℕ} {start : ℕ} where
-  pub begun : ToCome old start whole old whole start
-  begun = record { to-come = refl; adds-up = refl; same = refl }
-
-  gone-on : {now a b new : List ℕ} {next after : ℕ} → ToCome old start whole now (a ++ b) next → Wrote now next a new after → ToCome old start whole new b after
-  gone-on {now} {a} {b} {next} {after} t w =
-      record {
-        to-come = ap (λ (m : List ℕ). sets m after b) (w .bytes) ∙ ap (λ (n : ℕ). sets (sets now next a) n b) (w .past) ∙ sets-join now next a b ∙ t .to-come;
-        adds-up = omega (arith, w .past, t .adds-up, length-append a b);
-        same = kept w ∙ t .same;
-      }
-
-  ended : {now : List ℕ} {next : ℕ} → ToCome old start whole now [] next → Wrote old start whole now next
-  ended t = record { bytes = t .to-come; past = omega (arith, t .adds-up) }
 
 -- ---- the table
 

@@ -8,7 +8,8 @@ use mir.Facts.{toZ-ofZ}
 use Rattle.base.specs.Part.{part}
 use Rattle.listing.specs.Bounds.{longestLine}
 use Rattle.listing.specs.Numbered.{numbered}
-use Rattle.listing.proofs.LineByLine.{ToCome, Stands, begun, stands, line-put, all-put}
+use Rattle.base.proofs.ToCome.{ToCome, begun}
+use Rattle.listing.proofs.LineByLine.{Stands, stands, line-put, all-put}
 use borrow.Author.Needs.{needs, sfits-of}
 use Rattle.listing.proofs.lines.put_lines.Statement.{statement}
 use Rattle.listing.proofs.lines.put_lines.Tie as tie
