@@ -17,7 +17,7 @@ ghost use Rattle.amounts.specs.Units.{tenths, percent, tenThousandths, year};
 ghost use Rattle.amounts.specs.Arithmetic.{cutting};
 ghost use Rattle.amounts.specs.Bounds.{Modest, UpTo};
 ghost use Rattle.kinds.specs.Sound.{SoundOutdoor};
-ghost use Rattle.yard.specs.Yard.{«share_excretion», shareLowered, «share_excretion_with_grazing», «c_floor_properties_exercise_yard», «ef_nh3_nyard», yardTime, onYard, noYard, ofYard};
+ghost use Rattle.yard.specs.Yard.{«share_excretion», shareLowered, «share_excretion_with_grazing», «red_floor_properties», «c_floor_properties_exercise_yard», «ef_nh3_nyard», yardTime, onYard, noYard, ofYard};
 ghost use Rattle.yard.specs.Bounds.{Both};
 
 pub struct Yard {
@@ -34,6 +34,15 @@ const SHARE_NOT_SUPPLIED: u64 = 1;
 const SHARE_PARTLY: u64 = 2;
 
 const SHARE_EXCLUSIVELY: u64 = 6;
+
+// Reductions of 2.34, in percent.
+const RED_FLOOR_PROPERTIES_SOLID_FLOOR: u64 = 0;
+
+const RED_FLOOR_PROPERTIES_UNPAVED_FLOOR: u64 = 50;
+
+const RED_FLOOR_PROPERTIES_PERFORATED_FLOOR: u64 = 75;
+
+const RED_FLOOR_PROPERTIES_PADDOCK_OR_PASTURE_USED_AS_EXERCISE_YARD: u64 = 90;
 
 // er_yard, in ten-thousandths.
 const ER_YARD: u64 = 7000;
@@ -89,15 +98,23 @@ pub fn share_excretion_with_grazing(o: Outdoor) -> u64
     share_excretion(yard)
 }
 
+// What a floor takes off the rate, by its name.
+fn red_floor_properties(floor: Floor) -> u64
+    ensures { λ r. ⌜ UpTo percent («red_floor_properties» floor) r ⌝ }
+{
+    match floor {
+        Floor::Solid => RED_FLOOR_PROPERTIES_SOLID_FLOOR,
+        Floor::Unpaved => RED_FLOOR_PROPERTIES_UNPAVED_FLOOR,
+        Floor::Perforated => RED_FLOOR_PROPERTIES_PERFORATED_FLOOR,
+        Floor::Paddock => RED_FLOOR_PROPERTIES_PADDOCK_OR_PASTURE_USED_AS_EXERCISE_YARD,
+    }
+}
+
+// 1 less the reduction, in percent.
 fn c_floor_properties_exercise_yard(floor: Floor) -> u64
     ensures { λ r. ⌜ r ≡ «c_floor_properties_exercise_yard» floor ⌝ }
 {
-    match floor {
-        Floor::Solid => 100,
-        Floor::Unpaved => 50,
-        Floor::Perforated => 25,
-        Floor::Paddock => 10,
-    }
+    PERCENT - red_floor_properties(floor)
 }
 
 // The part of the year on the yard, in tenths of a day.
