@@ -41,6 +41,6 @@ path-short Roughage = omega arith
 path-short Cattle = omega arith
 path-short Pigs = omega arith
 
-pub owner-is : {p q : List ℕ} (label path : List ℕ) → p ≡ label → q ≡ path → labelField p ++ (44 ∷ []) ++ q ≡ ownerOf label path
+pub owner-is : {q : List ℕ} (label path : List ℕ) → q ≡ path → labelField label ++ (44 ∷ []) ++ q ≡ ownerOf label path
 unfolding ownerOf
-owner-is label path d e = cc
+owner-is label path e = cc

@@ -2,6 +2,7 @@ pub mod Overlaps
 pub mod LabelField
 pub mod Answers
 pub mod Promises
+pub mod OneByOne
 pub mod LineByLine
 pub mod KindTables
 pub mod AsListed

@@ -1,4 +1,5 @@
--- A listing is an RFC 4180 file, of which every record ends with CRLF, and its records are those of specs/Records.antt.
+-- A listing is an RFC 4180 file, of which every record ends with CRLF, and its records are those of specs/Records.antt. What is said of fields and
+-- lines here serves the notes too.
 -- Assumes nothing.
 use Prim.Native.Nat.{ℕ, zero, suc, _+_, _/_, _%_, _≤_, _<_}
 use Prim.Native.String.{String}
@@ -35,10 +36,10 @@ use Rattle.listing.proofs.LabelField.{quoted, bare}
 past-comma : (b : ℕ) → 44 < b → Text b
 past-comma b h = record { no-comma = λ e. omega arith; no-quote = λ e. omega arith; no-cr = λ e. omega arith; no-lf = λ e. omega arith }
 
-abbrev allPast : List ℕ → Bool
+abbrev pub allPast : List ℕ → Bool
 allPast s = all (ltb 44) s
 
-plain : (s : List ℕ) → allPast s ≡ true → Plain s
+pub plain : (s : List ℕ) → allPast s ≡ true → Plain s
 plain [] e = Plain.none
 plain (b ∷ s) e =
     let h = both-true (ltb 44 b) (allPast s) e in
@@ -82,7 +83,7 @@ totals-plain = refl
 
 -- ---- the label
 
-good-bytes : (l : Label) → labelOk l ≡ true → allOk (text l) ≡ true
+pub good-bytes : (l : Label) → labelOk l ≡ true → allOk (text l) ≡ true
 unfolding labelOk
 good-bytes l e =
     both-true (leb (l .len) 16) (allOk (text l)) (both-true (leb 1 (l .len)) (leb (l .len) 16 && allOk (text l)) e .1) .1
@@ -122,7 +123,7 @@ unquoted (b ∷ s) e c =
     let l : 32 ≤ b = g .low in
     Plain.byte (record { no-comma = n .0; no-quote = g .no-quote; no-cr = λ d. omega arith; no-lf = λ d. omega arith }) (unquoted s (h .1) (n .1))
 
-label-field : (s : List ℕ) → allOk s ≡ true → FieldOf s (labelField s)
+pub label-field : (s : List ℕ) → allOk s ≡ true → FieldOf s (labelField s)
 label-field s e = go (hasComma s) refl
   where
     go : (t : Bool) → t ≡ hasComma s → FieldOf s (labelField s)
@@ -132,10 +133,10 @@ label-field s e = go (hasComma s) refl
 -- ---- a line, and lines
 
 -- a line is a record of these fields and CRLF
-record Line (cs : List (List ℕ)) (t : List ℕ) : Type 0 where
-  front : List ℕ
-  reads : RecordOf cs front
-  ended : t ≡ front ++ (cr ∷ lf ∷ [])
+pub record Line (cs : List (List ℕ)) (t : List ℕ) : Type 0 where
+  pub front : List ℕ
+  pub reads : RecordOf cs front
+  pub ended : t ≡ front ++ (cr ∷ lf ∷ [])
 
 line : (label path name : List ℕ) (g : ℤ) → FieldOf label (labelField label) → Plain path → Plain name → Line (fieldsOf label path name g) (lineOf label path name g)
 unfolding lineOf
@@ -147,7 +148,7 @@ line label path name g l p n =
     }
 
 -- lines of what passes a test, one after the other
-file : {A : Type 0} (fields : A → List (List ℕ)) (of : A → List ℕ) (test : A → Bool) → ((x : A) → test x ≡ true → Line (fields x) (of x))
+pub file : {A : Type 0} (fields : A → List (List ℕ)) (of : A → List ℕ) (test : A → Bool) → ((x : A) → test x ≡ true → Line (fields x) (of x))
     → (xs : List A) → all test xs ≡ true → FileOf (map fields xs) (each of xs)
 file fields of test h [] t = FileOf.none
 file fields of test h (x ∷ xs) t =

@@ -2,6 +2,7 @@
 // nothing of files.
 mod texts; // the line list
 mod blocks; // a text copied a block at a time
+pub mod labels; // a label as a field
 mod owners; // whose lines they are
 mod lines; // a line, and lines one after the other
 
@@ -25,12 +26,10 @@ pub enum Written {
     Refused(Fault, usize),
 }
 
-// How long a line's parts can be: the label's field with two quotes, the path of a kind, section and name, kilograms.
-const LABEL_MOST: usize = 16;
-
+// How long a line's parts can be: the path of a kind, label and path, section and name, kilograms.
 const PATH_MOST: usize = 28;
 
-const OWNER_MOST: usize = LABEL_MOST + 2 + 1 + PATH_MOST;
+const OWNER_MOST: usize = labels::FIELD_MOST + 1 + PATH_MOST;
 
 const MIDDLE_MOST: usize = 29;
 

@@ -1,4 +1,4 @@
--- `listing::owners::put_owner` meets its contract: what is lent is the label's bytes, and then the path of the kind. Assumes nothing.
+-- `listing::owners::put_owner` meets its contract: the label's field, a comma, and the path of the kind. Assumes nothing.
 use mathlib.Core.Path.{_≡_, ap, _∙_}
 use native.Mathlib.Omega.{arith}
 use denote.Ref.{now}
@@ -8,34 +8,24 @@ use Rattle.base.specs.Text.{bytes}
 use Rattle.base.proofs.Writes.{said, joined}
 use Rattle.inputs.specs.declared.Kind.{Kind}
 use Rattle.listing.specs.HerdLines.{pathOf}
-use Rattle.listing.proofs.Answers.{text-is, text-short}
 use Rattle.listing.proofs.KindTables.{path-run, path-short, owner-is}
 use borrow.Author.Needs.{needs}
 use Rattle.listing.proofs.owners.put_owner.Statement.{statement}
 use Rattle.listing.proofs.owners.put_owner.Tie as tie
 
-abbrev begin : tie.After-part-of → tie.Start
-begin c = c .before .before .before .before .before
-
 abbrev label-put : tie.After-number-of → tie.After-put-label
 label-put c = c .before .before .before .before .before .before .before
 
 abbrev kind-of : tie.After-number-of → Kind
-kind-of c = begin (label-put c .before) .args .kind
+kind-of c = label-put c .before .before .before .args .kind
 
 -- the path that is lent
-path-lent : (c : tie.After-part-of2) → now (c .part-of2 .result) ≡ bytes (pathOf (kind-of (c .before .before .before)))
+path-lent : (c : tie.After-part-of) → now (c .part-of .result) ≡ bytes (pathOf (kind-of (c .before .before .before)))
 unfolding part
-path-lent c = let n = c .before .before .before in c .part-of2 .ensures ∙ path-run (kind-of n) (n .number-of .ensures .0) (n .number-of .ensures .1) .part-is
-
-slice-aggregate-part-of : tie.Need-slice-aggregate-part-of
-slice-aggregate-part-of c = search needs
-
-part-of-requires : tie.Need-part-of-requires
-part-of-requires c κs = search needs
+path-lent c = let n = c .before .before .before in c .part-of .ensures ∙ path-run (kind-of n) (n .number-of .ensures .0) (n .number-of .ensures .1) .part-is
 
 put-label-requires : tie.Need-put-label-requires
-put-label-requires c κs = (text-short (begin c .args .label) _ (c .part-of .ensures) (search needs), search needs)
+put-label-requires c κs = search needs
 
 put-byte-requires : tie.Need-put-byte-requires
 put-byte-requires c κs = search needs
@@ -58,11 +48,11 @@ mul-to c = search needs
 array-read-to : tie.Need-array-read-to
 array-read-to c = search needs
 
-slice-aggregate-part-of-2 : tie.Need-slice-aggregate-part-of-2
-slice-aggregate-part-of-2 c = search needs
+slice-aggregate-part-of : tie.Need-slice-aggregate-part-of
+slice-aggregate-part-of c = search needs
 
-part-of-requires-2 : tie.Need-part-of-requires-2
-part-of-requires-2 c κs = search needs
+part-of-requires : tie.Need-part-of-requires
+part-of-requires c κs = search needs
 
 put-requires : tie.Need-put-requires
 put-requires c κs = omega (arith, ap length (path-lent c), path-short (kind-of (c .before .before .before)))
@@ -75,10 +65,8 @@ returns c =
     let d = c .before .before in
     let p = d .before in
     let n = p .before .before .before in
-    let a = label-put n in
-    let s = begin (a .before) in (
-      said (owner-is _ _ (text-is (s .args .label) _ (a .before .part-of .ensures)) (path-lent p))
-          (joined (joined (a .put-label .ensures .0) (n .before .before .before .put-byte .ensures)) (d .put .ensures)),
+    let a = label-put n in (
+      said (owner-is _ _ (path-lent p)) (joined (joined (a .put-label .ensures .0) (n .before .before .before .put-byte .ensures)) (d .put .ensures)),
       omega (arith, ap length (path-lent p), path-short (kind-of n), d .put .ensures .past),
     )
 
@@ -86,8 +74,6 @@ pub put-owner-spec : {M : Type 1} → statement M
 put-owner-spec =
     tie.close
     (tie.spec
-    slice-aggregate-part-of
-    part-of-requires
     put-label-requires
     put-byte-requires
     number-of-requires
@@ -96,8 +82,8 @@ put-owner-spec =
     add-to
     mul-to
     array-read-to
-    slice-aggregate-part-of-2
-    part-of-requires-2
+    slice-aggregate-part-of
+    part-of-requires
     put-requires
     same-length
     returns)

@@ -1,12 +1,12 @@
--- `listing::owners::has_comma` meets its contract: what is still to be searched has a comma exactly where the whole has. Assumes nothing.
+-- `listing::labels::has_comma` meets its contract: what is still to be searched has a comma exactly where the whole has. Assumes nothing.
 use Prim.Native.Nat.{_≤_, _-_}
 use mathlib.Core.Path.{_≡_}
 use lib.ListN.{length, drop}
 use Rattle.listing.specs.Listing.{hasComma}
 use Rattle.listing.proofs.LabelField.{comma-steps}
 use borrow.Author.Needs.{needs}
-use Rattle.listing.proofs.owners.has_comma.Statement.{statement}
-use Rattle.listing.proofs.owners.has_comma.Tie as tie
+use Rattle.listing.proofs.labels.has_comma.Statement.{statement}
+use Rattle.listing.proofs.labels.has_comma.Tie as tie
 
 abbrev Inv-loop : tie.InvT-loop
 Inv-loop label i₀ i = (i ≤ length label) × (hasComma (drop i label) ≡ hasComma label)
