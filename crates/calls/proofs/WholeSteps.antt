@@ -9,6 +9,7 @@ use Rattle.base.specs.Part.{part}
 use Rattle.base.specs.Wrote.{Wrote}
 use Rattle.base.proofs.Writes.{said, front}
 use Rattle.base.proofs.Clash.{clash}
+use Rattle.farm.specs.declared.Farm.{Farm}
 use Rattle.farm.specs.declared.Fault.{Fault}
 use Rattle.farm.specs.declared.Checked.the-variants as checks
 use Rattle.reader.specs.Files.{readOf}
@@ -19,7 +20,7 @@ use Rattle.listing.proofs.Answers.{part-is, written, handed}
 use Rattle.whole.specs.Rooms.{farmRoom}
 use Rattle.whole.specs.Lines.{farmListing}
 use Rattle.whole.specs.declared.Answer.{Answer}
-use Rattle.whole.specs.Program.{programOutput, PutFile, listed, refused, PutOutput}
+use Rattle.whole.specs.Program.{outputOf, PutFile, listed, refused, PutOutput}
 use Rattle.calls.specs.Listings.{Called, fileCall, Put, PutAnswer}
 
 module _ (s : List ℕ) where
@@ -32,15 +33,15 @@ module _ (s : List ℕ) where
   unfolding fileCall
   as-refused k = record { buffer = rw k; answer = rw k }
 
-  pub whole-written : (old new : List ℕ) (r : Written) → farmRoom ≤ length old → PutFile s old new r → Called (fileCall s) old new r
+  pub whole-written : (old new : List ℕ) (r : Written) → farmRoom ≤ length old → PutFile farmListing farmRoom s old new r → Called (fileCall s) old new r
   whole-written old new (Length n) h (listed k w m) = as-called (written refl w (omega arith)) k
   whole-written old new (Refused fault n) h (refused k) = as-refused k
 
-  module _ (mid after : List ℕ) (q : Written) (h : farmRoom ≤ length mid) (p : PutFile s mid after q) where
+  module _ (mid after : List ℕ) (q : Written) (h : farmRoom ≤ length mid) (p : PutFile farmListing farmRoom s mid after q) where
     pub whole-handed : (n : ℕ) → q ≡ Length n → (old new : List ℕ) (r : Written) → Answered (part after 0 n) old new r → Called (fileCall s) old new r
     whole-handed n e old new r a = go after q p e a
       where
-        go : (after : List ℕ) (q : Written) → PutFile s mid after q → q ≡ Length n → Answered (part after 0 n) old new r → Called (fileCall s) old new r
+        go : (after : List ℕ) (q : Written) → PutFile farmListing farmRoom s mid after q → q ≡ Length n → Answered (part after 0 n) old new r → Called (fileCall s) old new r
         go after (Length m) (listed k w l) e a =
             let d : n ≡ m = cc in
             as-called (handed refl w (omega arith) (subst (λ (x : ℕ). Answered (part after 0 x) old new r) d a)) k
@@ -49,7 +50,7 @@ module _ (s : List ℕ) where
     pub whole-refused : (fault : Fault) (n : ℕ) → q ≡ Refused fault n → (old : List ℕ) → Called (fileCall s) old old (Refused fault n)
     whole-refused fault n e old = go after q p e
       where
-        go : (after : List ℕ) (q : Written) → PutFile s mid after q → q ≡ Refused fault n → Called (fileCall s) old old (Refused fault n)
+        go : (after : List ℕ) (q : Written) → PutFile farmListing farmRoom s mid after q → q ≡ Refused fault n → Called (fileCall s) old old (Refused fault n)
         go after (Length m) (listed k w l) e = clash cc
         go after (Refused f m) (refused k) e = let c : f ≡ fault = cc in let d : m ≡ n = cc in rw (← c, ← d) (as-refused k)
 
@@ -68,16 +69,17 @@ module _ (bs old : List ℕ) where
   unfolding leaves
   put-none h = let e = lt-leb (length bs) (length old) h in record { buffer = rw e; answer = rw e }
 
-module _ (s : List ℕ) where
-  pub answer-written : (old new : List ℕ) (a : Answer) → PutOutput s old new a → farmRoom ≤ length old → PutAnswer s old new a
-  answer-written old new a p h = record { printed = put-written (programOutput s) old new (a .length) (p .bytes) (omega (arith, p .room)); checked = p .checked }
+module _ (list : Farm → List ℕ) (most : ℕ) (s : List ℕ) where
+  pub answer-written : (old new : List ℕ) (a : Answer) → PutOutput list most s old new a → most ≤ length old → PutAnswer list s old new a
+  answer-written old new a p h =
+      record { printed = put-written (outputOf list s) old new (a .length) (p .bytes) (omega (arith, p .room)); checked = p .checked }
 
-  pub answer-handed : (mid after : List ℕ) (a : Answer) → PutOutput s mid after a → farmRoom ≤ length mid
-      → (old new : List ℕ) (r : ℕ) → Put (part after 0 (a .length)) old new r → PutAnswer s old new (record { checked = a .checked; length = r })
+  pub answer-handed : (mid after : List ℕ) (a : Answer) → PutOutput list most s mid after a → most ≤ length mid
+      → (old new : List ℕ) (r : ℕ) → Put (part after 0 (a .length)) old new r → PutAnswer list s old new (record { checked = a .checked; length = r })
   answer-handed mid after a p h old new r q =
       record {
         printed = subst (λ (t : List ℕ). Put t old new r) (part-is (p .bytes) (omega (arith, p .room))) q;
         checked = p .checked;
       }
 
-pub ruleset whole-steps = (whole-written, whole-handed, whole-refused, put-written, put-none, answer-written, answer-handed)
+pub ruleset whole-steps = (whole-written, whole-handed, whole-refused, put-written, put-none)

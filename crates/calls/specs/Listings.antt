@@ -21,7 +21,7 @@ use Rattle.listing.specs.Listing.{totalsListing}
 use Rattle.listing.specs.Answer.{room, leaves, answers}
 use Rattle.whole.specs.declared.Answer.{Answer}
 use Rattle.whole.specs.Lines.{listingOf, farmListing}
-use Rattle.whole.specs.Program.{programOutput}
+use Rattle.whole.specs.Program.{outputOf}
 
 -- a call: what the checks find, and the listing where they find nothing
 pub record Call : Type 0 where
@@ -73,7 +73,7 @@ pub record Put (bs old new : List ℕ) (r : ℕ) : Type 0 where
   pub buffer : new ≡ leaves bs old
   pub answer : r ≡ pick (room bs old) (length bs) 0
 
--- what the program prints for a file, and how reading it ended
-pub record PutAnswer (s old new : List ℕ) (r : Answer) : Type 0 where
-  pub printed : Put (programOutput s) old new (r .length)
+-- what a command that lists this of an accepted farm prints for a file, and how reading it ended
+pub record PutAnswer (list : Farm → List ℕ) (s old new : List ℕ) (r : Answer) : Type 0 where
+  pub printed : Put (outputOf list s) old new (r .length)
   pub checked : r .checked ≡ readOf s .checked

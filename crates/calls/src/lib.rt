@@ -14,6 +14,8 @@ ghost use mathlib.Core.Path.{_≡_};
 ghost use Rattle.model.specs.Answers.{herdAnswer, farmAnswer};
 ghost use Rattle.reader.specs.Files.{readOf};
 ghost use Rattle.base.specs.Part.{part};
+ghost use Rattle.noting.specs.Records.{farmNotes};
+ghost use Rattle.whole.specs.Lines.{farmListing};
 ghost use Rattle.calls.specs.Listings.{Called, herdCall, totalsCall, fileHerdCall, fileTotalsCall, fileCall, Put, PutAnswer};
 
 // The farm that a file says, or the refusal and a farm of no herds.
@@ -123,13 +125,30 @@ fn put_if_room(out: &mut [u8], written: &[u8], n: usize) -> usize
 
 // What the program prints for a file, how long it is, and how reading ended; where the buffer is shorter, nothing is put, and the length is 0.
 pub fn put_answer(s: &[u8], out: &mut [u8]) -> Answer
-    ensures { λ r. ⌜ PutAnswer (now (s .entry)) (now (out .entry)) (now (out .exit)) r ⌝ }
+    ensures { λ r. ⌜ PutAnswer farmListing (now (s .entry)) (now (out .entry)) (now (out .exit)) r ⌝ }
 {
     if ANSWER_ROOM <= out.len() {
         return whole::files::put_output(s, out);
     }
     let mut scratch = [0u8; ANSWER_ROOM];
     let answer = whole::files::put_output(s, &mut scratch);
+    let checked = answer.checked;
+    let length = put_if_room(out, &scratch, answer.length);
+    Answer { checked, length }
+}
+
+// Room for what the command `notes` prints for any file.
+pub const NOTES_ROOM: usize = whole::NOTES_ROOM;
+
+// What the command `notes` prints for a file; as `put_answer` otherwise.
+pub fn put_notes(s: &[u8], out: &mut [u8]) -> Answer
+    ensures { λ r. ⌜ PutAnswer farmNotes (now (s .entry)) (now (out .entry)) (now (out .exit)) r ⌝ }
+{
+    if NOTES_ROOM <= out.len() {
+        return whole::files::put_notes(s, out);
+    }
+    let mut scratch = [0u8; NOTES_ROOM];
+    let answer = whole::files::put_notes(s, &mut scratch);
     let checked = answer.checked;
     let length = put_if_room(out, &scratch, answer.length);
     Answer { checked, length }

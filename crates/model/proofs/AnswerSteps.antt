@@ -5,10 +5,8 @@ use Prim.Native.Nat.{ℕ, _+_, _*_, _≤_, _<_}
 use mathlib.Core.Path.{_≡_, sym, ap, _∙_}
 use mathlib.Core.List.{List, []}
 use native.Mathlib.Omega.{arith}
-use lib.ListN.{length, getD, drop, length-take}
-use lib.Seq.{getD-take}
+use lib.ListN.{length, getD, drop}
 use lib.IntN.{ℤ}
-use Rattle.base.proofs.Each.{each-getD}
 use Rattle.cut.specs.Total.{addUp}
 use Rattle.farm.specs.declared.Herd.{Herd}
 use Rattle.farm.specs.declared.Farm.{Farm}
@@ -16,14 +14,14 @@ use Rattle.farm.specs.declared.Fault.{Fault}
 use Rattle.farm.specs.declared.Checked.{Checked}
 use Rattle.farm.specs.declared.Checked.the-variants.{Accepted, Refused}
 use Rattle.checks.specs.Checks.{checkHerd, checkFarm, herdsOf}
-use Rattle.checks.proofs.Accepts.{farm-count, farm-each}
+use Rattle.checks.proofs.Accepts.{farm-count}
 use Rattle.farm.proofs.Left.{taken-at, taken-end}
 use Rattle.kinds.specs.declared.Inputs.{Inputs}
 use Rattle.kinds.specs.Sound.{Sound}
 use Rattle.notes.specs.declared.Notes.{Notes}
 use Rattle.notes.specs.Notes.{notesOf, noNotes}
 use Rattle.typed.specs.Typed.{typedOf}
-use Rattle.typed.proofs.Sound.{typed-sound}
+use Rattle.typed.proofs.Sound.{typed-sound, herd-sound}
 use Rattle.outputs.specs.declared.Figures.{Figures}
 use Rattle.outputs.specs.declared.Totals.{Totals}
 use Rattle.outputs.specs.Grams.{To, figureMost, plusGrams, zeros, noFigures, summed, totalGrams}
@@ -84,9 +82,7 @@ module _ (f : Farm) (accepted : checkFarm f ≡ Accepted) where
 
     module _ (long : length (f .herds) ≡ 64) (b : i < f .count) (d : Herd) (t : Inputs) (et : t ≡ typedOf (getD (f .herds) i d)) where
       pub next-sound : Sound t
-      next-sound =
-          let l : i < length (herdsOf f) = omega (arith, length-take (f .count) (f .herds)) in
-          rw (et, ← getD-take (f .count) (f .herds) i d b) (typed-sound _ (each-getD (herdsOf f) i d (farm-each f accepted) l))
+      next-sound = rw et (herd-sound f accepted long i b d)
 
       pub turned : (g : Figures) → g ≡ figuresOf t → Turned f i sum g
       turned g eg =

@@ -2,7 +2,9 @@
 -- none.
 use Prim.Native.Nat.{ℕ, _+_, _*_}
 use mathlib.Core.Bool.{Bool, false, not, _||_}
+use mathlib.Core.List.{List, [], _∷_}
 use lib.Dec.{ltb, eqb}
+use lib.ListN.{length}
 use Rattle.tables.specs.Standards.{standardOf, «share_Nsol»}
 use Rattle.kinds.specs.declared.Entered.{Entered}
 use Rattle.kinds.specs.declared.Entered.the-variants.{Standard, Number}
@@ -52,3 +54,12 @@ unfoldable pub notesOf : Inputs → Notes
 notesOf (kinds.Roughage r) = roughageNotes r
 notesOf (kinds.Cattle c) = cattleNotes c
 notesOf (kinds.Pigs p) = noNotes
+
+-- ---- the notes one after the other, in 01's order
+
+abbrev pub inOrder : Notes → List Bool
+inOrder n = n .«n_off_standard» ∷ n .«tan_off_standard» ∷ n .«free_factor» ∷ n .«share_lowered» ∷ []
+
+-- how many there are
+abbrev pub noteCount : ℕ
+noteCount = length (inOrder noNotes)

@@ -7,7 +7,7 @@ use kinds::Roughage;
 ghost use mathlib.Core.Path.{_≡_};
 ghost use Rattle.amounts.specs.Units.{tenThousandths};
 ghost use Rattle.kinds.specs.Sound.{EnteredTo, SoundRoughage, SoundCattle, Sound, mostGrams};
-ghost use Rattle.notes.specs.Notes.{offStandard, offShare, roughageNotes, cattleNotes, noNotes, notesOf};
+ghost use Rattle.notes.specs.Notes.{offStandard, offShare, roughageNotes, cattleNotes, noNotes, notesOf, inOrder};
 
 pub struct Notes {
     pub n_off_standard: bool,
@@ -15,6 +15,9 @@ pub struct Notes {
     pub free_factor: bool,
     pub share_lowered: bool,
 }
+
+// How many notes there are.
+pub const COUNT: usize = 4;
 
 // Below 0.7 or above 1.3 of the standard, in tenths; off the share by more than 0.2, in ten-thousandths.
 const LOW: u64 = 7;
@@ -97,4 +100,11 @@ pub fn notes_of(inputs: Inputs) -> Notes
         Inputs::Cattle(c) => cattle_notes(c),
         Inputs::Pigs(_) => no_notes(),
     }
+}
+
+// The notes one after the other, in 01's order.
+pub fn in_order(n: Notes) -> [bool; COUNT]
+    ensures { λ r. ⌜ r ≡ inOrder n ⌝ }
+{
+    [n.n_off_standard, n.tan_off_standard, n.free_factor, n.share_lowered]
 }

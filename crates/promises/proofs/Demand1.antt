@@ -124,13 +124,14 @@ pub record Same (new new′ : List ℕ) (r r′ : Written) : Type 0 where
 pub one-result : {c : Call} {old new new′ : List ℕ} {r r′ : Written} → Called c old new r → Called c old new′ r′ → Same new new′ r r′
 one-result w v = record { bytes = w .buffer ∙ sym (v .buffer); answer = w .answer ∙ sym (v .answer) }
 
--- and so of what the program prints
+-- and so of what a command prints
 pub record SameOutput (new new′ : List ℕ) (a a′ : Answer) : Type 0 where
   pub bytes : new ≡ new′
   pub length : a .length ≡ a′ .length
   pub checked : a .checked ≡ a′ .checked
 
-pub one-output : {s old new new′ : List ℕ} {a a′ : Answer} → PutAnswer s old new a → PutAnswer s old new′ a′ → SameOutput new new′ a a′
+pub one-output : {list : Farm → List ℕ} {s old new new′ : List ℕ} {a a′ : Answer} → PutAnswer list s old new a → PutAnswer list s old new′ a′
+    → SameOutput new new′ a a′
 one-output w v =
     record {
       bytes = w .printed .buffer ∙ sym (v .printed .buffer);

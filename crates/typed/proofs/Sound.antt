@@ -5,9 +5,11 @@ use mathlib.Core.Path.{_≡_}
 use mathlib.Core.Bool.{true}
 use mathlib.Core.List.{List, [], _∷_}
 use native.Mathlib.Omega.{arith}
-use lib.ListN.{length, getD}
+use lib.ListN.{length, getD, length-take}
+use lib.Seq.{getD-take}
 use borrow.Author.Needs.{zero≤}
 use borrow.Author.Tests.{leb-true, ltb-true}
+use Rattle.base.proofs.Each.{each-getD}
 use Rattle.inputs.specs.declared.Kind.{Kind}
 use Rattle.inputs.specs.declared.Kind.the-variants as kinds
 use Rattle.names.specs.Names.{sizeOf}
@@ -17,12 +19,14 @@ use Rattle.inputs.specs.Inputs.{Row, rowsOf, noRow}
 use Rattle.farm.specs.declared.Given.{Given}
 use Rattle.farm.specs.declared.Given.the-variants.{Missing, Standard, Value}
 use Rattle.farm.specs.declared.Slot.{Slot}
+use Rattle.farm.specs.Limits.{herdsMost}
 use Rattle.farm.specs.declared.Herd.{Herd}
+use Rattle.farm.specs.declared.Farm.{Farm}
 use Rattle.farm.specs.declared.Checked.the-variants.{Accepted}
-use Rattle.checks.specs.Checks.{fits, checkHerd}
+use Rattle.checks.specs.Checks.{fits, checkHerd, checkFarm, herdsOf}
 use Rattle.checks.specs.Accepts.{Passes}
 use Rattle.farm.specs.Herds.{noSlot}
-use Rattle.checks.proofs.Accepts.{passes}
+use Rattle.checks.proofs.Accepts.{passes, farm-count, farm-each}
 use Rattle.kinds.specs.Sound.{EnteredTo, standard, number, Sound, roughage, cattle, pigs}
 use Rattle.typed.specs.Typed.{numberIn, enteredIn, givenAt, numberAt, enteredAt, roughageOf, outdoorOf, cattleOf, pigsOf, typedAs, typedOf}
 
@@ -97,3 +101,10 @@ typed-as kinds.Pigs h p =
 pub typed-sound : (h : Herd) → checkHerd h ≡ Accepted → Sound (typedOf h)
 unfolding typedOf
 typed-sound h e = typed-as (h .kind) h (passes h e)
+
+-- the herds of a farm that passes them
+module _ (f : Farm) (accepted : checkFarm f ≡ Accepted) (long : length (f .herds) ≡ herdsMost) (i : ℕ) (b : i < f .count) (d : Herd) where
+  pub herd-sound : Sound (typedOf (getD (f .herds) i d))
+  herd-sound =
+      let l : i < length (herdsOf f) = omega (arith, length-take (f .count) (f .herds), farm-count f accepted) in
+      rw (← getD-take (f .count) (f .herds) i d b) (typed-sound _ (each-getD (herdsOf f) i d (farm-each f accepted) l))

@@ -7,13 +7,16 @@ use listing::Written;
 use reader::files;
 ghost use Prim.Native.Nat.{_≤_};
 ghost use lib.ListN.{length};
-ghost use Rattle.whole.specs.Rooms.{farmRoom};
-ghost use Rattle.whole.specs.Program.{PutFile, PutOutput};
+ghost use Rattle.noting.specs.Records.{farmNotes};
+ghost use Rattle.noting.specs.Rooms.{notesRoom};
+ghost use Rattle.whole.specs.Lines.{farmListing};
+ghost use Rattle.whole.specs.Rooms.{farmRoom, lineRoom};
+ghost use Rattle.whole.specs.Program.{PutFile, Completed, PutOutput};
 
 // The farm's listing; or the refusal, and nothing is written.
 pub fn put_file(s: &[u8], out: &mut [u8]) -> Written
     requires { ⌜ farmRoom ≤ length (now out) ⌝ }
-    ensures { λ r. ⌜ PutFile (now (s .entry)) (now (out .entry)) (now (out .exit)) r ⌝ }
+    ensures { λ r. ⌜ PutFile farmListing farmRoom (now (s .entry)) (now (out .entry)) (now (out .exit)) r ⌝ }
 {
     let answer = files::read(s);
     let checked = answer.checked;
@@ -23,12 +26,25 @@ pub fn put_file(s: &[u8], out: &mut [u8]) -> Written
     }
 }
 
-// What the program prints: the listing, or the refusal's line.
-pub fn put_output(s: &[u8], out: &mut [u8]) -> Answer
-    requires { ⌜ farmRoom ≤ length (now out) ⌝ }
-    ensures { λ r. ⌜ PutOutput (now (s .entry)) (now (out .entry)) (now (out .exit)) r ⌝ }
+// The farm's notes; or the refusal, and nothing is written.
+fn put_file_notes(s: &[u8], out: &mut [u8]) -> Written
+    requires { ⌜ notesRoom ≤ length (now out) ⌝ }
+    ensures { λ r. ⌜ PutFile farmNotes notesRoom (now (s .entry)) (now (out .entry)) (now (out .exit)) r ⌝ }
 {
-    match put_file(s, out) {
+    let answer = files::read(s);
+    let checked = answer.checked;
+    match checked {
+        Checked::Accepted => Written::Length(noting::put_farm(out, answer.farm)),
+        Checked::Refused(fault, record) => Written::Refused(fault, record),
+    }
+}
+
+// The answer of a file for which this was put: of a refusal the line is put now.
+fn complete(out: &mut [u8], put: Written) -> Answer
+    requires { ⌜ lineRoom ≤ length (now out) ⌝ }
+    ensures { λ r. ⌜ Completed (now (out .entry)) put (now (out .exit)) r ⌝ }
+{
+    match put {
         Written::Length(n) => Answer {
             checked: Checked::Accepted,
             length: n,
@@ -41,4 +57,22 @@ pub fn put_output(s: &[u8], out: &mut [u8]) -> Answer
             }
         }
     }
+}
+
+// What the program prints: the listing, or the refusal's line.
+pub fn put_output(s: &[u8], out: &mut [u8]) -> Answer
+    requires { ⌜ farmRoom ≤ length (now out) ⌝ }
+    ensures { λ r. ⌜ PutOutput farmListing farmRoom (now (s .entry)) (now (out .entry)) (now (out .exit)) r ⌝ }
+{
+    let put = put_file(s, out);
+    complete(out, put)
+}
+
+// What its command `notes` prints: the notes, or the refusal's line.
+pub fn put_notes(s: &[u8], out: &mut [u8]) -> Answer
+    requires { ⌜ notesRoom ≤ length (now out) ⌝ }
+    ensures { λ r. ⌜ PutOutput farmNotes notesRoom (now (s .entry)) (now (out .entry)) (now (out .exit)) r ⌝ }
+{
+    let put = put_file_notes(s, out);
+    complete(out, put)
 }

@@ -1,5 +1,5 @@
-// What a file is answered with, put together as bytes: an accepted farm's listing, herd after herd and then the totals, or the line of a refusal.
-// Each herd's figures are worked out once, and what reading has checked is not checked again.
+// What a file is answered with, put together as bytes: an accepted farm's listing, herd after herd and then the totals, or its notes; or the line
+// of a refusal. Each herd's figures are worked out once, and what reading has checked is not checked again.
 pub mod farms; // an accepted farm's listing
 pub mod refusals; // the line of a refusal
 pub mod files; // the answer of a file
@@ -14,3 +14,6 @@ pub struct Answer {
 
 // Room for the listing of any farm.
 pub const FARM_ROOM: usize = (farm::HERDS_MOST + 1) * listing::LONGEST;
+
+// Room for the notes of any farm.
+pub const NOTES_ROOM: usize = noting::ROOM;

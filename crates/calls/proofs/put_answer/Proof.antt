@@ -11,7 +11,7 @@ same-length : tie.Need-same-length
 same-length c = search needs
 
 returns : tie.Need-returns
-returns c = let p = c .before .before in answer-written _ _ _ _ (p .put-output .ensures) (search needs)
+returns c = let p = c .before .before in answer-written _ _ _ _ _ _ (p .put-output .ensures) (search needs)
 
 slice-aggregate-put-output : tie.Need-slice-aggregate-put-output
 slice-aggregate-put-output c = search needs
@@ -32,7 +32,7 @@ returns-2 : tie.Need-returns-2
 returns-2 c =
     let w = c .before .before in
     let p = w .before .before .before .before in
-    answer-handed _ _ _ _ (p .put-output2 .ensures) (search needs) _ _ _ (w .put-if-room .ensures)
+    answer-handed _ _ _ _ _ _ (p .put-output2 .ensures) (search needs) _ _ _ (w .put-if-room .ensures)
 
 pub put-answer-spec : {M : Type 1} → statement M
 put-answer-spec =
