@@ -31,7 +31,7 @@ use Rattle.pasture.specs.Pasture.{outdoorGrazingTime, roughageGrazingTime, gas}
 use Rattle.outputs.specs.Names.{texts, totalTexts, totalNumber}
 use Rattle.outputs.specs.Grams.{at, figure, total, farmTotal, totalsOf}
 use Rattle.herd.specs.Herd.{figuresIn, figuresOf}
-use Rattle.model.proofs.Edges.{C, row4}
+use Rattle.model.specs.Edges.{C, row4}
 use Rattle.nearness.specs.ByName.{saidOf, saidAt}
 use Rattle.nearness.specs.Promised.{promised, _within_, promisedAt, promisedOfTotal}
 use Rattle.nearness.specs.Exact.{exact, exactOf, exactAt, exactFigure, exactOfTotal}

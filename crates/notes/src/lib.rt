@@ -63,7 +63,7 @@ fn roughage_notes(r: Roughage) -> Notes
         n_off_standard: n_off_standard(r.animalcategory, entered_n),
         tan_off_standard: tan_off_standard(entered_tan),
         free_factor: r.free_correction_factor != 0,
-        share_lowered: false,
+        share_lowered: false, // no yard
     }
 }
 
@@ -73,7 +73,7 @@ fn cattle_notes(c: Cattle) -> Notes
 {
     let outdoor = c.outdoor;
     Notes {
-        n_off_standard: false,
+        n_off_standard: false, // no standard
         tan_off_standard: false,
         free_factor: outdoor.free_correction_factor != 0,
         share_lowered: yard::share_lowered(outdoor),

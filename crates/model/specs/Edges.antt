@@ -1,0 +1,162 @@
+-- 01, Herds on both sides of an edge: the rows marked (P), as one table under one statement (`edges` of
+-- proofs/Edges.antt). With them the c of row 9, which a program runs: no figure shows it, since nothing goes into the
+-- housing there. Then the rows of the notes (crate `notes`, specs/Rows), 01's example of a cut that is no rounding to
+-- nearest, and a row for each share and each floor. To be believed.
+use Prim.Native.Nat.{ℕ}
+use Prim.Native.String.{String}
+use mathlib.Core.Path.{_≡_}
+use mathlib.Core.List.{List, [], _∷_, _++_, map}
+use lib.IntN.{ℤ, pos, negsuc}
+use Rattle.tables.specs.Standards.{_kg, _g}
+use Rattle.tables.specs.Growth.{kOf}
+use Rattle.amounts.specs.Arithmetic.{cutting}
+use Rattle.kinds.specs.declared.Entered.the-variants.{Standard}
+use Rattle.kinds.specs.declared.ExerciseYard.{ExerciseYard}
+use Rattle.kinds.specs.declared.ExerciseYard.the-variants.{NotAvailable, NotSupplied, Partly, Exclusively}
+use Rattle.kinds.specs.declared.Floor.{Floor}
+use Rattle.kinds.specs.declared.Floor.the-variants.{Solid, Unpaved, Perforated, Paddock}
+use Rattle.kinds.specs.declared.HousingType.the-variants as housed
+use Rattle.kinds.specs.declared.Inputs.{Inputs}
+use Rattle.housing.specs.Housing.{«c_grazing»}
+use Rattle.notes.specs.Rows as notes
+use Rattle.notes.specs.Rows.{Row, told, _gets_, cattle, outdoors, roughage, pigs, category}
+use Rattle.outputs.specs.Grams.{figure}
+use Rattle.herd.specs.Herd.{figuresOf}
+
+-- what a line is about: grams, notes by name, or a factor in billionths
+pub data Value : Type 0 where
+  grams : ℤ → Value
+  names : List String → Value
+  factor : ℕ → Value
+
+-- a line: what the definitions give, and what 01 says that it is
+pub record Edge : Type 0 where
+  pub given : Value
+  pub said : Value
+
+abbrev pub Holds : Edge → Type 0
+Holds e = e .given ≡ e .said
+
+-- a herd's figure under a name
+abbrev gives : Inputs → String → ℤ → Edge
+gives i t z = record { given = grams (figure t (figuresOf i)); said = grams z }
+
+-- a herd's notes
+abbrev noted : Row → Edge
+noted r = record { given = names (told r); said = names (r .notes) }
+
+-- k at so many tenths of an hour, and c at so many days and tenths of an hour
+abbrev k-at : ℕ → ℕ → Edge
+k-at hours k = record { given = factor (kOf hours); said = factor k }
+
+abbrev c-at : ℕ → ℕ → ℕ → Edge
+c-at days hours c = record { given = factor («c_grazing» cutting days hours); said = factor c }
+
+-- ---- the herds
+
+-- the cattle rows marked C: "10 head, 73 kg, TAN 60 percent, yard 365 days, solid floor, free 0, 12 hours"
+abbrev onFloor : Floor → ExerciseYard → ℕ → Inputs
+onFloor floor yard days = cattle 10 (73 kg) 6000 (outdoors 365 yard floor 0 days 120)
+
+abbrev pub C : ExerciseYard → ℕ → Inputs
+C yard days = onFloor Solid yard days
+
+abbrev pub row4 : Inputs
+row4 = cattle 10 (73 kg) 200 (outdoors 0 NotAvailable Solid 0 365 240)
+
+abbrev fallowDeer : Inputs
+fallowDeer = roughage (category "fallow_deer") Standard Standard 0 0 0
+
+abbrev outdoorPigs : Inputs
+outdoorPigs = pigs (13 kg) 7000 housed.Outdoor
+
+-- "5 grams, share 0.1, both counts 365, 24 hours"
+abbrev fiveGrams : Inputs
+fiveGrams = cattle 1 (5 g) 0 (outdoors 365 NotSupplied Solid 0 365 240)
+
+-- 5 grams of N, 4 of them TAN, on yard and pasture a fifth of the year each
+abbrev fourOfFive : Inputs
+fourOfFive = cattle 1 (5 g) 8000 (outdoors 365 Partly Solid 0 365 60)
+
+-- ---- the table
+
+abbrev herds : List Edge
+herds =
+    -- 1
+    gives (C Partly 200) "n_into_yard" (pos 146000)
+    ∷ gives (C Partly 200) "tan_into_yard" (pos 87600)
+    ∷ gives (C Partly 200) "nh3_nyard" (pos 61320)
+    ∷ gives (C Partly 200) "n_outyard_liquid" (pos 84680)
+    ∷ gives (C Partly 200) "tan_outyard_liquid" (pos 26280)
+    ∷ gives (C Partly 200) "n_into_grazing" (pos 160000)
+    ∷ gives (C Partly 200) "tan_into_grazing" (pos 96000)
+    ∷ gives (C Partly 200) "nh3_ngrazing" (pos 7968)
+    ∷ gives (C Partly 200) "no_ngrazing" (pos 880)
+    ∷ gives (C Partly 200) "n2o_ngrazing" (pos 3200)
+    ∷ gives (C Partly 200) "n_remain_grazing" (pos 147952)
+    ∷ gives (C Partly 200) "tan_remain_grazing" (pos 83952)
+    ∷ gives (C Partly 200) "n_into_housing" (pos 424000)
+    ∷ gives (C Partly 200) "tan_into_housing" (pos 254400)
+    -- 2
+    ∷ gives (C Exclusively 200) "n_into_yard" (pos 278000)
+    ∷ gives (C Exclusively 200) "n_into_grazing" (pos 160000)
+    ∷ gives (C Exclusively 200) "n_into_housing" (pos 292000)
+    ∷ noted (C Exclusively 200 gets ("share_lowered" ∷ []))
+    -- 3
+    ∷ gives (C Exclusively 0) "n_into_yard" (pos 438000)
+    ∷ noted (C Exclusively 0 gets [])
+    -- 4
+    ∷ gives row4 "tan_into_grazing" (pos 14600)
+    ∷ gives row4 "nh3_ngrazing" (pos 1211)
+    ∷ gives row4 "no_ngrazing" (pos 4015)
+    ∷ gives row4 "n2o_ngrazing" (pos 14600)
+    ∷ gives row4 "n_remain_grazing" (pos 710174)
+    ∷ gives row4 "tan_remain_grazing" (negsuc 5225)
+    -- 5
+    ∷ gives fallowDeer "n_excretion" (pos 200000)
+    ∷ gives fallowDeer "tan_excretion" (pos 80000)
+    ∷ gives fallowDeer "nh3_nhousing" (pos 22000)
+    ∷ gives fallowDeer "n_outhousing" (pos 178000)
+    ∷ gives fallowDeer "tan_outhousing" (pos 58000)
+    -- 6
+    ∷ gives outdoorPigs "n_excretion" (pos 130000)
+    ∷ gives outdoorPigs "tan_excretion" (pos 91000)
+    ∷ gives outdoorPigs "n_into_grazing" (pos 130000)
+    ∷ gives outdoorPigs "tan_into_grazing" (pos 91000)
+    ∷ gives outdoorPigs "nh3_ngrazing" (pos 18200)
+    ∷ gives outdoorPigs "n2_ngrazing" (pos 0)
+    ∷ gives outdoorPigs "no_ngrazing" (pos 715)
+    ∷ gives outdoorPigs "n2o_ngrazing" (pos 2600)
+    ∷ gives outdoorPigs "n_remain_grazing" (pos 108485)
+    ∷ gives outdoorPigs "tan_remain_grazing" (pos 69485)
+    ∷ gives outdoorPigs "n_into_housing" (pos 0)
+    ∷ gives outdoorPigs "tan_into_housing" (pos 0)
+    -- 7
+    ∷ k-at 0 1000000000
+    -- 8 stands among the rows of the notes
+    -- 9
+    ∷ c-at 365 240 1000000000
+    ∷ []
+
+abbrev further : List Edge
+further =
+    -- Readings that look right and aren't: no rounding to nearest, which would give 1 and 5
+    gives fiveGrams "n_into_yard" (pos 0)
+    ∷ gives fiveGrams "n_into_grazing" (pos 4)
+    -- by the cuts the TAN into the housing of cattle can be a gram above the N
+    ∷ gives fourOfFive "n_into_housing" (pos 3)
+    ∷ gives fourOfFive "tan_into_housing" (pos 4)
+    -- the shares of 2.34: 0, 0.1, 0.2, 0.6
+    ∷ gives (C NotAvailable 0) "n_into_yard" (pos 0)
+    ∷ gives (C NotSupplied 0) "n_into_yard" (pos 73000)
+    ∷ gives (C Partly 0) "n_into_yard" (pos 146000)
+    ∷ gives (C Exclusively 0) "n_into_yard" (pos 438000)
+    -- its floors: 1 less 0, 0.5, 0.75, 0.9
+    ∷ gives (onFloor Solid Partly 0) "nh3_nyard" (pos 61320)
+    ∷ gives (onFloor Unpaved Partly 0) "nh3_nyard" (pos 30660)
+    ∷ gives (onFloor Perforated Partly 0) "nh3_nyard" (pos 15330)
+    ∷ gives (onFloor Paddock Partly 0) "nh3_nyard" (pos 6132)
+    ∷ []
+
+abbrev pub table : List Edge
+table = herds ++ map noted notes.table ++ further

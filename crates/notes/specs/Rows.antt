@@ -1,0 +1,197 @@
+-- 01, Notes, on both sides of every edge: herds, and the notes that each gets, by name; of a herd that gets none the
+-- list is empty. Row 8 of 01 is among them (Herds on both sides of an edge), and all are lines of the one table of crate
+-- `model`, specs/Edges. proofs/Rows.antt computes them from the definitions. To be believed.
+use Prim.Native.Nat.{ℕ, _+_, _-_}
+use Prim.Native.String.{String}
+use mathlib.Core.Bool.{Bool}
+use mathlib.Core.List.{List, [], _∷_, _++_}
+use mathlib.Core.Path.{_≡_}
+use lib.Text.{eqt}
+use Rattle.base.specs.Pick.{pick}
+use Rattle.tables.specs.Standards.{Standard, «standard_N_excretion», _kg, _g}
+use Rattle.kinds.specs.declared.Entered.{Entered}
+use Rattle.kinds.specs.declared.Entered.the-variants as entered
+use Rattle.kinds.specs.declared.ExerciseYard.{ExerciseYard}
+use Rattle.kinds.specs.declared.ExerciseYard.the-variants.{NotAvailable, NotSupplied, Partly, Exclusively}
+use Rattle.kinds.specs.declared.Floor.{Floor}
+use Rattle.kinds.specs.declared.Floor.the-variants.{Solid}
+use Rattle.kinds.specs.declared.HousingType.{HousingType}
+use Rattle.kinds.specs.declared.HousingType.the-variants as housed
+use Rattle.kinds.specs.declared.Outdoor.{Outdoor}
+use Rattle.kinds.specs.declared.Inputs.{Inputs}
+use Rattle.kinds.specs.declared.Inputs.the-variants as kinds
+use Rattle.notes.specs.declared.Notes.{Notes}
+use Rattle.notes.specs.Notes.{notesOf}
+
+-- ---- herds
+
+-- animals, grams a head and ten-thousandths of TAN, and what is outdoors
+abbrev pub cattle : ℕ → ℕ → ℕ → Outdoor → Inputs
+cattle animals grams tan outdoor =
+    kinds.Cattle (record { animals = animals; «inp_n_excretion» = grams; «tan_fraction» = tan; outdoor = outdoor })
+
+-- yard days, the yard, its floor and free factor, grazing days and tenths of an hour
+abbrev pub outdoors : ℕ → ExerciseYard → Floor → ℕ → ℕ → ℕ → Outdoor
+outdoors yard-days yard floor free days hours =
+    record {
+      «yard_days» = yard-days;
+      «exercise_yard» = yard;
+      «floor_properties_exercise_yard» = floor;
+      «free_correction_factor» = free;
+      «grazing_days» = days;
+      «grazing_hours» = hours;
+    }
+
+-- 10 head of a category: grams a head and ten-thousandths of TAN as entered, free factor, grazing days and tenths of an
+-- hour
+abbrev pub roughage : ℕ → Entered → Entered → ℕ → ℕ → ℕ → Inputs
+roughage category n tan free days hours =
+    kinds.Roughage (record {
+      animalcategory = category;
+      animals = 10;
+      «inp_n_excretion» = n;
+      «tan_fraction» = tan;
+      «free_correction_factor» = free;
+      «grazing_days» = days;
+      «grazing_hours» = hours;
+    })
+
+-- 10 head, grams a head and ten-thousandths of TAN
+abbrev pub pigs : ℕ → ℕ → HousingType → Inputs
+pigs grams tan housing =
+    kinds.Pigs (record { animals = 10; «inp_n_excretion» = grams; «tan_fraction» = tan; «housing_type» = housing })
+
+-- a category by its name
+abbrev categoryAmong : String → List Standard → ℕ
+categoryAmong name [] = 0
+categoryAmong name (s ∷ ss) = pick (eqt name (s .category)) 0 (1 + categoryAmong name ss)
+
+abbrev pub category : String → ℕ
+category name = categoryAmong name «standard_N_excretion»
+
+-- ---- a row
+
+-- the notes that say yes, by name
+abbrev said : Bool → String → List String
+said flag name = pick flag (name ∷ []) []
+
+abbrev pub namesOf : Notes → List String
+namesOf n =
+    said (n .«n_off_standard») "n_off_standard"
+    ++ said (n .«tan_off_standard») "tan_off_standard"
+    ++ said (n .«free_factor») "free_factor"
+    ++ said (n .«share_lowered») "share_lowered"
+
+pub record Row : Type 0 where
+  pub herd : Inputs
+  pub notes : List String
+
+infix 68 _gets_
+abbrev pub _gets_ : Inputs → List String → Row
+i gets names = record { herd = i; notes = names }
+
+-- what the theorem says of a row: the herd gets these notes and no other
+abbrev pub told : Row → List String
+told r = namesOf (notesOf (r .herd))
+
+abbrev pub Right : Row → Type 0
+Right r = told r ≡ r .notes
+
+-- ---- N entered, for roughage: below 0.7 or above 1.3 of the standard
+
+abbrev enters : String → ℕ → Inputs
+enters name grams = roughage (category name) (entered.Number grams) entered.Standard 0 0 0
+
+-- 0.7 and 1.3 of the standard, and a gram beyond either
+abbrev edgesOf : String → ℕ → ℕ → List Row
+edgesOf name low high =
+    enters name low gets []
+    ∷ enters name high gets []
+    ∷ enters name (low - 1) gets ("n_off_standard" ∷ [])
+    ∷ enters name (high + 1) gets ("n_off_standard" ∷ [])
+    ∷ []
+
+abbrev ofN : List Row
+ofN =
+    -- 01, row 8
+    enters "red_deer" (28 kg) gets []
+    ∷ enters "red_deer" (52 kg) gets []
+    ∷ enters "red_deer" 27999 gets ("n_off_standard" ∷ [])
+    ∷ enters "red_deer" 52001 gets ("n_off_standard" ∷ [])
+    -- standard
+    ∷ roughage (category "red_deer") entered.Standard entered.Standard 0 0 0 gets []
+    ∷ edgesOf "fallow_deer" (14 kg) (26 kg)
+    ++ edgesOf "wapiti" (56 kg) (104 kg)
+    ++ edgesOf "bison_older_than_3yr" (42 kg) (78 kg)
+    ++ edgesOf "bison_younger_than_3yr" (14 kg) (26 kg)
+    ++ edgesOf "lama_older_than_2yr" (11900 g) (22100 g)
+    ++ edgesOf "lama_younger_than_2yr" (7700 g) (14300 g)
+    ++ edgesOf "alpaca_older_than_2yr" (7700 g) (14300 g)
+    ++ edgesOf "alpaca_younger_than_2yr" (4900 g) (9100 g)
+    ++ edgesOf "rabbit_doe_kits" (1820 g) (3380 g)
+    ++ edgesOf "rabbit_young" (553 g) (1027 g)
+
+-- ---- TAN entered, for roughage: off 0.4 by more than 0.2
+
+abbrev entersTan : ℕ → Inputs
+entersTan tan = roughage (category "wapiti") entered.Standard (entered.Number tan) 0 0 0
+
+abbrev ofTan : List Row
+ofTan =
+    entersTan 2000 gets []
+    ∷ entersTan 6000 gets []
+    ∷ entersTan 1999 gets ("tan_off_standard" ∷ [])
+    ∷ entersTan 6001 gets ("tan_off_standard" ∷ [])
+    ∷ []
+
+-- ---- free factor not 0, for roughage and cattle
+
+abbrev roughageFree : ℕ → Inputs
+roughageFree free = roughage (category "rabbit_young") entered.Standard entered.Standard free 0 0
+
+-- without a yard
+abbrev cattleFree : ℕ → Inputs
+cattleFree free = cattle 10 (73 kg) 6000 (outdoors 0 NotAvailable Solid free 0 0)
+
+abbrev ofFree : List Row
+ofFree =
+    roughageFree 0 gets []
+    ∷ roughageFree 1 gets ("free_factor" ∷ [])
+    ∷ roughageFree 100 gets ("free_factor" ∷ [])
+    ∷ cattleFree 0 gets []
+    ∷ cattleFree 1 gets ("free_factor" ∷ [])
+    ∷ cattleFree 100 gets ("free_factor" ∷ [])
+    ∷ []
+
+-- ---- share lowered, for cattle: days with both, and a share above 0.2
+
+-- so many yard days and 200 grazing days; from 166 yard days on there are days with both
+abbrev grazing : ExerciseYard → ℕ → Inputs
+grazing yard yard-days = cattle 10 (73 kg) 6000 (outdoors yard-days yard Solid 0 200 120)
+
+abbrev ofShare : List Row
+ofShare =
+    grazing Exclusively 165 gets []
+    ∷ grazing Exclusively 166 gets ("share_lowered" ∷ [])
+    ∷ grazing Partly 166 gets []
+    ∷ grazing NotSupplied 166 gets []
+    ∷ grazing NotAvailable 166 gets []
+    ∷ []
+
+-- ---- what a kind is not told, at values that another kind would be told of
+
+abbrev ofOthers : List Row
+ofOthers =
+    -- cattle have no standard
+    cattle 10 0 0 (outdoors 0 NotAvailable Solid 0 0 0) gets []
+    ∷ cattle 10 (200 kg) 10000 (outdoors 0 NotAvailable Solid 0 0 0) gets []
+    -- roughage-consuming animals have no yard
+    ∷ roughage (category "wapiti") entered.Standard entered.Standard 0 365 240 gets []
+    -- pigs have none of the four
+    ∷ pigs 0 0 housed.Outdoor gets []
+    ∷ pigs (200 kg) 10000 housed.Outdoor gets []
+    ∷ pigs (200 kg) 10000 housed.DeepLitter gets []
+    ∷ []
+
+abbrev pub table : List Row
+table = ofN ++ ofTan ++ ofFree ++ ofShare ++ ofOthers
