@@ -10,11 +10,13 @@ use lib.Dec.{ltb, T, ltb→lt}
 use lib.ListN.{length, getD}
 use lib.IntN.{ℤ, pos, natAbs, _+ℤ_}
 use Rattle.base.specs.Runs.{all}
+use Rattle.base.specs.Reordered.{Reordered}
 use Rattle.base.proofs.Table.{both-left, both-right}
+use Rattle.base.proofs.Each.{each-of}
 use Rattle.base.proofs.Runs.{all-at}
 use Rattle.cut.specs.Total.{addUp, signedTotal}
 use Rattle.cut.proofs.Signed.{abs-add}
-use Rattle.cut.proofs.Totals.{addUp-part, addUp-map}
+use Rattle.cut.proofs.Totals.{addUp-part, addUp-map, signedTotal-same, signedTotal-reordered}
 use Rattle.outputs.specs.declared.Figures.{Figures}
 use Rattle.outputs.specs.declared.Totals.{Totals}
 use Rattle.outputs.specs.Names.{Row, rows, number, Total, totals, totalNumber, addends}
@@ -71,6 +73,22 @@ module _ {A : Type 0} (g : A → Figures) (l : List A) where
   pub totals-of-sum : (t : Totals) → t .grams ≡ totalGrams (summed g l) → t ≡ totalsOf (map g l)
   unfolding totalsOf
   totals-of-sum t e = ap ofGrams (e ∙ by-number-same (totalAt (summed g l)) (farmTotal (map g l)) (length totals) total-of-sum)
+    where
+      ofGrams : List ℤ → Totals
+      ofGrams x = record { grams = x }
+
+-- ---- the herds in another order
+
+module _ {l m : List Figures} (o : Reordered l m) where
+  total-in-any-order : (t : ℕ) → farmTotal l t ≡ farmTotal m t
+  unfolding farmTotal
+  total-in-any-order t =
+      signedTotal-same (each-of (λ n. signedTotal-reordered (λ (f : Figures). at (f .grams) n) o) (getD addends t []))
+
+  pub totals-in-any-order : totalsOf l ≡ totalsOf m
+  unfolding totalsOf
+  totals-in-any-order =
+      ap ofGrams (by-number-same (farmTotal l) (farmTotal m) (length totals) (λ t h. total-in-any-order t))
     where
       ofGrams : List ℤ → Totals
       ofGrams x = record { grams = x }

@@ -14,4 +14,5 @@ pub mod Answers
 pub mod Accepts
 pub mod Passing
 pub mod Refuses
+pub mod Order
 pub mod Examples
