@@ -15,6 +15,7 @@ use Rattle.base.specs.Each.{Each, none, more}
 use Rattle.base.proofs.Each.{each-tail, each-front, each-map}
 use Rattle.base.proofs.Table.{both-left, both-right}
 use Rattle.cut.specs.Total.{signedTotal}
+use Rattle.inputs.specs.declared.Kind.the-variants as kinds
 use Rattle.farm.specs.declared.Herd.{Herd}
 use Rattle.farm.specs.declared.Farm.{Farm}
 use Rattle.farm.specs.declared.Checked.the-variants.{Accepted}
@@ -24,7 +25,7 @@ use Rattle.amounts.specs.Arithmetic.{cutting}
 use Rattle.amounts.specs.Bounds.{Modest}
 use Rattle.kinds.specs.declared.Roughage.{Roughage}
 use Rattle.kinds.specs.declared.Inputs.{Inputs}
-use Rattle.kinds.specs.declared.Inputs.the-variants as kinds
+use Rattle.kinds.specs.declared.Inputs.the-variants as typed
 use Rattle.kinds.specs.Sound.{SoundRoughage, Sound}
 use Rattle.rates.specs.Rates.{roughageRates, pigsRates}
 use Rattle.rates.proofs.Modest.{roughage-rates-modest, pigs-rates-modest}
@@ -34,7 +35,7 @@ use Rattle.pasture.specs.Pasture.{outdoorIntoGrazing, roughageIntoGrazing, pigs
 use Rattle.pasture.proofs.OnPasture.{pasture-keeps-n, pasture-keeps-tan}
 use Rattle.pasture.proofs.Into.{outdoor-into-le, roughage-into-le, pigs-into-le, outdoor-pasture-modest, roughage-pasture-modest, roughage-housing-modest, pigs-pasture-modest}
 use Rattle.housing.proofs.InHousing.{housing-keeps-n, housing-keeps-tan}
-use Rattle.typed.specs.Typed.{typedOf}
+use Rattle.typed.specs.Typed.{roughageOf, typedOf}
 use Rattle.typed.proofs.Sound.{typed-sound}
 use Rattle.outputs.specs.declared.Figures.{Figures}
 use Rattle.outputs.specs.Sections.{FiguresIn}
@@ -43,6 +44,7 @@ use Rattle.outputs.proofs.Alone.{isAlone, totals-balance}
 use Rattle.herd.specs.Herd.{roughageOn, figuresOf}
 use Rattle.herd.proofs.Made.{Made, of-roughage, of-outdoor, of-pigs, made, roughage-starts}
 use Rattle.model.specs.Answers.{herdFigures, farmAnswer}
+use Rattle.model.proofs.OfKind.{typed-roughage, roughage-sound}
 use Rattle.model.specs.Kept.{Balance, Balanced, farmBalances, yardBalances, Keeps, KeepsHousing, KeepsTotals}
 
 -- ---- a herd
@@ -125,9 +127,12 @@ housing-keeps r e s m =
     more (record { kept = of-two _ _ _ (housing-keeps-n r n′ tan′ (roughage-housing-modest r s n tan m)) })
     (more (record { kept = of-two _ _ _ (housing-keeps-tan r n′ tan′) }) none)
 
-pub kept-in-housing : (r : Roughage) → SoundRoughage r → KeepsHousing (figuresOf (kinds.Roughage r))
+roughage-keeps : (r : Roughage) → SoundRoughage r → KeepsHousing (figuresOf (typed.Roughage r))
 unfolding figuresOf
-kept-in-housing r s = housing-keeps r _ s (roughage-starts r s)
+roughage-keeps r s = housing-keeps r _ s (roughage-starts r s)
+
+pub kept-in-housing : (h : Herd) → checkHerd h ≡ Accepted → h .kind ≡ kinds.Roughage → KeepsHousing (herdFigures h)
+kept-in-housing h e k = rw (typed-roughage h k) (roughage-keeps (roughageOf h) (roughage-sound h e k))
 
 -- ---- a farm
 

@@ -1,3 +1,5 @@
 pub mod Edges
 pub mod AnswerSteps
+pub mod OfKind
 pub mod Kept
+pub mod Truths

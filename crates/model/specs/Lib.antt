@@ -1,3 +1,4 @@
 pub mod Answers
 pub mod Kept
+pub mod Truths
 pub mod Edges

@@ -1,0 +1,31 @@
+-- A record of a kind, and accepted: its typed inputs are those of that kind, and sound as such. Assumes nothing.
+use mathlib.Core.Path.{_≡_}
+use Rattle.inputs.specs.declared.Kind.the-variants as kinds
+use Rattle.farm.specs.declared.Herd.{Herd}
+use Rattle.farm.specs.declared.Checked.the-variants.{Accepted}
+use Rattle.checks.specs.Checks.{checkHerd}
+use Rattle.kinds.specs.declared.Inputs.the-variants as typed
+use Rattle.kinds.specs.Sound.{SoundRoughage, SoundCattle}
+use Rattle.kinds.proofs.OfKind.{sound-roughage, sound-cattle}
+use Rattle.typed.specs.Typed.{roughageOf, cattleOf, pigsOf, typedOf}
+use Rattle.typed.proofs.Sound.{typed-sound}
+
+module _ (h : Herd) where
+  pub typed-roughage : h .kind ≡ kinds.Roughage → typedOf h ≡ typed.Roughage (roughageOf h)
+  unfolding typedOf
+  typed-roughage k = rw k
+
+  pub typed-cattle : h .kind ≡ kinds.Cattle → typedOf h ≡ typed.Cattle (cattleOf h)
+  unfolding typedOf
+  typed-cattle k = rw k
+
+  pub typed-pigs : h .kind ≡ kinds.Pigs → typedOf h ≡ typed.Pigs (pigsOf h)
+  unfolding typedOf
+  typed-pigs k = rw k
+
+  module _ (accepted : checkHerd h ≡ Accepted) where
+    pub roughage-sound : h .kind ≡ kinds.Roughage → SoundRoughage (roughageOf h)
+    roughage-sound k = sound-roughage (typedOf h) (typed-sound h accepted) (roughageOf h) (typed-roughage k)
+
+    pub cattle-sound : h .kind ≡ kinds.Cattle → SoundCattle (cattleOf h)
+    cattle-sound k = sound-cattle (typedOf h) (typed-sound h accepted) (cattleOf h) (typed-cattle k)

@@ -1,0 +1,54 @@
+-- What is true of every accepted record and plain to say, over the figures by name (proofs/Truths.antt).
+use Prim.Native.Nat.{ℕ, _*_, _≤_, _<_}
+use Prim.Native.String.{String}
+use mathlib.Core.Path.{_≡_}
+use mathlib.Core.List.{List, map}
+use lib.IntN.{natAbs, pos}
+use lib.Signed.{_≤ℤ_}
+use Rattle.base.specs.Each.{Each}
+use Rattle.tables.specs.Growth.{kOf}
+use Rattle.amounts.specs.Arithmetic.{cutting}
+use Rattle.amounts.specs.Units.{billionths}
+use Rattle.kinds.specs.declared.Roughage.{Roughage}
+use Rattle.inputs.specs.declared.Kind.the-variants.{Cattle}
+use Rattle.inputs.specs.Inputs.{rowsOf}
+use Rattle.farm.specs.declared.Herd.{Herd}
+use Rattle.typed.specs.Typed.{placeNamed, givenAt}
+use Rattle.pasture.specs.Pasture.{GrazingIn}
+use Rattle.housing.specs.Housing.{HousingIn, «c_grazing», «ef_nh3_nhousing», uncapped}
+use Rattle.outputs.specs.declared.Figures.{Figures}
+use Rattle.outputs.specs.Names.{Field, grazing, housing}
+use Rattle.outputs.specs.Grams.{figure}
+
+-- no more TAN than N at excretion, on the yard and on the pasture. Not so into the housing: by the cuts the TAN of
+-- cattle can be a gram above the N there (specs/Edges.antt has such a herd)
+pub record TanInN (f : Figures) : Type 0 where
+  pub excreted : figure "tan_excretion" f ≤ℤ figure "n_excretion" f
+  pub on-yard : figure "tan_into_yard" f ≤ℤ figure "n_into_yard" f
+  pub on-pasture : figure "tan_into_grazing" f ≤ℤ figure "n_into_grazing" f
+
+-- 2.87 and 2.85: 1 ≤ c ≤ k, and a factor below 0.73, so that the ceiling of 1 is not reached
+pub record InHousing (r : Roughage) : Type 0 where
+  pub c-least : billionths ≤ «c_grazing» cutting (r .«grazing_days») (r .«grazing_hours»)
+  pub c-most : «c_grazing» cutting (r .«grazing_days») (r .«grazing_hours») ≤ kOf (r .«grazing_hours»)
+  pub factor-most : «ef_nh3_nhousing» cutting r < 730000000
+  pub no-ceiling : «ef_nh3_nhousing» cutting r ≡ uncapped cutting r
+
+-- the housing emits at most 0.73 of the TAN that goes in
+abbrev pub EmitsPart : Figures → Type 0
+EmitsPart f = 100 * natAbs (figure "nh3_nhousing" f) ≤ 73 * natAbs (figure "tan_into_housing" f)
+
+-- two records of cattle that say the same of every input but the yard days
+abbrev pub SameButYardDays : Herd → Herd → Type 0
+SameButYardDays h g =
+    (place : ℕ) → (place ≡ placeNamed "yard_days" (rowsOf Cattle) → ⊥) → givenAt g place ≡ givenAt h place
+
+-- none of the section's figures is above 0 or below
+abbrev pub Nothing : List String → Figures → Type 0
+Nothing names f = Each (λ t. figure t f ≡ pos 0) names
+
+abbrev pub pastureNames : List String
+pastureNames = map (λ (x : Field GrazingIn). x .text) grazing
+
+abbrev pub housingNames : List String
+housingNames = map (λ (x : Field HousingIn). x .text) housing
