@@ -3,3 +3,4 @@ pub mod AnswerSteps
 pub mod OfKind
 pub mod Kept
 pub mod Truths
+pub mod Behind

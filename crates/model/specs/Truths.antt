@@ -3,6 +3,7 @@ use Prim.Native.Nat.{ℕ, _*_, _≤_, _<_}
 use Prim.Native.String.{String}
 use mathlib.Core.Path.{_≡_}
 use mathlib.Core.List.{List, map}
+use lib.ListN.{take}
 use lib.IntN.{natAbs, pos}
 use lib.Signed.{_≤ℤ_}
 use Rattle.base.specs.Each.{Each}
@@ -11,7 +12,7 @@ use Rattle.amounts.specs.Arithmetic.{cutting}
 use Rattle.amounts.specs.Units.{billionths}
 use Rattle.kinds.specs.declared.Roughage.{Roughage}
 use Rattle.inputs.specs.declared.Kind.the-variants.{Cattle}
-use Rattle.inputs.specs.Inputs.{rowsOf}
+use Rattle.inputs.specs.Inputs.{rowsOf, countOf}
 use Rattle.farm.specs.declared.Herd.{Herd}
 use Rattle.typed.specs.Typed.{placeNamed, givenAt}
 use Rattle.pasture.specs.Pasture.{GrazingIn}
@@ -42,6 +43,12 @@ EmitsPart f = 100 * natAbs (figure "nh3_nhousing" f) ≤ 73 * natAbs (figure "ta
 abbrev pub SameButYardDays : Herd → Herd → Type 0
 SameButYardDays h g =
     (place : ℕ) → (place ≡ placeNamed "yard_days" (rowsOf Cattle) → ⊥) → givenAt g place ≡ givenAt h place
+
+-- two records that differ at most in the slots behind the inputs of their kind
+pub record SameInFront (h g : Herd) : Type 0 where
+  pub label : g .label ≡ h .label
+  pub kind : g .kind ≡ h .kind
+  pub front : take (countOf (h .kind)) (g .slots) ≡ take (countOf (h .kind)) (h .slots)
 
 -- none of the section's figures is above 0 or below
 abbrev pub Nothing : List String → Figures → Type 0

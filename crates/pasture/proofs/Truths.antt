@@ -1,8 +1,8 @@
 -- 2.35, 2.61 and 2.88 in plain words: no more TAN than N comes onto a pasture; where no yard is available the yard days
--- change nothing there; outdoor pigs put all on pasture and leave nothing for the housing, and housed pigs put nothing
--- there. Assumes nothing.
+-- change nothing there; 01's wording of the share on days with both comes to the same; outdoor pigs put all on pasture
+-- and leave nothing for the housing, and housed pigs put nothing there. Assumes nothing.
 use mathlib.Core.Path.{_≡_, refl, ap}
-use Prim.Native.Nat.{ℕ, _-_, _*_, _/_, _≤_}
+use Prim.Native.Nat.{ℕ, _+_, _-_, _*_, _/_, _≤_}
 use native.Mathlib.Nat.{le-refl}
 use native.Mathlib.Omega.{arith}
 use Rattle.cut.proofs.Shares.{part-mono}
@@ -15,9 +15,9 @@ use Rattle.kinds.specs.declared.HousingType.{HousingType}
 use Rattle.kinds.specs.declared.HousingType.the-variants as housed
 use Rattle.kinds.specs.Sound.{SoundOutdoor}
 use Rattle.rates.specs.declared.Rates.{Rates}
-use Rattle.yard.specs.Yard.{«days_with_grazing_and_yard»}
+use Rattle.yard.specs.Yard.{«days_with_grazing_and_yard», shareOnBoth}
 use Rattle.yard.proofs.Times.{is-both}
-use Rattle.yard.proofs.Truths.{not-available-shared}
+use Rattle.yard.proofs.Truths.{not-available-shared, worded}
 use Rattle.pasture.specs.Pasture.{outdoorGrazingTime, roughageGrazingTime, pigsIntoGrazing, afterGases, outdoorGrazing, roughageGrazing, pigsGrazing}
 
 -- ---- TAN and N
@@ -70,6 +70,18 @@ pub not-available-same-pasture : (A : Arithmetic) (r : Rates) (o : Outdoor) (day
     → outdoorGrazing A r (withYardDays days o) n tan ≡ outdoorGrazing A r o n tan
 not-available-same-pasture A r o days n tan s h none =
     rw (not-available-time o s none, not-available-time (withYardDays days o) (still-sound o days s h) none) refl
+
+-- ---- the share on days with both, as 01 words it
+
+pub grazing-time-worded : (o : Outdoor)
+    → let both = «days_with_grazing_and_yard» o in
+    outdoorGrazingTime o
+    ≡ o .«grazing_hours»
+    * ((o .«grazing_days» - both) * tenths + (tenths - shareOnBoth (o .«exercise_yard»)) * both)
+unfolding outdoorGrazingTime
+grazing-time-worded o =
+    let both = «days_with_grazing_and_yard» o in
+    ap (λ (x : ℕ). o .«grazing_hours» * ((o .«grazing_days» - both) * tenths + x)) (worded o (λ s. tenths - s))
 
 -- ---- pigs
 

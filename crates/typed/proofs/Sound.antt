@@ -12,6 +12,9 @@ use borrow.Author.Tests.{leb-true, ltb-true}
 use Rattle.base.proofs.Each.{each-getD}
 use Rattle.inputs.specs.declared.Kind.{Kind}
 use Rattle.inputs.specs.declared.Kind.the-variants as kinds
+use Rattle.tables.specs.Standards.{standards}
+use Rattle.names.specs.declared.Names.{Names as NameList}
+use Rattle.names.specs.declared.Names.the-variants.{Categories}
 use Rattle.names.specs.Names.{sizeOf}
 use Rattle.inputs.specs.declared.Form.{Form}
 use Rattle.inputs.specs.declared.Form.the-variants.{Number, OrStandard, NoStandard, OneOf}
@@ -97,6 +100,21 @@ typed-as kinds.Cattle h p =
 typed-as kinds.Pigs h p =
     let n = number-at kinds.Pigs h p in
     pigs (record { animals = n 0 (omega arith); grams = n 1 (omega arith); fraction = n 2 (omega arith) })
+
+-- ---- no category is past the last
+
+place-below : (names : NameList) (g : Given) → 0 < sizeOf names → fits (OneOf names) g ≡ true
+    → numberIn g < sizeOf names
+place-below names Missing some e = some
+place-below names Standard some e = some
+place-below names (Value v) some e = ltb-true v (sizeOf names) e
+
+pub category-known : (h : Herd) → checkHerd h ≡ Accepted → h .kind ≡ kinds.Roughage
+    → roughageOf h .animalcategory < length standards
+unfolding roughageOf
+category-known h e k =
+    let p : Passes (rowsOf kinds.Roughage) (h .slots) = rw k at (passes h e) in
+    place-below Categories (givenAt h 0) (omega arith) (fits-at (rowsOf kinds.Roughage) (h .slots) 0 p (omega arith))
 
 pub typed-sound : (h : Herd) → checkHerd h ≡ Accepted → Sound (typedOf h)
 unfolding typedOf

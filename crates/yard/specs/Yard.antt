@@ -72,6 +72,14 @@ unfoldable pub «share_excretion_with_grazing» : Outdoor → ℕ
     «share_available_roughage_is_partly_supplied_in_the_exercise_yard»
     («share_excretion» (o .«exercise_yard»))
 
+-- 01 words it "0.2 where the share is above 0.2, else the share", with no word of whether there are such days; the
+-- figures are the same (`yard-time-worded`, and `grazing-time-worded` of crate `pasture`)
+abbrev pub shareOnBoth : ExerciseYard → ℕ
+shareOnBoth yard =
+    pick (ltb «share_available_roughage_is_partly_supplied_in_the_exercise_yard» («share_excretion» yard))
+    «share_available_roughage_is_partly_supplied_in_the_exercise_yard»
+    («share_excretion» yard)
+
 -- 2.34, n_into_yard: the part of the year, in tenths of a day
 unfoldable pub yardTime : Outdoor → ℕ
 yardTime o =
