@@ -2,7 +2,7 @@
 -- Assumes nothing.
 use Prim.Native.Nat.{_≤_}
 use mathlib.Core.Path.{_≡_, refl}
-use mathlib.Core.Bool.{Bool, true, false, not, _||_}
+use mathlib.Core.Bool.{Bool, true, false, not}
 use mathlib.Core.List.{List, [], _∷_, _++_}
 use borrow.Author.Tests.{ltb-false, le-ltb, not-false}
 use Rattle.base.specs.Pick.{pick}
@@ -24,14 +24,10 @@ use Rattle.farm.specs.Herds.{isMissing}
 use Rattle.farm.specs.Refusals.{Says, accepts, says, HerdSays, FarmSays}
 use Rattle.checks.specs.Checks.{fits, lacksOne, unfitOne, lacks, unfit, hasLabel, inputTests, herdTests, herdsTests, checkHerd, herdsOf, farmTests, checkFarm}
 use Rattle.checks.specs.Accepts.{Passes, GoodHerd, Distinct, GoodFarm}
-use Rattle.checks.proofs.Tests.{Refusing, refusing, Quiet, quiet-passes, accepted-quiet}
+use Rattle.checks.proofs.Tests.{neither, Refusing, refusing, Quiet, quiet-passes, accepted-quiet}
 use Rattle.checks.proofs.HerdSteps.{herd-refusing}
 
 -- ---- tests that fail
-
-neither : (a b : Bool) → (a || b) ≡ false → (a ≡ false) × (b ≡ false)
-neither true b e = (e, cc)
-neither false b e = (refl, e)
 
 negated : (a : Bool) → a ≡ true → not a ≡ false
 negated a e = rw e

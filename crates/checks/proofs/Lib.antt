@@ -3,3 +3,5 @@ pub mod SlotSteps
 pub mod Tests
 pub mod HerdSteps
 pub mod Accepts
+pub mod Places
+pub mod Refuses

@@ -1,7 +1,7 @@
 -- Lists of tests that refuse: what it means that none of them holds, and what the first that holds gives. Assumes nothing.
 use Prim.Native.Nat.{ℕ}
 use mathlib.Core.Path.{_≡_, refl, ap}
-use mathlib.Core.Bool.{Bool, true, false}
+use mathlib.Core.Bool.{Bool, true, false, _||_}
 use mathlib.Core.List.{List, [], _∷_, _++_}
 use Rattle.base.specs.Pick.{pick}
 use Rattle.base.specs.First.{Test, _when_, first}
@@ -10,6 +10,11 @@ use Rattle.base.specs.Each.{Each, none, more}
 use Rattle.farm.specs.declared.Fault.{Fault}
 use Rattle.farm.specs.declared.Checked.{Checked}
 use Rattle.farm.specs.declared.Checked.the-variants.{Accepted, Refused}
+
+-- of two tests neither holds
+pub neither : (a b : Bool) → (a || b) ≡ false → (a ≡ false) × (b ≡ false)
+neither true b e = (e, cc)
+neither false b e = (refl, e)
 
 -- the first of two lists' tests is the first of the one list's, or else of the other's
 pub first-append : {A : Type 0} (a b : List (Test A)) (z : A) → first (a ++ b) z ≡ first a (first b z)

@@ -1,7 +1,8 @@
 -- Demand 1: a file of any bytes gets either the farm's figures or exactly one numbered refusal with its record number, always the first that
 -- applies in the written order; a refusal leaves the lent buffer untouched. And any two results that a call's contract allows are equal.
+-- So of a record that is handed in.
 -- What a call says is told in 01's numbers, by `says` of crate `farm` and `saysOf` of crate `listing`; what the checks of a record say, by
--- `herd-says` and `farm-says` of crate `farm`.
+-- `herd-says` and `farm-says` of crate `checks`.
 -- Assumes nothing.
 use Prim.Native.Nat.{ℕ, _≤_, _<_}
 use mathlib.Core.Path.{_≡_, refl, sym, ap, _∙_}
@@ -13,12 +14,15 @@ use lib.Dec.{leb}
 use lib.ListN.{length, drop}
 use Rattle.base.specs.Pick.{pick}
 use Rattle.base.proofs.Clash.{clash}
+use Rattle.farm.specs.declared.Herd.{Herd}
 use Rattle.farm.specs.declared.Farm.{Farm}
 use Rattle.farm.specs.declared.Fault.{Fault}
 use Rattle.farm.specs.declared.Fault.the-variants.{BufferTooShort}
 use Rattle.farm.specs.declared.Checked.{Checked}
 use Rattle.farm.specs.declared.Checked.the-variants as checks
 use Rattle.farm.specs.Refusals.{number, Says, accepts, gives, refuses, says}
+use Rattle.checks.specs.Refusals.{herd, farm as farm-record, RecordGets}
+use Rattle.checks.proofs.Refuses.{record-gets}
 use Rattle.reader.specs.declared.FileAnswer.{FileAnswer}
 use Rattle.reader.specs.Files.{readOf, accepted, refused}
 use Rattle.rules.specs.Rules.{KeepsRules, Record}
@@ -26,11 +30,13 @@ use Rattle.rules.specs.Refusals.{First, AppliesAt, too-long, broken, wrong, mis
 use Rattle.rules.proofs.Accepts.{accepts-exactly}
 use Rattle.rules.proofs.Refuses.{Outcome, takes, gives as gives-first, outcome}
 use Rattle.rules.proofs.Answers.{answered}
+use Rattle.model.specs.Answers.{herdAnswer, farmAnswer}
 use Rattle.listing.specs.declared.Written.{Written}
 use Rattle.listing.specs.declared.Written.the-variants.{Length, Refused}
 use Rattle.listing.specs.Answer.{leaves, answers, saysOf}
 use Rattle.whole.specs.declared.Answer.{Answer}
 use Rattle.calls.specs.Listings.{Call, Called, left, said, PutAnswer}
+use Rattle.calls.proofs.RecordSteps.{herd-checked, farm-checked}
 
 -- ---- a file
 
@@ -78,6 +84,14 @@ of-a-file (missing before cs after a b) = omega arith
 
 pub never-13 : {s : List ℕ} {n : ℕ} {fault : Fault} → First s n fault → number fault < 13
 never-13 r = of-a-file (r .applies)
+
+-- ---- a record that is handed in: no refusal applies to it; or the first that applies is given, with record 0
+
+pub demand-1-herd : (h : Herd) → RecordGets (herd h) (herdAnswer h .checked)
+demand-1-herd h = rw (herd-checked h) (record-gets (herd h))
+
+pub demand-1-farm : (f : Farm) → RecordGets (farm-record f) (farmAnswer f .checked)
+demand-1-farm f = rw (farm-checked f) (record-gets (farm-record f))
 
 -- ---- a writing call
 
