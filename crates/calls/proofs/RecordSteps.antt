@@ -2,13 +2,14 @@
 -- Assumes nothing.
 use Prim.Native.Nat.{ℕ}
 use mathlib.Core.Path.{_≡_, refl, sym, _∙_}
-use mathlib.Core.List.{List}
+use mathlib.Core.List.{List, map}
 use Rattle.farm.specs.declared.Herd.{Herd}
 use Rattle.farm.specs.declared.Farm.{Farm}
 use Rattle.farm.specs.declared.Fault.{Fault}
 use Rattle.farm.specs.declared.Checked.{Checked}
 use Rattle.farm.specs.declared.Checked.the-variants as checks
-use Rattle.checks.specs.Checks.{checkHerd, checkFarm}
+use Rattle.checks.specs.Checks.{checkHerd, checkFarm, herdsOf}
+use Rattle.outputs.specs.Grams.{totalsOf}
 use Rattle.model.specs.declared.HerdAnswer.{HerdAnswer}
 use Rattle.model.specs.declared.FarmAnswer.{FarmAnswer}
 use Rattle.model.specs.Answers.{herdFigures, answerHerd, herdAnswer, answerFarm, farmAnswer}
@@ -40,6 +41,10 @@ of-checks (checks.Refused fault at) f = refl
 pub farm-checked : (f : Farm) → farmAnswer f .checked ≡ checkFarm f
 unfolding farmAnswer
 farm-checked f = of-checks (checkFarm f) f
+
+pub farm-figured : (f : Farm) → checkFarm f ≡ checks.Accepted → farmAnswer f .totals ≡ totalsOf (map herdFigures (herdsOf f))
+unfolding farmAnswer
+farm-figured f e = rw e
 
 -- ---- a herd
 
