@@ -2,28 +2,28 @@
 -- it keeps the file rules; the listing's bytes are fixed. The rows of 01 that are proved stand as one table in crate `model`, proofs/Edges.
 -- Assumes nothing.
 use Prim.Native.Nat.{ℕ, _≤_}
-use mathlib.Core.Path.{_≡_}
+use mathlib.Core.Path.{_≡_, ap, _∙_}
 use mathlib.Core.Logic.{_↔_}
-use mathlib.Core.List.{List, _++_, map}
+use mathlib.Core.List.{List, _++_}
 use lib.ListN.{length, drop}
 use borrow.Author.Tests.{le-leb}
+use Rattle.base.proofs.Each.{each-map}
 use Rattle.farm.specs.declared.Herd.{Herd}
 use Rattle.farm.specs.declared.Farm.{Farm}
 use Rattle.farm.specs.declared.Checked.the-variants.{Accepted}
 use Rattle.checks.specs.Checks.{checkHerd, checkFarm, herdsOf}
+use Rattle.checks.proofs.Accepts.{farm-each}
 use Rattle.reader.specs.Files.{readOf, accepted}
-use Rattle.rules.specs.Rules.{KeepsRules}
+use Rattle.rules.specs.Rules.{farmOf, KeepsRules}
+use Rattle.rules.proofs.Farms.{herds-of}
 use Rattle.rules.proofs.Accepts.{accepts-exactly}
-use Rattle.notes.specs.Notes.{notesOf}
-use Rattle.typed.specs.Typed.{typedOf}
-use Rattle.outputs.specs.Grams.{totalsOf}
-use Rattle.herd.specs.Herd.{figuresOf}
-use Rattle.model.specs.declared.HerdAnswer.{HerdAnswer}
-use Rattle.model.specs.Answers.{herdFigures, herdAnswer, farmAnswer}
+use Rattle.rules.proofs.Passing.{accepted-passes}
+use Rattle.model.specs.Answers.{herdAnswer, farmAnswer}
 use Rattle.listing.specs.declared.Written.{Written}
 use Rattle.listing.specs.declared.Written.the-variants.{Length}
 use Rattle.listing.specs.Answer.{leaves, answers}
 use Rattle.calls.specs.Listings.{Call, Called}
+use Rattle.promises.specs.Formulas.{herdGets, farmGets, FileGets}
 
 -- ---- acceptance
 
@@ -32,17 +32,31 @@ demand-2-file = accepts-exactly
 
 -- ---- figures, notes and totals
 
-pub record ByTheFormulas (h : Herd) (a : HerdAnswer) : Type 0 where
-  pub figures : a .figures ≡ figuresOf (typedOf h)
-  pub notes : a .notes ≡ notesOf (typedOf h)
-
-pub demand-2-herd : (h : Herd) → checkHerd h ≡ Accepted → ByTheFormulas h (herdAnswer h)
+pub demand-2-herd : (h : Herd) → checkHerd h ≡ Accepted → herdAnswer h ≡ herdGets h
 unfolding herdAnswer
-demand-2-herd h e = record { figures = rw e; notes = rw e }
+demand-2-herd h e = rw e
 
-pub demand-2-farm : (f : Farm) → checkFarm f ≡ Accepted → farmAnswer f .totals ≡ totalsOf (map herdFigures (herdsOf f))
+pub demand-2-farm : (f : Farm) → checkFarm f ≡ Accepted → farmAnswer f ≡ farmGets (herdsOf f)
 unfolding farmAnswer
 demand-2-farm f e = rw e
+
+-- of a file: the farm that is read passes the record checks, so both hold of it
+pub demand-2-figures : {s : List ℕ} {f : Farm} (k : KeepsRules s f) → FileGets s (k .says .herds)
+demand-2-figures {s} {f} k =
+    record {
+      read = reads;
+      herds = rw (herds-of hs) at (each-map demand-2-herd (farm-each (farmOf hs) passes));
+      totals = rw (herds-of hs) at (demand-2-farm (farmOf hs) passes);
+    }
+  where
+    hs : List Herd
+    hs = k .says .herds
+
+    reads : readOf s ≡ accepted (farmOf hs)
+    reads = accepts-exactly s f .1 k ∙ ap accepted (k .says .is)
+
+    passes : checkFarm (farmOf hs) ≡ Accepted
+    passes = accepted-passes s (farmOf hs) reads
 
 -- ---- the listing's bytes: where the checks find nothing and the buffer has room, the listing and then the bytes that stood behind it
 

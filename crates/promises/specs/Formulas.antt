@@ -1,0 +1,32 @@
+-- Demand 2, of records and of files: what the calls `herd_figures` and `farm_totals` give where nothing is refused, and
+-- what the three calls `read_farm`, `herd_figures` and `farm_totals` give of a file that keeps the rules.
+-- To be believed.
+use Prim.Native.Nat.{ℕ}
+use mathlib.Core.Path.{_≡_}
+use mathlib.Core.List.{List, map}
+use Rattle.base.specs.Each.{Each}
+use Rattle.farm.specs.declared.Herd.{Herd}
+use Rattle.farm.specs.declared.Checked.the-variants.{Accepted}
+use Rattle.reader.specs.Files.{readOf, accepted}
+use Rattle.rules.specs.Rules.{farmOf}
+use Rattle.notes.specs.Notes.{notesOf}
+use Rattle.typed.specs.Typed.{typedOf}
+use Rattle.outputs.specs.Grams.{totalsOf}
+use Rattle.herd.specs.Herd.{figuresOf}
+use Rattle.model.specs.declared.HerdAnswer.{HerdAnswer}
+use Rattle.model.specs.declared.FarmAnswer.{FarmAnswer}
+use Rattle.model.specs.Answers.{herdAnswer, farmAnswer}
+
+-- a herd: its figures and notes, by the formulas on its inputs
+abbrev pub herdGets : Herd → HerdAnswer
+herdGets h = record { checked = Accepted; figures = figuresOf (typedOf h); notes = notesOf (typedOf h) }
+
+-- a farm of these herds: the totals of their figures
+abbrev pub farmGets : List Herd → FarmAnswer
+farmGets hs = record { checked = Accepted; totals = totalsOf (map (λ h. figuresOf (typedOf h)) hs) }
+
+-- a file whose records say these herds
+pub record FileGets (s : List ℕ) (hs : List Herd) : Type 0 where
+  pub read : readOf s ≡ accepted (farmOf hs)
+  pub herds : Each (λ h. herdAnswer h ≡ herdGets h) hs
+  pub totals : farmAnswer (farmOf hs) ≡ farmGets hs
