@@ -106,5 +106,10 @@ pub fn notes_of(inputs: Inputs) -> Notes
 pub fn in_order(n: Notes) -> [bool; COUNT]
     ensures { λ r. ⌜ r ≡ inOrder n ⌝ }
 {
-    [n.n_off_standard, n.tan_off_standard, n.free_factor, n.share_lowered]
+    [
+        n.n_off_standard,
+        n.tan_off_standard,
+        n.free_factor,
+        n.share_lowered,
+    ]
 }

@@ -54,8 +54,14 @@ unfolding notesRecord
 record-short h ok =
     let l = labelField (text (h .label)) in
     let n = each noteField (inOrder (notesOf (typedOf h))) in
-    omega (arith, length-append (l ++ n) (bytes "\r\n"), length-append l n, field-short (text (h .label)), text-short (h .label) ok,
-    notes-short (inOrder (notesOf (typedOf h))))
+    omega (
+      arith,
+      length-append (l ++ n) (bytes "\r\n"),
+      length-append l n,
+      field-short (text (h .label)),
+      text-short (h .label) ok,
+      notes-short (inOrder (notesOf (typedOf h))),
+    )
 
 records-short : {hs : List Herd} → Each GoodHerd hs → length (each herdNotes hs) ≤ length hs * longestRecord
 records-short none = omega arith

@@ -1,6 +1,6 @@
--- Files on both sides of the rules, among them the pigs of 01, computed from the definitions under one statement.
--- Assumes nothing.
-use Prim.Native.Nat.{ℕ, _-_}
+-- Files on both sides of the rules, computed from the definitions under one statement: the pigs of 01, its row 10, and a file for each refusal
+-- of reading. Assumes nothing.
+use Prim.Native.Nat.{ℕ, zero, suc, _+_, _-_, _/_, _%_}
 use Prim.Native.String.{String}
 use mathlib.Core.Path.{_≡_, refl, ap}
 use mathlib.Core.List.{List, [], _∷_, _++_, map}
@@ -17,7 +17,7 @@ use Rattle.farm.specs.declared.Given.{Given}
 use Rattle.farm.specs.declared.Given.the-variants.{Standard, Value}
 use Rattle.farm.specs.declared.Slot.{Slot}
 use Rattle.farm.specs.declared.Herd.{Herd}
-use Rattle.farm.specs.declared.Fault.the-variants.{RecordBroken, NotFourFields, BadLabel, NotInTheList, StandardForbidden, BadValue, EarlierLabel, OtherKind, GivenAlready, InputMissing}
+use Rattle.farm.specs.declared.Fault.the-variants.{FileTooLong, RecordBroken, NotFourFields, BadLabel, NotInTheList, StandardForbidden, BadValue, EarlierLabel, NoRoomForHerd, OtherKind, GivenAlready, InputMissing}
 use Rattle.farm.specs.Limits.{slots}
 use Rattle.farm.specs.Labels.{byteOk, labelOk, sameLabel, labelOf}
 use Rattle.checks.specs.Checks.{lacks, earlierLabel}
@@ -80,19 +80,28 @@ deerHerd =
       slots = slot (Value 1) ∷ slot (Value 10) ∷ slot Standard ∷ slot Standard ∷ slot (Value 0) ∷ slot (Value 365) ∷ slot (Value 75) ∷ replicate (slots - countOf Roughage) noSlot;
     }
 
+-- so many herds of one record each, by two digits from these on
+abbrev herdsFrom : ℕ → ℕ → List ℕ
+herdsFrom n zero = []
+herdsFrom n (suc k) =
+    (48 + n / 10) ∷ (48 + n % 10) ∷ bytes ",Livestock::FatteningPigs::Excretion,animals,1\r\n" ++ herdsFrom (suc n) k
+
 -- ---- what they are read as
 
-record Example : Type 0 where
-  file : List ℕ
-  answer : FileAnswer
+pub record Example : Type 0 where
+  pub file : List ℕ
+  pub answer : FileAnswer
 
 infix 4 _gives_
 abbrev _gives_ : List ℕ → FileAnswer → Example
 f gives a = record { file = f; answer = a }
 
-abbrev examples : List Example
+abbrev pub examples : List Example
 examples =
     ([] gives accepted (farmOf []))
+    -- LF and nothing else
+    ∷ (replicate 65536 10 gives refused 1 RecordBroken)
+    ∷ (replicate 65537 10 gives refused 0 FileTooLong)
     ∷ (pigs gives accepted (farmOf (pigHerd ∷ [])))
     ∷ (pigsAgain gives accepted (farmOf (pigHerd ∷ [])))
     ∷ (pigs ++ deerFile gives accepted (farmOf (pigHerd ∷ deerHerd ∷ [])))
@@ -114,15 +123,17 @@ examples =
     ∷ (pig "P1" "inp_n_excretion" "1.0000" gives refused 1 BadValue)
     ∷ (housed "P1" "outdoor" gives refused 1 BadValue)
     ∷ (pigs ++ pig "P2" "animals" "1" ++ pig "P1" "animals" "1" gives refused 6 EarlierLabel)
+    ∷ (herdsFrom 10 64 gives refused 1 InputMissing)
+    ∷ (herdsFrom 10 65 gives refused 65 NoRoomForHerd)
     ∷ (deer "animals" "1" ++ pig "D" "animals" "1" gives refused 2 OtherKind)
     ∷ (deer "animals" "1" ++ deer "animals" "1" gives refused 2 GivenAlready)
     ∷ (pigs ++ pig "P2" "animals" "1" ++ pig "P3" "animals" "1" gives refused 5 InputMissing)
     ∷ []
 
-worked : map (λ (e : Example). readOf (e .file)) examples ≡ map (λ (e : Example). e .answer) examples
+pub worked : map (λ (e : Example). readOf (e .file)) examples ≡ map (λ (e : Example). e .answer) examples
 unfolding readOf readFrom recordTests taken closed finished readingOf readingFrom atStart inPlain inQuotes pastQuote pastCR labelOf labelOk byteOk sameLabel sameBytes lower lowered findInput findAmong firstRow isRow valueOf isStandard numberOf anyNumberOf zeroFrom wholeFrom pointFrom fractionFrom findName findText firstFrom isName newHerd withInput lacks earlierLabel
 worked = refl
 
 -- the pigs of 01 keep the rules
 pub pigs-keep : KeepsRules pigs (farmOf (pigHerd ∷ []))
-pigs-keep = accepts-exactly pigs (farmOf (pigHerd ∷ [])) .0 (ap (λ (l : List FileAnswer). getD l 1 (accepted (farmOf []))) worked)
+pigs-keep = accepts-exactly pigs (farmOf (pigHerd ∷ [])) .0 (ap (λ (l : List FileAnswer). getD l 3 (accepted (farmOf []))) worked)
