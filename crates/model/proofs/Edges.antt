@@ -11,5 +11,6 @@ use Rattle.herd.specs.Herd.{figuresOf}
 use Rattle.model.specs.Edges.{Edge, Holds, table}
 
 pub edges : Each Holds table
-unfolding figuresOf notesOf yardTime outdoorGrazingTime roughageGrazingTime «days_with_grazing_and_yard» shareLowered «share_excretion_with_grazing» standardOf kOf withinDay kAt nearest growthNum growthDen expNum expDen
+unfolding figuresOf notesOf standardOf «days_with_grazing_and_yard» shareLowered «share_excretion_with_grazing» yardTime
+    outdoorGrazingTime roughageGrazingTime kOf withinDay kAt nearest growthNum growthDen expNum expDen
 edges = each-same (λ (e : Edge). e .given) (λ (e : Edge). e .said) table refl

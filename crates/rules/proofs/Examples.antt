@@ -1,5 +1,5 @@
--- Files on both sides of the rules, computed from the definitions under one statement: the pigs of 01, its row 10, and a file for each refusal
--- of reading. Assumes nothing.
+-- Files on both sides of the rules, computed from the definitions under one statement: the pigs of 01, its row 10, and a
+-- file for each refusal of reading. Assumes nothing.
 use Prim.Native.Nat.{ℕ, zero, suc, _+_, _-_, _/_, _%_}
 use Prim.Native.String.{String}
 use mathlib.Core.Path.{_≡_, refl, ap}
@@ -131,7 +131,10 @@ examples =
     ∷ []
 
 pub worked : map (λ (e : Example). readOf (e .file)) examples ≡ map (λ (e : Example). e .answer) examples
-unfolding readOf readFrom recordTests taken closed finished readingOf readingFrom atStart inPlain inQuotes pastQuote pastCR labelOf labelOk byteOk sameLabel sameBytes lower lowered findInput findAmong firstRow isRow valueOf isStandard numberOf anyNumberOf zeroFrom wholeFrom pointFrom fractionFrom findName findText firstFrom isName newHerd withInput lacks earlierLabel
+unfolding readOf readFrom recordTests taken closed finished readingOf readingFrom atStart inPlain inQuotes pastQuote
+    pastCR labelOf labelOk byteOk sameLabel sameBytes lower lowered findInput findAmong firstRow isRow valueOf
+    isStandard numberOf anyNumberOf zeroFrom wholeFrom pointFrom fractionFrom findName findText firstFrom isName newHerd
+    withInput lacks earlierLabel
 worked = refl
 
 -- the pigs of 01 keep the rules
