@@ -32,6 +32,9 @@ from values import (
     FLOOR_REDUCTIONS,
     GRAMS_A_KILOGRAM,
     HOUSING_TYPES,
+    LEAST_OF_STANDARD,
+    MOST_OF_STANDARD,
+    ROUGHAGE_STANDARD_KILOGRAMS,
     YARD_SHARES,
 )
 
@@ -324,6 +327,22 @@ def every_housing_type():
     yield from in_farms(PIGS, ((*herd, housing) for housing in HOUSING_TYPES for herd in pigs))
 
 
+def either_side_of_each_note():
+    """N a head of each category, TAN and the free factor on both sides of where a note begins."""
+    herds = []
+    for category, standard in ROUGHAGE_STANDARD_KILOGRAMS.items():
+        for edge in (LEAST_OF_STANDARD, MOST_OF_STANDARD):
+            for away in (-1, 0, 1):
+                grams = int(edge * standard * GRAMS_A_KILOGRAM) + away
+                kilograms = f"{grams // GRAMS_A_KILOGRAM}.{grams % GRAMS_A_KILOGRAM:03}"
+                herds.append((category, "10", kilograms, STANDARD, "0", "200", "12"))
+    for share in ("19.99", "20", "20.01", "29.99", "50.01", "59.99", "60", "60.01"):
+        herds.append(("bison_older_than_3yr", "10", STANDARD, share, "0", "200", "12"))
+    for free in ("0", "1"):
+        herds.append(("rabbit_young", "10", STANDARD, STANDARD, free, "200", "12"))
+    yield from in_farms(ROUGHAGE, herds)
+
+
 def many_herds(dice):
     for kind in KINDS:
         names = new_labels(dice, MOST_HERDS + 1)
@@ -384,6 +403,7 @@ def every_file():
     yield from every_free_factor()
     yield from every_yard()
     yield from every_housing_type()
+    yield from either_side_of_each_note()
     yield from many_herds(dice)
     yield from pairs_of_faults(dice)
     yield from longest_files(dice)

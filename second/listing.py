@@ -1,4 +1,4 @@
-"""Writing the figures down: one line each, in the order of the rules."""
+"""Writing the figures and the notes down, in the order of the rules."""
 
 from farmfile import COMMA, QUOTE, RECORD_END
 from inputs import CATTLE, PIGS, ROUGHAGE, module_path
@@ -38,20 +38,24 @@ FARM_MODULE = "Livestock"
 
 def herd_listing(herd, figures):
     return "".join(
-        line(herd.label, module_path(herd.kind, module), name, figures[name])
+        line(herd.label, module_path(herd.kind, module), name, kilograms(figures[name]))
         for module, names in HERD_ORDER[herd.kind]
         for name in names
     )
 
 
 def farm_listing(totals):
-    return "".join(line(FARM_LABEL, FARM_MODULE, name, totals[name]) for name in TOTALS)
+    return "".join(line(FARM_LABEL, FARM_MODULE, name, kilograms(totals[name])) for name in TOTALS)
 
 
-def line(label, module, name, grams):
+def herd_notes(herd, notes):
+    return line(herd.label, *("yes" if noted else "no" for noted in notes))
+
+
+def line(label, *fields):
     if COMMA in label:
         label = QUOTE + label + QUOTE
-    return COMMA.join((label, module, name, kilograms(grams))) + RECORD_END
+    return COMMA.join((label, *fields)) + RECORD_END
 
 
 def kilograms(grams):

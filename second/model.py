@@ -5,9 +5,9 @@ argument `sums` is one of the two objects of arithmetic.py: `sums.grams(...)`
 stands where an amount is cut, `sums.billionths(...)` where a factor is.
 """
 
-from dataclasses import dataclass
 from fractions import Fraction
 from functools import cache
+from typing import NamedTuple
 
 import values
 from inputs import CATTLE, PIGS, ROUGHAGE, STANDARD
@@ -228,9 +228,8 @@ def housing_ammonia(given, housed, sums):
 # Notes
 
 
-@dataclass(frozen=True)
-class Notes:
-    """Four answers, yes or no, that stand beside a herd's figures."""
+class Notes(NamedTuple):
+    """Four answers, yes or no, that stand beside a herd's figures, in the order of the rules."""
 
     n_far_from_standard: bool
     tan_far_from_standard: bool

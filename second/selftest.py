@@ -19,7 +19,7 @@ from inputs import CATTLE, HOURS, KINDS, PIGS, ROUGHAGE, Number
 from model import Notes, c_grazing, figures, housing_nh3_rate, k_grazing, notes
 from reading import MOST_BYTES, MOST_HERDS, Refused, read_farm
 from totals import totals
-from urvendlo import answer
+from urvendlo import NOTES, answer
 from values import DAYS_A_YEAR
 
 # Names the text of source document 001, where that is at hand.
@@ -512,6 +512,13 @@ class Notices(unittest.TestCase):
             (PIGS, OUTDOOR_PIGS, {"tan_fraction": "0", "inp_n_excretion": "200"}, none),
         ):
             self.assertEqual(notes(herd(kind, texts, **changes)), expected, changes)
+
+    def test_records(self):
+        lowered = {**C, "exercise_yard": EXCLUSIVELY}
+        farm = file_of(lines_of(CATTLE, lowered, "Heifers") + lines_of(PIGS, OUTDOOR_PIGS, "A,B"))
+        records = b'Heifers,no,no,no,yes\r\n"A,B",no,no,no,no\r\n'
+        for file, expected in ((farm, records), (b"", b""), (b"a", b"refused,3,1\r\n")):
+            self.assertEqual(answer(file, NOTES), expected, file)
 
 
 class Listings(unittest.TestCase):

@@ -1,25 +1,40 @@
 #!/usr/bin/env python3
-"""The program: a farm file on standard input, its listing or refusal on standard output."""
+"""The program: a farm file on standard input, what a command prints for it on standard output.
+
+    urvendlo.py [COMMAND]   COMMAND is figures, which is also done without one, or notes
+"""
 
 import sys
 
 from arithmetic import CUTS
-from listing import farm_listing, herd_listing, refusal
-from model import figures
+from listing import farm_listing, herd_listing, herd_notes, refusal
+from model import figures, notes
 from reading import Refused, read_farm
 from totals import totals
 
 
-def answer(file):
-    """Give the bytes that the program prints for a farm file's bytes."""
+def figures_of(herds):
+    worked = [figures(herd, CUTS) for herd in herds]
+    lines = [herd_listing(herd, its) for herd, its in zip(herds, worked)]
+    return "".join([*lines, farm_listing(totals(worked))])
+
+
+def notes_of(herds):
+    return "".join(herd_notes(herd, notes(herd)) for herd in herds)
+
+
+FIGURES, NOTES = "figures", "notes"
+COMMANDS = {FIGURES: figures_of, NOTES: notes_of}
+
+
+def answer(file, command=FIGURES):
+    """Give the bytes that a command prints for a farm file's bytes."""
     try:
         herds = read_farm(file)
     except Refused as refused:
         return refusal(refused.number, refused.record).encode("ascii")
-    worked = [figures(herd, CUTS) for herd in herds]
-    lines = [herd_listing(herd, its) for herd, its in zip(herds, worked)]
-    return "".join([*lines, farm_listing(totals(worked))]).encode("ascii")
+    return COMMANDS[command](herds).encode("ascii")
 
 
 if __name__ == "__main__":
-    sys.stdout.buffer.write(answer(sys.stdin.buffer.read()))
+    sys.stdout.buffer.write(answer(sys.stdin.buffer.read(), *sys.argv[1:]))

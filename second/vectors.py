@@ -7,7 +7,8 @@
 
 The packs are the input and the expected output of the program `test_vectors`:
 `crates/test_vectors/stdin` holds each file's length as 4 bytes, little-endian, and its
-bytes; `crates/test_vectors/stdout` holds the outputs one after the other.
+bytes; `crates/test_vectors/stdout` holds the outputs one after the other, for each file
+what every command prints.
 """
 
 import argparse
@@ -16,7 +17,7 @@ from collections import Counter
 from pathlib import Path
 
 from cases import every_file
-from urvendlo import answer
+from urvendlo import COMMANDS, answer
 
 PROGRAM = Path(__file__).resolve().parent.parent / "crates" / "test_vectors"
 FILES = PROGRAM / "stdin"
@@ -37,29 +38,34 @@ def unpacked(pack):
         yield pack[begin:at]
 
 
+def output(file):
+    """What the commands print for a file, one after the other."""
+    return b"".join(answer(file, command) for command in COMMANDS)
+
+
 def write():
     files = list(every_file())
     FILES.write_bytes(packed(files))
-    OUTPUTS.write_bytes(b"".join(map(answer, files)))
+    OUTPUTS.write_bytes(b"".join(map(output, files)))
 
 
 def check():
     """Compare with the stored packs; give whether they are the same."""
     files = list(every_file())
-    outputs = list(map(answer, files))
+    outputs = b"".join(map(output, files))
     same = True
-    for path, made in ((FILES, packed(files)), (OUTPUTS, b"".join(outputs))):
+    for path, made in ((FILES, packed(files)), (OUTPUTS, outputs)):
         if path.read_bytes() != made:
             print(f"{path.name}: the stored pack differs from the one made now")
             same = False
-    counts = Counter(map(refusal_number, outputs))
+    counts = Counter(refusal_number(answer(file)) for file in files)
     print(f"{len(files)} files, {counts.pop(None)} accepted; refused, by number:")
     print(", ".join(f"{number}: {counts[number]}" for number in sorted(counts)))
     return same
 
 
 def refusal_number(output):
-    """The number of a refusal's line, or None for a listing, which has many fields."""
+    """The number of a refusal's line, or None for figures, which have many fields."""
     fields = output.split(b",")
     return int(fields[1]) if len(fields) == REFUSAL_FIELDS else None
 
@@ -67,11 +73,11 @@ def refusal_number(output):
 def show(offset):
     end = 0
     for number, file in enumerate(unpacked(FILES.read_bytes()), start=1):
-        output = answer(file)
-        begin, end = end, end + len(output)
+        printed = output(file)
+        begin, end = end, end + len(printed)
         if offset < end:
             print(f"file {number}, {len(file)} bytes; its output stands at {begin} to {end}:")
-            for part in (file, output):
+            for part in (file, printed):
                 print(*map(repr, part.splitlines(keepends=True)), sep="\n", end="\n\n")
             return True
     print(f"the outputs end at {end}")

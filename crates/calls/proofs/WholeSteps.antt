@@ -33,15 +33,19 @@ module _ (s : List ℕ) where
   unfolding fileCall
   as-refused k = record { buffer = rw k; answer = rw k }
 
-  pub whole-written : (old new : List ℕ) (r : Written) → farmRoom ≤ length old → PutFile farmListing farmRoom s old new r → Called (fileCall s) old new r
+  abbrev Listed : List ℕ → List ℕ → Written → Type 0
+  Listed old new r = PutFile farmListing farmRoom s old new r
+
+  pub whole-written : (old new : List ℕ) (r : Written) → farmRoom ≤ length old → Listed old new r → Called (fileCall s) old new r
   whole-written old new (Length n) h (listed k w m) = as-called (written refl w (omega arith)) k
   whole-written old new (Refused fault n) h (refused k) = as-refused k
 
-  module _ (mid after : List ℕ) (q : Written) (h : farmRoom ≤ length mid) (p : PutFile farmListing farmRoom s mid after q) where
+  module _ (mid after : List ℕ) (q : Written) (h : farmRoom ≤ length mid) (p : Listed mid after q) where
     pub whole-handed : (n : ℕ) → q ≡ Length n → (old new : List ℕ) (r : Written) → Answered (part after 0 n) old new r → Called (fileCall s) old new r
     whole-handed n e old new r a = go after q p e a
       where
-        go : (after : List ℕ) (q : Written) → PutFile farmListing farmRoom s mid after q → q ≡ Length n → Answered (part after 0 n) old new r → Called (fileCall s) old new r
+        go : (after : List ℕ) (q : Written) → Listed mid after q → q ≡ Length n → Answered (part after 0 n) old new r
+            → Called (fileCall s) old new r
         go after (Length m) (listed k w l) e a =
             let d : n ≡ m = cc in
             as-called (handed refl w (omega arith) (subst (λ (x : ℕ). Answered (part after 0 x) old new r) d a)) k
@@ -50,7 +54,8 @@ module _ (s : List ℕ) where
     pub whole-refused : (fault : Fault) (n : ℕ) → q ≡ Refused fault n → (old : List ℕ) → Called (fileCall s) old old (Refused fault n)
     whole-refused fault n e old = go after q p e
       where
-        go : (after : List ℕ) (q : Written) → PutFile farmListing farmRoom s mid after q → q ≡ Refused fault n → Called (fileCall s) old old (Refused fault n)
+        go : (after : List ℕ) (q : Written) → Listed mid after q → q ≡ Refused fault n
+            → Called (fileCall s) old old (Refused fault n)
         go after (Length m) (listed k w l) e = clash cc
         go after (Refused f m) (refused k) e = let c : f ≡ fault = cc in let d : m ≡ n = cc in rw (← c, ← d) (as-refused k)
 
@@ -70,12 +75,15 @@ module _ (bs old : List ℕ) where
   put-none h = let e = lt-leb (length bs) (length old) h in record { buffer = rw e; answer = rw e }
 
 module _ (list : Farm → List ℕ) (most : ℕ) (s : List ℕ) where
-  pub answer-written : (old new : List ℕ) (a : Answer) → PutOutput list most s old new a → most ≤ length old → PutAnswer list s old new a
+  pub answer-written : (old new : List ℕ) (a : Answer) → PutOutput list most s old new a → most ≤ length old
+      → PutAnswer list s old new a
   answer-written old new a p h =
-      record { printed = put-written (outputOf list s) old new (a .length) (p .bytes) (omega (arith, p .room)); checked = p .checked }
+      let put = put-written (outputOf list s) old new (a .length) (p .bytes) (omega (arith, p .room)) in
+      record { printed = put; checked = p .checked }
 
   pub answer-handed : (mid after : List ℕ) (a : Answer) → PutOutput list most s mid after a → most ≤ length mid
-      → (old new : List ℕ) (r : ℕ) → Put (part after 0 (a .length)) old new r → PutAnswer list s old new (record { checked = a .checked; length = r })
+      → (old new : List ℕ) (r : ℕ) → Put (part after 0 (a .length)) old new r
+      → PutAnswer list s old new (record { checked = a .checked; length = r })
   answer-handed mid after a p h old new r q =
       record {
         printed = subst (λ (t : List ℕ). Put t old new r) (part-is (p .bytes) (omega (arith, p .room))) q;

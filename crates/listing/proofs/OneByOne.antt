@@ -7,10 +7,11 @@ use Rattle.base.proofs.ToCome.{ToCome, gone-on, ended}
 use Rattle.listing.specs.Listing.{each}
 
 -- the texts of the entries that are left are still to be written
-module _ {A : Type 0} (of : A → List ℕ) {left : List A} {old whole now : List ℕ} {start next : ℕ} (t : ToCome old start whole now (each of left) next) where
-  pub entry-put : {x : A} {rest : List A} → left ≡ x ∷ rest → {new : List ℕ} {after : ℕ} → Wrote now next (of x) new after
-      → ToCome old start whole new (each of rest) after
-  entry-put e w = gone-on (subst (λ (l : List A). ToCome old start whole now (each of l) next) e t) w
+module _ {A : Type 0} (of : A → List ℕ) {left : List A} {old whole now : List ℕ} {start next : ℕ} where
+  module _ (t : ToCome old start whole now (each of left) next) where
+    pub entry-put : {x : A} {rest : List A} → left ≡ x ∷ rest → {new : List ℕ} {after : ℕ}
+        → Wrote now next (of x) new after → ToCome old start whole new (each of rest) after
+    entry-put e w = gone-on (subst (λ (l : List A). ToCome old start whole now (each of l) next) e t) w
 
-  pub all-entries-put : left ≡ [] → Wrote old start whole now next
-  all-entries-put e = ended (subst (λ (l : List A). ToCome old start whole now (each of l) next) e t)
+    pub all-entries-put : left ≡ [] → Wrote old start whole now next
+    all-entries-put e = ended (subst (λ (l : List A). ToCome old start whole now (each of l) next) e t)

@@ -1,5 +1,5 @@
--- A listing is an RFC 4180 file, of which every record ends with CRLF, and its records are those of specs/Records.antt. What is said of fields and
--- lines here serves the notes too.
+-- A listing is an RFC 4180 file, of which every record ends with CRLF, and its records are those of specs/Records.antt.
+-- What is said of fields and lines serves the notes too.
 -- Assumes nothing.
 use Prim.Native.Nat.{ℕ, zero, suc, _+_, _/_, _%_, _≤_, _<_}
 use Prim.Native.String.{String}
@@ -148,8 +148,8 @@ line label path name g l p n =
     }
 
 -- lines of what passes a test, one after the other
-pub file : {A : Type 0} (fields : A → List (List ℕ)) (of : A → List ℕ) (test : A → Bool) → ((x : A) → test x ≡ true → Line (fields x) (of x))
-    → (xs : List A) → all test xs ≡ true → FileOf (map fields xs) (each of xs)
+pub file : {A : Type 0} (fields : A → List (List ℕ)) (of : A → List ℕ) (test : A → Bool)
+    → ((x : A) → test x ≡ true → Line (fields x) (of x)) → (xs : List A) → all test xs ≡ true → FileOf (map fields xs) (each of xs)
 file fields of test h [] t = FileOf.none
 file fields of test h (x ∷ xs) t =
     let b = both-true (test x) (all test xs) t in

@@ -11,6 +11,6 @@ pub heifers-noted : notesRecord (bytes "Heifers") (noted false false false true)
 unfolding notesRecord labelField hasComma
 heifers-noted = refl
 
-pub comma-noted : notesRecord (bytes "Deer, red") (noted true false false false) ≡ bytes "\"Deer, red\",yes,no,no,no\r\n"
+pub comma-noted : notesRecord (bytes "A,B") (noted true false false false) ≡ bytes "\"A,B\",yes,no,no,no\r\n"
 unfolding notesRecord labelField hasComma
 comma-noted = refl

@@ -1,4 +1,5 @@
--- A farm's notes put together herd by herd: what is still to be written is the records of the herds from i on. Assumes nothing.
+-- A farm's notes put together herd by herd: what is still to be written is the records of the herds from i on.
+-- Assumes nothing.
 use Prim.Native.Nat.{ℕ, _+_, _*_, _≤_, _<_}
 use mathlib.Core.Path.{_≡_, ap, _∙_}
 use mathlib.Core.List.{List}
@@ -43,21 +44,25 @@ module _ (f : Farm) (accepted : checkFarm f ≡ Accepted) (old : List ℕ) (room
       pub has-room : at + longestRecord ≤ length now
       has-room = omega (arith, inv .short, inv .written .same, inv .few)
 
-      module _ (long : length (f .herds) ≡ herdsMost) (d : Herd) (t : Inputs) (et : t ≡ typedOf (getD (f .herds) i d)) where
-        pub sound : Sound t
-        sound = rw et (herd-sound f accepted long i b d)
+      module _ (long : length (f .herds) ≡ herdsMost) (d : Herd) where
+        abbrev h : Herd
+        h = getD (f .herds) i d
 
-        pub goes-on : (n : Notes) → n ≡ notesOf t → (new : List ℕ) (next : ℕ)
-            → Wrote now at (notesRecord (text (getD (f .herds) i d .label)) n) new next → next ≤ at + longestRecord → Noting f old (i + 1) new next
-        goes-on n en new next w r =
-            let h = getD (f .herds) i d in
-            let same : notesRecord (text (h .label)) n ≡ herdNotes h = ap (notesRecord (text (h .label))) (en ∙ ap notesOf et) in
-            record {
-              few = inv .few;
-              within = omega arith;
-              written = entry-put herdNotes (inv .written) (taken-at (f .count) (f .herds) i d b (omega (arith, inv .few))) (said same w);
-              short = omega (arith, inv .short);
-            }
+        module _ (t : Inputs) (et : t ≡ typedOf h) where
+          pub sound : Sound t
+          sound = rw et (herd-sound f accepted long i b d)
+
+          pub goes-on : (n : Notes) → n ≡ notesOf t → (new : List ℕ) (next : ℕ) → Wrote now at (notesRecord (text (h .label)) n) new next
+              → next ≤ at + longestRecord → Noting f old (i + 1) new next
+          goes-on n en new next w r =
+              let same : notesRecord (text (h .label)) n ≡ herdNotes h = ap (notesRecord (text (h .label))) (en ∙ ap notesOf et) in
+              let left = taken-at (f .count) (f .herds) i d b (omega (arith, inv .few)) in
+              record {
+                few = inv .few;
+                within = omega arith;
+                written = entry-put herdNotes (inv .written) left (said same w);
+                short = omega (arith, inv .short);
+              }
 
     pub ends : f .count ≤ i → Wrote old 0 (farmNotes f) now at × (at ≤ notesRoom)
     ends b = (

@@ -46,8 +46,9 @@ field-short s = go (hasComma s) refl
 text-short : (l : Label) → labelOk l ≡ true → length (text l) ≤ labelMost
 unfolding labelOk
 text-short l ok =
-    let e = both-true (leb (l .len) labelMost) (allOk (text l)) (both-true (leb 1 (l .len)) (leb (l .len) labelMost && allOk (text l)) ok .1) .0 in
-    omega (arith, leb-true (l .len) labelMost e, length-take (l .len) (l .bytes), min-le-left (l .len) (length (l .bytes)))
+    let both = both-true (leb 1 (l .len)) (leb (l .len) labelMost && allOk (text l)) ok .1 in
+    let most = leb-true (l .len) labelMost (both-true (leb (l .len) labelMost) (allOk (text l)) both .0) in
+    omega (arith, most, length-take (l .len) (l .bytes), min-le-left (l .len) (length (l .bytes)))
 
 record-short : (h : Herd) → labelOk (h .label) ≡ true → length (herdNotes h) ≤ longestRecord
 unfolding notesRecord
@@ -72,4 +73,10 @@ pub notes-fit : (f : Farm) → checkFarm f ≡ Accepted → length (farmNotes f)
 unfolding farmNotes
 notes-fit f e =
     let good = accepted-farm f e in
-    omega (arith, records-short (good .herds), length-take (f .count) (f .herds), min-le-left (f .count) (length (f .herds)), good .room)
+    omega (
+      arith,
+      records-short (good .herds),
+      length-take (f .count) (f .herds),
+      min-le-left (f .count) (length (f .herds)),
+      good .room,
+    )

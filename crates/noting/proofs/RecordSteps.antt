@@ -16,6 +16,7 @@ module _ (b : Bool) where
   pub not-noted : b ≡ false → bytes ",no" ≡ noteField b
   not-noted e = rw e
 
-pub record-is : {bs : List Bool} (label : List ℕ) (n : Notes) → bs ≡ inOrder n → labelField label ++ each noteField bs ++ (13 ∷ 10 ∷ []) ≡ notesRecord label n
+pub record-is : {bs : List Bool} (label : List ℕ) (n : Notes) → bs ≡ inOrder n
+    → labelField label ++ each noteField bs ++ (13 ∷ 10 ∷ []) ≡ notesRecord label n
 unfolding notesRecord
 record-is label n e = rw e

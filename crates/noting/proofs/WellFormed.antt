@@ -1,4 +1,5 @@
--- An accepted farm's notes are an RFC 4180 file, of which every record ends with CRLF and has five fields. Assumes nothing.
+-- An accepted farm's notes are an RFC 4180 file, of which every record ends with CRLF and has five fields.
+-- Assumes nothing.
 use Prim.Native.Nat.{ℕ}
 use mathlib.Core.Path.{_≡_, refl, sym, subst}
 use mathlib.Core.Bool.{Bool, true, false}
@@ -44,4 +45,5 @@ labels-ok (more g e) = rw (g .label) (labels-ok e)
 
 pub notes-read : (f : Farm) → checkFarm f ≡ Accepted → FileOf (map herdFields (herdsOf f)) (farmNotes f)
 unfolding farmNotes
-notes-read f e = file herdFields herdNotes (λ (h : Herd). labelOk (h .label)) line (herdsOf f) (labels-ok (accepted-farm f e .herds))
+notes-read f e =
+    file herdFields herdNotes (λ (h : Herd). labelOk (h .label)) line (herdsOf f) (labels-ok (accepted-farm f e .herds))

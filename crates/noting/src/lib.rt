@@ -1,5 +1,5 @@
-// A farm's notes as records, byte by byte, into a lent buffer: of each herd its label, and yes or no for each note. No figure is worked out, and
-// what reading has checked is not checked again.
+// A farm's notes as records, byte by byte, into a lent buffer: of each herd its label, and yes or no for each note. No
+// figure is worked out, and what reading has checked is not checked again.
 use farm::Farm;
 use farm::Label;
 use listing::labels;

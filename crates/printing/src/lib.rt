@@ -1,17 +1,18 @@
-// A file's answer on standard output: what crate `calls` puts for the file, in one piece. Nothing is printed after a part that could not be
-// written.
+// What a command prints for a file, on standard output: what crate `calls` puts for it, in one piece. Nothing is printed
+// after a part that could not be written.
 pub mod input; // the farm file on standard input
+pub mod ending; // how a run ended, on standard error
 pub mod tell; // answers of other calls, a line each
 
 use farm::Checked;
 use farm::Fault;
-use libc::STDERR_FILENO;
 use streams::Outcome;
+use whole::Answer;
 use whole::refusals;
 
-// What was printed: the figures, the refusal's line, or not all of either.
+// What was printed: what the command lists of the farm, the refusal's line, or not all of either.
 pub enum Printed {
-    Figures,
+    Listed,
     Refused(Fault, usize),
     Broken,
 }
@@ -31,23 +32,28 @@ pub fn print_refusal(fault: Fault, record: usize) -> bool {
     print(base::part_of(&line, 0, n))
 }
 
-// The same line on standard error, by which ./urvendlo knows of the refusal.
-pub fn report_refusal(fault: Fault, record: usize) {
-    let mut line = [0u8; refusals::LINE_ROOM];
-    let n = refusals::put_refusal(&mut line, fault, record);
-    io::write_all(STDERR_FILENO, base::part_of(&line, 0, n));
-}
-
-// The answer of a file.
-pub fn print_file(s: &[u8]) -> Printed {
-    let mut out = [0u8; calls::ANSWER_ROOM];
-    let answer = calls::put_answer(s, &mut out);
-    if !print(base::part_of(&out, 0, answer.length)) {
+// The answer that was put into the buffer.
+fn print_answer(put: &[u8], answer: Answer) -> Printed {
+    if !print(base::part_of(put, 0, answer.length)) {
         return Printed::Broken;
     }
     let checked = answer.checked;
     match checked {
-        Checked::Accepted => Printed::Figures,
+        Checked::Accepted => Printed::Listed,
         Checked::Refused(fault, record) => Printed::Refused(fault, record),
     }
+}
+
+// The figures of a file.
+pub fn print_figures(s: &[u8]) -> Printed {
+    let mut put = [0u8; calls::ANSWER_ROOM];
+    let answer = calls::put_answer(s, &mut put);
+    print_answer(&put, answer)
+}
+
+// The notes of a file.
+pub fn print_notes(s: &[u8]) -> Printed {
+    let mut put = [0u8; calls::NOTES_ROOM];
+    let answer = calls::put_notes(s, &mut put);
+    print_answer(&put, answer)
 }

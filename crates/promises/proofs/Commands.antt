@@ -1,5 +1,5 @@
--- What the commands print, whatever they list of an accepted farm; and the notes: they fit their room and are a file themselves.
--- Assumes nothing.
+-- What the commands print, whatever they list of an accepted farm; and the notes: they fit their room and are a file
+-- themselves. Assumes nothing.
 use Prim.Native.Nat.{ℕ, _≤_}
 use mathlib.Core.Path.{_≡_}
 use mathlib.Core.List.{List, map}
@@ -7,7 +7,8 @@ use lib.ListN.{length}
 use Rattle.csv.specs.Grammar.{FileOf}
 use Rattle.farm.specs.declared.Farm.{Farm}
 use Rattle.farm.specs.declared.Fault.{Fault}
-use Rattle.checks.specs.Checks.{herdsOf}
+use Rattle.farm.specs.declared.Checked.the-variants.{Accepted}
+use Rattle.checks.specs.Checks.{checkFarm, herdsOf}
 use Rattle.rules.specs.Rules.{KeepsRules}
 use Rattle.rules.specs.Refusals.{First}
 use Rattle.rules.proofs.Accepts.{accepts-exactly}
@@ -32,8 +33,11 @@ module _ (list : Farm → List ℕ) (s : List ℕ) where
 
 -- the notes of a file that keeps the rules
 module _ (s : List ℕ) (f : Farm) (keeps : KeepsRules s f) where
+  passes : checkFarm f ≡ Accepted
+  passes = accepted-passes s f (accepts-exactly s f .1 keeps)
+
   pub notes-have-room : length (notesOutput s) ≤ notesRoom
-  notes-have-room = rw (prints-listed farmNotes s f keeps) (notes-fit f (accepted-passes s f (accepts-exactly s f .1 keeps)))
+  notes-have-room = rw (prints-listed farmNotes s f keeps) (notes-fit f passes)
 
   pub notes-are-records : FileOf (map herdFields (herdsOf f)) (notesOutput s)
-  notes-are-records = rw (prints-listed farmNotes s f keeps) (notes-read f (accepted-passes s f (accepts-exactly s f .1 keeps)))
+  notes-are-records = rw (prints-listed farmNotes s f keeps) (notes-read f passes)

@@ -144,8 +144,8 @@ pub record SameOutput (new new′ : List ℕ) (a a′ : Answer) : Type 0 where
   pub length : a .length ≡ a′ .length
   pub checked : a .checked ≡ a′ .checked
 
-pub one-output : {list : Farm → List ℕ} {s old new new′ : List ℕ} {a a′ : Answer} → PutAnswer list s old new a → PutAnswer list s old new′ a′
-    → SameOutput new new′ a a′
+pub one-output : {list : Farm → List ℕ} {s old new new′ : List ℕ} {a a′ : Answer}
+    → PutAnswer list s old new a → PutAnswer list s old new′ a′ → SameOutput new new′ a a′
 one-output w v =
     record {
       bytes = w .printed .buffer ∙ sym (v .printed .buffer);

@@ -67,8 +67,10 @@ module _ {done size rest : ℕ} {m : Moved} {r : Step} (inside : done ≤ size) 
   read-goes q =
       rw q (call-going (Within size) done size inside (Within.whole (omega arith)) Within.broken (Within.whole inside) (rw e at given))
 
-  pub write-goes : r ≡ afterWrite done size m → Going (All size) done size r
-  write-goes q = rw q (call-going (All size) done size inside All.whole All.broken All.broken (rw e at given))
+  pub write-goes : 0 < size → r ≡ afterWrite done size m → Going (All size) done size r
+  write-goes some q =
+      let broken = All.broken some in
+      rw q (call-going (All size) done size inside All.whole broken broken (rw e at given))
 
 -- ---- a loop's turn, after which the slice is as long as before
 

@@ -19,10 +19,10 @@ pub data Within (size : ℕ) : Outcome → Type 0 where
   whole : {n : ℕ} → n ≤ size → Within size (Whole n)
   broken : Within size Broken
 
--- a text is written: all of it
+-- a text is written: all of it; where there is nothing to write, that cannot break off
 pub data All (size : ℕ) : Outcome → Type 0 where
   whole : All size (Whole size)
-  broken : All size Broken
+  broken : 0 < size → All size Broken
 
 -- a step that goes on goes further, and not past the end; one that stops does so with an outcome that may be
 pub data Going (Ends : Outcome → Type 0) (done size : ℕ) : Step → Type 0 where

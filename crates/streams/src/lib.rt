@@ -2,7 +2,7 @@
 // gave, and what to do after it, are decided by functions that are proved to be the definitions of specs/Steps.antt.
 use libc::STDIN_FILENO;
 use libc::STDOUT_FILENO;
-ghost use Prim.Native.Nat.{_≤_};
+ghost use Prim.Native.Nat.{_<_, _≤_};
 ghost use mathlib.Core.Path.{_≡_};
 ghost use lib.ListN.{length};
 ghost use Rattle.streams.specs.Steps.{faultOf, movedOf, onwardOf, afterCall, afterRead, afterWrite};
@@ -120,7 +120,7 @@ fn read_step(into: &mut [u8], done: usize) -> Step
 }
 
 fn write_step(text: &[u8], done: usize) -> Step
-    requires { ⌜ done ≤ length (now text) ⌝ }
+    requires { ⌜ (0 < length (now text)) × (done ≤ length (now text)) ⌝ }
     ensures { λ r. ⌜ Going (All (length (now (text .entry)))) done (length (now (text .entry))) r ⌝ }
 {
     let moved = write_some(&text[done..]);
@@ -153,6 +153,9 @@ pub fn read_all(into: &mut [u8]) -> Outcome
 pub fn write_all(text: &[u8]) -> Outcome
     ensures { λ r. ⌜ All (length (now (text .entry))) r ⌝ }
 {
+    if text.len() == 0 {
+        return Outcome::Whole(0);
+    }
     let mut done = 0;
     let mut patience = PATIENCE;
     while patience > 0 {

@@ -73,13 +73,13 @@ fn read_herds(end: u8) {
 // 10. 65,536 bytes are read, here as one field in place of four, and 65,537 are refusal 1; herd 64 is taken, herd 65 is refusal 9.
 fn limits() {
     let file = [b'a'; FILE_MOST + 1];
-    printing::print_file(base::part_of(&file, 0, FILE_MOST));
-    printing::print_file(&file);
+    printing::print_figures(base::part_of(&file, 0, FILE_MOST));
+    printing::print_figures(&file);
     read_herds(b'0' + 64);
     read_herds(b'0' + 65);
 }
 
 fn main() {
-    printing::print_file(&ALWAYS_OUT);
+    printing::print_figures(&ALWAYS_OUT);
     limits();
 }

@@ -1,6 +1,6 @@
-// The vectors of the second implementation, run through the library: standard input has files one after the other, each behind its length in
-// four bytes, the lowest first, and each one's answer is printed as the program prints it. The expected output is what the second
-// implementation gives.
+// The vectors of the second implementation, run through the library: standard input has files one after the other, each
+// behind its length in four bytes, the lowest first, and of each its figures and then its notes are printed, as the
+// commands print them. The expected output is what the second implementation gives.
 use streams::Outcome;
 ghost use Prim.Native.Nat.{_≤_};
 
@@ -43,7 +43,9 @@ fn run_one(file: &mut [u8]) -> bool {
     if !filled(&mut file[..n]) {
         return false;
     }
-    printing::print_file(base::part_of(file, 0, n));
+    let whole = base::part_of(file, 0, n);
+    printing::print_figures(whole);
+    printing::print_notes(whole);
     true
 }
 

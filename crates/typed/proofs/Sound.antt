@@ -121,8 +121,8 @@ unfolding typedOf
 typed-sound h e = typed-as (h .kind) h (passes h e)
 
 -- the herds of a farm that passes them
-module _ (f : Farm) (accepted : checkFarm f ≡ Accepted) (long : length (f .herds) ≡ herdsMost) (i : ℕ) (b : i < f .count) (d : Herd) where
-  pub herd-sound : Sound (typedOf (getD (f .herds) i d))
-  herd-sound =
+module _ (f : Farm) (accepted : checkFarm f ≡ Accepted) (long : length (f .herds) ≡ herdsMost) where
+  pub herd-sound : (i : ℕ) → i < f .count → (d : Herd) → Sound (typedOf (getD (f .herds) i d))
+  herd-sound i b d =
       let l : i < length (herdsOf f) = omega (arith, length-take (f .count) (f .herds), farm-count f accepted) in
       rw (← getD-take (f .count) (f .herds) i d b) (typed-sound _ (each-getD (herdsOf f) i d (farm-each f accepted) l))

@@ -1,6 +1,6 @@
--- 01, The listing: "The program reads a farm file from standard input and prints each herd, then the totals, or `refused,NUMBER,RECORD` and
--- CRLF." So goes every command: it prints what it lists of an accepted farm, or that line. To be believed: `programOutput` is what the program
--- prints for a file's bytes, `notesOutput` what its command `notes` prints.
+-- 01, The listing: "The program reads a farm file from standard input and prints each herd, then the totals, or
+-- `refused,NUMBER,RECORD` and CRLF." So goes every command: it prints what it lists of an accepted farm, or that line. To
+-- be believed: `programOutput` is what the program prints for a file's bytes, `notesOutput` what its command `notes` does.
 use Prim.Native.Nat.{ℕ, _≤_}
 use mathlib.Core.Path.{_≡_}
 use mathlib.Core.List.{List}
@@ -36,9 +36,10 @@ notesOutput s = outputOf farmNotes s
 -- ---- how the code says that a file is listed, in so much room at most, or refused; no reader has to believe it
 
 pub data PutFile (list : Farm → List ℕ) (most : ℕ) (s old : List ℕ) : List ℕ → Written → Type 0 where
-  listed : {new : List ℕ} {n : ℕ} → readOf s .checked ≡ checks.Accepted → Wrote old 0 (list (readOf s .farm)) new n → n ≤ most
-      → PutFile list most s old new (Length n)
-  refused : {fault : Fault} {n : ℕ} → readOf s .checked ≡ checks.Refused fault n → PutFile list most s old old (Refused fault n)
+  listed : {new : List ℕ} {n : ℕ} → readOf s .checked ≡ checks.Accepted → Wrote old 0 (list (readOf s .farm)) new n
+      → n ≤ most → PutFile list most s old new (Length n)
+  refused : {fault : Fault} {n : ℕ} → readOf s .checked ≡ checks.Refused fault n
+      → PutFile list most s old old (Refused fault n)
 
 -- the answer where a file was listed or refused so: of a refusal the line is put
 pub data Completed (old : List ℕ) : Written → List ℕ → Answer → Type 0 where

@@ -1,5 +1,6 @@
-// What a file is answered with, put together as bytes: an accepted farm's listing, herd after herd and then the totals, or its notes; or the line
-// of a refusal. Each herd's figures are worked out once, and what reading has checked is not checked again.
+// What a file is answered with, put together as bytes: an accepted farm's listing, herd after herd and then the totals,
+// or its notes; or the line of a refusal. Each herd's figures are worked out once, and what reading has checked is not
+// checked again.
 pub mod farms; // an accepted farm's listing
 pub mod refusals; // the line of a refusal
 pub mod files; // the answer of a file

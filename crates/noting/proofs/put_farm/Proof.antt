@@ -43,7 +43,10 @@ same-length : tie.Need-same-length Inv-loop μ-loop
 same-length c = search (needs, farm-steps, length-mapped)
 
 returns : tie.Need-returns Inv-loop μ-loop
-returns c = let l = c .before in let s = l .before .before in ends _ (s .pre .0) _ (s .pre .1) _ _ _ (l .loop .inv) (c .loop-test .left)
+returns c =
+    let l = c .before in
+    let s = l .before .before in
+    ends _ (s .pre .0) _ (s .pre .1) _ _ _ (l .loop .inv) (c .loop-test .left)
 
 pub put-farm-spec : {M : Type 1} → statement M
 put-farm-spec =

@@ -15,7 +15,9 @@ same-length : tie.Need-same-length
 same-length c = search needs
 
 returns : tie.Need-returns
-returns c = let d = c .before .before in (said (noted _ (d .before .before .before .if1 .taken)) (d .put .ensures), search needs)
+returns c =
+    let d = c .before .before in
+    (said (noted _ (d .before .before .before .if1 .taken)) (d .put .ensures), search needs)
 
 slice-aggregate-put-2 : tie.Need-slice-aggregate-put-2
 slice-aggregate-put-2 c = search needs
@@ -27,7 +29,9 @@ same-length-2 : tie.Need-same-length-2
 same-length-2 c = search needs
 
 returns-2 : tie.Need-returns-2
-returns-2 c = let d = c .before .before in (said (not-noted _ (d .before .before .before .if1 .left)) (d .put2 .ensures), search needs)
+returns-2 c =
+    let d = c .before .before in
+    (said (not-noted _ (d .before .before .before .if1 .left)) (d .put2 .ensures), search needs)
 
 pub put-note-spec : {M : Type 1} → statement M
 put-note-spec =

@@ -1,4 +1,5 @@
--- `noting::put_notes` meets its contract: what is still to be written is the fields of the notes that are left. Assumes nothing.
+-- `noting::put_notes` meets its contract: what is still to be written is the fields of the notes that are left.
+-- Assumes nothing.
 use Prim.Native.Nat.{_+_, _-_, _*_, _≤_}
 use mathlib.Core.Bool.{false}
 use native.Mathlib.Omega.{arith}
@@ -15,7 +16,9 @@ use Rattle.noting.proofs.put_notes.Tie as tie
 
 abbrev Inv-loop : tie.InvT-loop
 Inv-loop out₀ at noted next₀ k₀ out next k =
-    (k ≤ length noted) × ToCome out₀ at (each noteField noted) out (each noteField (drop k noted)) next × (next ≤ at + k * longestNote)
+    (k ≤ length noted)
+    × ToCome out₀ at (each noteField noted) out (each noteField (drop k noted)) next
+    × (next ≤ at + k * longestNote)
 
 abbrev μ-loop : tie.MeasureT-loop
 μ-loop out₀ at noted next₀ k₀ out next k = length noted - k
@@ -49,8 +52,10 @@ same-length c = c .before .loop .inv .1 .same
 
 returns : tie.Need-returns Inv-loop μ-loop
 returns c =
-    let l = c .before in
-    (all-entries-put noteField (l .loop .inv .1) (left-end _ _ (c .loop-test .left)), omega (arith, l .loop .inv .0, l .loop .inv .2))
+    let l = c .before in (
+      all-entries-put noteField (l .loop .inv .1) (left-end _ _ (c .loop-test .left)),
+      omega (arith, l .loop .inv .0, l .loop .inv .2),
+    )
 
 pub put-notes-spec : {M : Type 1} → statement M
 put-notes-spec =

@@ -35,8 +35,15 @@ returns c =
     let b = d .before .before .before .before .before in
     let o = b .before .before .before in
     let a = o .before .before .before in (
-      said (record-is _ _ (o .in-order .ensures)) (joined (joined (a .put-label .ensures .0) (b .put-notes .ensures .0)) (d .put .ensures)),
-      omega (arith, a .put-label .ensures .1, b .put-notes .ensures .1, d .put .ensures .past, ap length (o .in-order .ensures)),
+      said (record-is _ _ (o .in-order .ensures))
+          (joined (joined (a .put-label .ensures .0) (b .put-notes .ensures .0)) (d .put .ensures)),
+      omega (
+        arith,
+        a .put-label .ensures .1,
+        b .put-notes .ensures .1,
+        d .put .ensures .past,
+        ap length (o .in-order .ensures),
+      ),
     )
 
 pub put-record-spec : {M : Type 1} → statement M

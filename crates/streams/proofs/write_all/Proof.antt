@@ -1,17 +1,21 @@
 -- `streams::write_all` meets its contract, and ends: each turn goes further, or leaves less patience.
 -- Assumes nothing.
-use Prim.Native.Nat.{_≤_}
+use Prim.Native.Nat.{_<_, _≤_}
 use lib.ListN.{length}
 use borrow.Author.Needs.{needs}
+use Rattle.streams.specs.Within.{All}
 use Rattle.streams.proofs.Moves.{left, turn-steps}
 use Rattle.streams.proofs.write_all.Statement.{statement}
 use Rattle.streams.proofs.write_all.Tie as tie
 
 abbrev Inv-loop : tie.InvT-loop
-Inv-loop text done₀ patience₀ done patience = done ≤ length text
+Inv-loop text done₀ patience₀ done patience = (0 < length text) × (done ≤ length text)
 
 abbrev μ-loop : tie.MeasureT-loop
 μ-loop text done₀ patience₀ done patience = left (length text) done patience
+
+returns : tie.Need-returns Inv-loop μ-loop
+returns c = rw (c .if1 .taken) All.whole
 
 loop-holds : tie.Need-loop-holds Inv-loop μ-loop
 loop-holds c = search needs
@@ -46,11 +50,11 @@ loop-again-2 c = search needs
 enum-known-outcome : tie.Need-enum-known-outcome Inv-loop μ-loop
 enum-known-outcome c = search needs
 
-returns : tie.Need-returns Inv-loop μ-loop
-returns c = search (needs, turn-steps)
-
 returns-2 : tie.Need-returns-2 Inv-loop μ-loop
 returns-2 c = search (needs, turn-steps)
+
+returns-3 : tie.Need-returns-3 Inv-loop μ-loop
+returns-3 c = search (needs, turn-steps)
 
 pub write-all-spec : {M : Type 1} → statement M
 write-all-spec =
@@ -58,6 +62,7 @@ write-all-spec =
     (tie.spec
     Inv-loop
     μ-loop
+    returns
     loop-holds
     write-step-requires
     enum-known-next
@@ -69,5 +74,5 @@ write-all-spec =
     loop-less-2
     loop-again-2
     enum-known-outcome
-    returns
-    returns-2)
+    returns-2
+    returns-3)

@@ -39,8 +39,11 @@ returns-3 c = search needs
 part-of-requires : tie.Need-part-of-requires
 part-of-requires c κs = search needs
 
-print-file-requires : tie.Need-print-file-requires
-print-file-requires c κs = search needs
+print-figures-requires : tie.Need-print-figures-requires
+print-figures-requires c κs = search needs
+
+print-notes-requires : tie.Need-print-notes-requires
+print-notes-requires c κs = search needs
 
 same-length-2 : tie.Need-same-length-2
 same-length-2 c = search needs
@@ -63,6 +66,7 @@ run-one-spec =
     same-length
     returns-3
     part-of-requires
-    print-file-requires
+    print-figures-requires
+    print-notes-requires
     same-length-2
     returns-4)

@@ -1,4 +1,4 @@
--- `listing::owners::put_owner` meets its contract: the label's field, a comma, and the path of the kind. Assumes nothing.
+-- `listing::owners::put_owner` meets its contract: the label's field, a comma, the path of the kind. Assumes nothing.
 use mathlib.Core.Path.{_≡_, ap, _∙_}
 use native.Mathlib.Omega.{arith}
 use denote.Ref.{now}
@@ -22,7 +22,9 @@ kind-of c = label-put c .before .before .before .args .kind
 -- the path that is lent
 path-lent : (c : tie.After-part-of) → now (c .part-of .result) ≡ bytes (pathOf (kind-of (c .before .before .before)))
 unfolding part
-path-lent c = let n = c .before .before .before in c .part-of .ensures ∙ path-run (kind-of n) (n .number-of .ensures .0) (n .number-of .ensures .1) .part-is
+path-lent c =
+    let n = c .before .before .before in
+    c .part-of .ensures ∙ path-run (kind-of n) (n .number-of .ensures .0) (n .number-of .ensures .1) .part-is
 
 put-label-requires : tie.Need-put-label-requires
 put-label-requires c κs = search needs
@@ -66,7 +68,8 @@ returns c =
     let p = d .before in
     let n = p .before .before .before in
     let a = label-put n in (
-      said (owner-is _ _ (path-lent p)) (joined (joined (a .put-label .ensures .0) (n .before .before .before .put-byte .ensures)) (d .put .ensures)),
+      said (owner-is _ _ (path-lent p))
+          (joined (joined (a .put-label .ensures .0) (n .before .before .before .put-byte .ensures)) (d .put .ensures)),
       omega (arith, ap length (path-lent p), path-short (kind-of n), d .put .ensures .past),
     )
 

@@ -1,0 +1,13 @@
+// The command `notes` of ./urvendlo: a farm file on standard input; its herds' notes, or its refusal, on standard
+// output. What goes wrong is told as `urvendlo` tells it.
+use printing::ending;
+use printing::input;
+use streams::Outcome;
+
+fn main() {
+    let mut file = [0u8; input::INPUT_MOST];
+    match input::read_file(&mut file) {
+        Outcome::Whole(n) => ending::report(printing::print_notes(base::part_of(&file, 0, n))),
+        Outcome::Broken => ending::report_unread(),
+    }
+}
