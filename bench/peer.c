@@ -661,16 +661,22 @@ static void write_all(const uint8_t *from, size_t length) {
     }
 }
 
-static void answer(const uint8_t *file, size_t length) {
-    uint8_t *out = output;
+// Each herd, then the totals; the end of it.
+static uint8_t *list_farm(uint8_t *out) {
+    for (uint32_t i = 0; i < farm.count; i++) out = list_herd(out, &farm.herds[i]);
+    return list_totals(out, &farm);
+}
+
+// What a file is answered with, into the output; the end of it.
+static uint8_t *put_answer(const uint8_t *file, size_t length) {
     struct refusal r = read_farm(file, length, &farm);
-    if (r.number) {
-        out += sprintf((char *)out, "refused,%u,%u\r\n", r.number, r.record);
-    } else {
-        for (uint32_t i = 0; i < farm.count; i++) out = list_herd(out, &farm.herds[i]);
-        out = list_totals(out, &farm);
-    }
-    write_all(output, (size_t)(out - output));
+    if (r.number) return output + sprintf((char *)output, "refused,%u,%u\r\n", r.number, r.record);
+    return list_farm(output);
+}
+
+static void answer(const uint8_t *file, size_t length) {
+    const uint8_t *end = put_answer(file, length);
+    write_all(output, (size_t)(end - output));
 }
 
 static int run_cases(void) {
@@ -696,14 +702,13 @@ static uint64_t farm_sum(uint64_t sum, uint64_t turn) {
     return mixed(mixed(sum, h->label_length), v == STANDARD ? 1 : v);
 }
 
-static uint64_t text_sum(uint64_t sum, uint64_t turn, const uint8_t *text, const uint8_t *end) {
-    size_t length = (size_t)(end - text);
-    return mixed(mixed(sum, length), text[turn % length]);
+static uint64_t text_sum(uint64_t sum, uint64_t turn, const uint8_t *end) {
+    size_t length = (size_t)(end - output);
+    return mixed(mixed(sum, length), output[turn % length]);
 }
 
-static uint64_t listing_sum(uint64_t sum, uint64_t turn) {
-    for (uint32_t i = 0; i < farm.count; i++) sum = text_sum(sum, turn, output, list_herd(output, &farm.herds[i]));
-    return text_sum(sum, turn, output, list_totals(output, &farm));
+static uint64_t read_sum(uint64_t sum, uint64_t turn, struct refusal r) {
+    return r.number ? mixed(mixed(sum, r.number), r.record) : farm_sum(sum, turn);
 }
 
 static int run_repeat(void) {
@@ -716,14 +721,11 @@ static int run_repeat(void) {
     length -= 9;
     if (mode == 'l' && read_farm(file, length, &farm).number) return 1;
     for (uint64_t turn = times; turn > 0; turn--) {
-        if (mode != 'l') {
-            struct refusal r = read_farm(file, length, &farm);
-            if (r.number) {
-                sum = mixed(mixed(sum, r.number), r.record);
-                continue;
-            }
+        switch (mode) {
+        case 'r': sum = read_sum(sum, turn, read_farm(file, length, &farm)); break;
+        case 'l': sum = text_sum(sum, turn, list_farm(output)); break;
+        default: sum = text_sum(sum, turn, put_answer(file, length));
         }
-        sum = mode == 'r' ? farm_sum(sum, turn) : listing_sum(sum, turn);
     }
     printf("%llu\n", (unsigned long long)sum);
     return 0;

@@ -1,27 +1,26 @@
-// The library's work, repeated inside one process, so that a benchmark can time it. Standard input has a mode, how often in eight digits, and
-// a farm file. The mode is w for the whole job, r for reading alone, l for listing alone. One checksum is printed: it takes little of each
-// answer, so that it costs nearly nothing and still needs the answer.
+// The library's work, repeated inside one process, so that a benchmark can measure it. Standard input has a mode, how often in eight digits,
+// and a farm file. The mode is w for the whole job, as the program does it, r for reading alone, l for what comes after reading: figures and
+// listing. One checksum is printed: it takes little of each answer, so that it costs nearly nothing and still needs the answer.
 use farm::Checked;
 use farm::Farm;
 use farm::Fault;
 use farm::Given;
-use farm::Herd;
 use farm::faults;
 use libc::STDIN_FILENO;
 use libc::STDOUT_FILENO;
-use listing::Written;
+use whole::farms;
+ghost use mathlib.Core.Path.{_≡_};
 ghost use Prim.Native.Nat.{_≤_};
+ghost use lib.ListN.{length};
+ghost use Rattle.farm.specs.declared.Checked.the-variants.{Accepted};
+ghost use Rattle.checks.specs.Checks.{checkFarm};
+ghost use Rattle.whole.specs.Rooms.{farmRoom};
 
 // The mode and how often.
 const HEAD: usize = 9;
 
 // They, and one byte more than a farm file may have.
 const INPUT_MOST: usize = 65546;
-
-// Longer than any listing of a herd or of the totals.
-const LISTING_MOST: usize = 4096;
-
-const HERDS_MOST: usize = 64;
 
 // A herd of any kind has this many slots in use.
 const SLOTS_LEAST: u64 = 4;
@@ -89,7 +88,7 @@ fn farm_sum(sum: u64, turn: u64, farm: Farm) -> u64 {
         return counted;
     }
     let i = turn as usize % farm.count;
-    if HERDS_MOST <= i {
+    if farm::HERDS_MOST <= i {
         return counted;
     }
     let h = farm.herds[i];
@@ -98,7 +97,7 @@ fn farm_sum(sum: u64, turn: u64, farm: Farm) -> u64 {
     mixed(mixed(counted, h.label.len as u64), given_number(given))
 }
 
-// Of a listing its length and a byte.
+// Of a text its length and a byte.
 fn text_sum(sum: u64, turn: u64, out: &[u8], n: usize) -> u64 {
     let counted = mixed(sum, n as u64);
     if n == 0 {
@@ -111,38 +110,7 @@ fn text_sum(sum: u64, turn: u64, out: &[u8], n: usize) -> u64 {
     mixed(counted, wide(out[i]))
 }
 
-fn written_sum(sum: u64, turn: u64, out: &[u8], written: Written) -> u64 {
-    match written {
-        Written::Length(n) => text_sum(sum, turn, out, n),
-        Written::Refused(fault, record) => refusal_sum(sum, fault, record),
-    }
-}
-
-fn herd_sum(sum: u64, turn: u64, h: Herd, out: &mut [u8]) -> u64 {
-    let written = calls::herd_listing(h, out);
-    written_sum(sum, turn, out, written)
-}
-
-fn totals_sum(sum: u64, turn: u64, farm: Farm, out: &mut [u8]) -> u64 {
-    let written = calls::totals_listing(farm, out);
-    written_sum(sum, turn, out, written)
-}
-
-fn listing_sum(sum: u64, turn: u64, farm: Farm, out: &mut [u8]) -> u64 {
-    let mut taken = sum;
-    let mut i = 0;
-    while i < HERDS_MOST {
-        if farm.count <= i {
-            break;
-        }
-        let h = farm.herds[i];
-        taken = herd_sum(taken, turn, h, out);
-        i += 1;
-    }
-    totals_sum(taken, turn, farm, out)
-}
-
-// One turn of reading, and of the whole job.
+// One turn of reading, of the whole job, and of what comes after reading.
 fn read_sum(sum: u64, turn: u64, file: &[u8]) -> u64 {
     let answer = calls::read_farm(file);
     let checked = answer.checked;
@@ -153,12 +121,15 @@ fn read_sum(sum: u64, turn: u64, file: &[u8]) -> u64 {
 }
 
 fn whole_sum(sum: u64, turn: u64, file: &[u8], out: &mut [u8]) -> u64 {
-    let answer = calls::read_farm(file);
-    let checked = answer.checked;
-    match checked {
-        Checked::Accepted => listing_sum(sum, turn, answer.farm, out),
-        Checked::Refused(fault, record) => refusal_sum(sum, fault, record),
-    }
+    let answer = calls::put_answer(file, out);
+    text_sum(sum, turn, out, answer.length)
+}
+
+fn listing_sum(sum: u64, turn: u64, farm: Farm, out: &mut [u8]) -> u64
+    requires { ⌜ (checkFarm farm ≡ Accepted) × (farmRoom ≤ length (now out)) ⌝ }
+{
+    let n = farms::put_farm(out, farm);
+    text_sum(sum, turn, out, n)
 }
 
 // The turns count down.
@@ -182,7 +153,9 @@ fn repeat_whole(times: u64, file: &[u8], out: &mut [u8]) -> u64 {
     sum
 }
 
-fn repeat_listing(times: u64, farm: Farm, out: &mut [u8]) -> u64 {
+fn repeat_listing(times: u64, farm: Farm, out: &mut [u8]) -> u64
+    requires { ⌜ (checkFarm farm ≡ Accepted) × (farmRoom ≤ length (now out)) ⌝ }
+{
     let mut sum = 0;
     let mut turn = times;
     while turn > 0 {
@@ -192,13 +165,20 @@ fn repeat_listing(times: u64, farm: Farm, out: &mut [u8]) -> u64 {
     sum
 }
 
-fn listed(times: u64, file: &[u8], out: &mut [u8]) -> u64 {
+// The farm is read once.
+fn listed(times: u64, file: &[u8], out: &mut [u8]) -> u64
+    requires { ⌜ farmRoom ≤ length (now out) ⌝ }
+{
     let answer = calls::read_farm(file);
-    repeat_listing(times, answer.farm, out)
+    let checked = answer.checked;
+    match checked {
+        Checked::Accepted => repeat_listing(times, answer.farm, out),
+        Checked::Refused(fault, record) => refusal_sum(0, fault, record),
+    }
 }
 
 fn repeated(mode: Mode, times: u64, file: &[u8]) -> u64 {
-    let mut out = [0u8; LISTING_MOST];
+    let mut out = [0u8; calls::ANSWER_ROOM];
     match mode {
         Mode::Whole => repeat_whole(times, file, &mut out),
         Mode::Reading => repeat_reading(times, file),

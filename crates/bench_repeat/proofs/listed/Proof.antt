@@ -1,0 +1,43 @@
+-- `bench_repeat::listed` is safe and ends: a farm that is read passes the record checks, so its listing may be put without them.
+-- Assumes nothing.
+use borrow.Author.Needs.{needs}
+use Rattle.whole.proofs.FileSteps.{passes}
+use Rattle.bench_repeat.proofs.listed.Statement.{statement}
+use Rattle.bench_repeat.proofs.listed.Tie as tie
+
+read-farm-requires : tie.Need-read-farm-requires
+read-farm-requires c κs = search needs
+
+enum-told : tie.Need-enum-told
+enum-told c = search needs
+
+repeat-listing-requires : tie.Need-repeat-listing-requires
+repeat-listing-requires c κs = search (needs, passes)
+
+enum-known-checked : tie.Need-enum-known-checked
+enum-known-checked c = search needs
+
+refusal-sum-requires : tie.Need-refusal-sum-requires
+refusal-sum-requires c κs = search needs
+
+same-length : tie.Need-same-length
+same-length c = search needs
+
+returns : tie.Need-returns
+returns c = search needs
+
+returns-2 : tie.Need-returns-2
+returns-2 c = search needs
+
+pub listed-spec : {M : Type 1} → statement M
+listed-spec =
+    tie.close
+    (tie.spec
+    read-farm-requires
+    enum-told
+    repeat-listing-requires
+    enum-known-checked
+    refusal-sum-requires
+    same-length
+    returns
+    returns-2)
