@@ -1,8 +1,9 @@
 -- The steps of the writing calls on a record, each in the form that a place of the code wants.
 -- Assumes nothing.
-use Prim.Native.Nat.{ℕ}
+use Prim.Native.Nat.{ℕ, _≤_}
 use mathlib.Core.Path.{_≡_, refl, sym, _∙_}
 use mathlib.Core.List.{List, map}
+use lib.ListN.{length}
 use Rattle.farm.specs.declared.Herd.{Herd}
 use Rattle.farm.specs.declared.Farm.{Farm}
 use Rattle.farm.specs.declared.Fault.{Fault}
@@ -15,9 +16,11 @@ use Rattle.model.specs.declared.FarmAnswer.{FarmAnswer}
 use Rattle.model.specs.Answers.{herdFigures, answerHerd, herdAnswer, answerFarm, farmAnswer}
 use Rattle.listing.specs.declared.Written.{Written}
 use Rattle.listing.specs.declared.Written.the-variants.{Refused}
+use Rattle.listing.specs.Bounds.{herdRoom, totalsRoom}
 use Rattle.listing.specs.Listing.{herdListing, totalsListing}
 use Rattle.listing.specs.Answer.{Answered}
 use Rattle.whole.specs.Lines.{listingOf}
+use Rattle.whole.proofs.Rooms.{herd-fits, totals-fit}
 use Rattle.calls.specs.Listings.{Called, herdCall, totalsCall}
 
 -- ---- what an answer is made of
@@ -52,6 +55,9 @@ module _ (h : Herd) (a : HerdAnswer) (q : a ≡ herdAnswer h) where
   passed : (k : Checked) → a .checked ≡ k → checkHerd h ≡ k
   passed k e = sym (herd-checked h) ∙ (rw q at e)
 
+  pub has-herd-room : a .checked ≡ checks.Accepted → length (herdListing (h .label) (h .kind) (a .figures)) ≤ herdRoom
+  has-herd-room e = let p = passed checks.Accepted e in rw (q, herd-figured h p) (herd-fits h p)
+
   pub is-herd-listing : (old new : List ℕ) (r : Written) → a .checked ≡ checks.Accepted
       → Answered (herdListing (h .label) (h .kind) (a .figures)) old new r → Called (herdCall h) old new r
   unfolding herdCall
@@ -70,6 +76,9 @@ module _ (f : Farm) (a : FarmAnswer) (q : a ≡ farmAnswer f) where
   checked : (k : Checked) → a .checked ≡ k → checkFarm f ≡ k
   checked k e = sym (farm-checked f) ∙ (rw q at e)
 
+  pub has-totals-room : a .checked ≡ checks.Accepted → length (totalsListing (a .totals)) ≤ totalsRoom
+  has-totals-room e = rw q (totals-fit f (checked checks.Accepted e))
+
   pub is-totals-listing : (old new : List ℕ) (r : Written) → a .checked ≡ checks.Accepted → Answered (totalsListing (a .totals)) old new r
       → Called (totalsCall f) old new r
   unfolding totalsCall
@@ -83,4 +92,5 @@ module _ (f : Farm) (a : FarmAnswer) (q : a ≡ farmAnswer f) where
   unfolding totalsCall
   is-totals-refused old fault at-record e = let p = checked (checks.Refused fault at-record) e in record { buffer = rw p; answer = rw p }
 
-pub ruleset record-steps = (is-herd-listing, is-herd-refused, is-totals-listing, is-totals-refused)
+pub ruleset record-steps =
+    (has-herd-room, is-herd-listing, is-herd-refused, has-totals-room, is-totals-listing, is-totals-refused)

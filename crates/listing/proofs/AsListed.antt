@@ -1,5 +1,5 @@
 -- The lines by number, with texts from the tables, are the lines of 01's listing. Assumes nothing.
-use Prim.Native.Nat.{ℕ, zero, suc, _+_, _≤_, _<_}
+use Prim.Native.Nat.{ℕ, zero, suc, _+_, _<_}
 use mathlib.Core.Path.{_≡_, refl, ap, _∙_}
 use mathlib.Core.List.{List, [], _∷_, _++_, map, append-assoc}
 use native.Mathlib.Nat.{le-of-suc-le-suc}
@@ -10,10 +10,8 @@ use lib.IntN.{ℤ}
 use Rattle.base.specs.Part.{part}
 use Rattle.base.specs.Runs.{joined, starts, all}
 use Rattle.base.specs.Text.{bytes}
-use Rattle.base.specs.Wrote.{Wrote}
 use Rattle.base.proofs.Runs.{run-at}
 use Rattle.base.proofs.Table.{both-left, both-right}
-use Rattle.base.proofs.Writes.{said}
 use Rattle.inputs.specs.declared.Kind.{Kind}
 use Rattle.inputs.specs.declared.Kind.the-variants.{Roughage, Cattle, Pigs}
 use Rattle.farm.specs.declared.Label.{Label}
@@ -22,7 +20,6 @@ use Rattle.outputs.specs.declared.Figures.{Figures}
 use Rattle.outputs.specs.declared.Totals.{Totals}
 use Rattle.outputs.specs.Names.{rows, number, totals, totalNumber, totalTexts}
 use Rattle.outputs.specs.Grams.{at}
-use Rattle.listing.specs.Bounds.{mostLines}
 use Rattle.listing.specs.HerdLines.{pathOf, linesOf}
 use Rattle.listing.specs.Listing.{hasComma, labelField, lineOf, each, totalPath, herdLines, herdListing, totalsListing}
 use Rattle.listing.specs.Numbered.{Entry, herdEntries, totalEntries, middleOf, middles, ownerOf, putTogether, numbered, Known}
@@ -68,11 +65,11 @@ herdTable = joined (middles herdEntries)
 abbrev herdStarts : List ℕ
 herdStarts = starts 0 (middles herdEntries)
 
--- every name that a kind lists is one, and they are few
-herd-numbers : (k : Kind) → T (all (λ (n : ℕ). ltb n (length herdEntries)) (map number (linesOf k))) × (length (map number (linesOf k)) ≤ mostLines)
-herd-numbers Roughage = (tt, omega arith)
-herd-numbers Cattle = (tt, omega arith)
-herd-numbers Pigs = (tt, omega arith)
+-- every name that a kind lists is one
+herd-numbers : (k : Kind) → T (all (λ (n : ℕ). ltb n (length herdEntries)) (map number (linesOf k)))
+herd-numbers Roughage = tt
+herd-numbers Cattle = tt
+herd-numbers Pigs = tt
 
 pub herd-known : (k : Kind) {grams : List ℤ} {lines : List ℕ} → length grams ≡ length rows → lines ≡ map number (linesOf k) → Known herdTable herdStarts grams lines
 herd-known k {grams} n e = rw e (record {
@@ -81,8 +78,7 @@ herd-known k {grams} n e = rw e (record {
   starts-are = refl;
   short = tt;
   as-many = n;
-  are-numbers = herd-numbers k .0;
-  few = herd-numbers k .1;
+  are-numbers = herd-numbers k;
 })
 
 as-listed : (label : List ℕ) (k : Kind) (f : Figures) → numbered (ownerOf label (bytes (pathOf k))) herdTable herdStarts (f .grams) (map number (linesOf k)) ≡ herdLines label k f
@@ -91,9 +87,9 @@ as-listed label Roughage f = numbered-is label (bytes (pathOf Roughage)) herdEnt
 as-listed label Cattle f = numbered-is label (bytes (pathOf Cattle)) herdEntries (f .grams) (map number (linesOf Cattle)) tt
 as-listed label Pigs f = numbered-is label (bytes (pathOf Pigs)) herdEntries (f .grams) (map number (linesOf Pigs)) tt
 
-pub herd-wrote : (l : Label) (k : Kind) (f : Figures) {owner lines : List ℕ} → owner ≡ ownerOf (text l) (bytes (pathOf k)) → lines ≡ map number (linesOf k)
-    → {old new : List ℕ} {from next : ℕ} → Wrote old from (numbered owner herdTable herdStarts (f .grams) lines) new next → Wrote old from (herdListing l k f) new next
-herd-wrote l k f d e w = said (rw (d, e) (as-listed (text l) k f)) w
+pub herd-is : (l : Label) (k : Kind) (f : Figures) {owner lines : List ℕ} → owner ≡ ownerOf (text l) (bytes (pathOf k))
+    → lines ≡ map number (linesOf k) → numbered owner herdTable herdStarts (f .grams) lines ≡ herdListing l k f
+herd-is l k f d e = rw (d, e) (as-listed (text l) k f)
 
 -- ---- the totals
 
@@ -115,11 +111,10 @@ totals-known n =
       short = tt;
       as-many = n;
       are-numbers = tt;
-      few = omega arith;
     }
 
 -- the owner is an empty label's field, a comma and the path
-pub totals-wrote : (t : Totals) {old new : List ℕ} {from next : ℕ} → Wrote old from (numbered (bytes "," ++ bytes totalPath) totalTable totalStarts (t .grams) totalNumbers) new next
-    → Wrote old from (totalsListing t) new next
+pub totals-are : (t : Totals)
+    → numbered (bytes "," ++ bytes totalPath) totalTable totalStarts (t .grams) totalNumbers ≡ totalsListing t
 unfolding totalsListing ownerOf labelField hasComma
-totals-wrote t w = said (numbered-is [] (bytes totalPath) totalEntries (t .grams) totalNumbers tt) w
+totals-are t = numbered-is [] (bytes totalPath) totalEntries (t .grams) totalNumbers tt

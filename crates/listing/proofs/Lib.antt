@@ -6,5 +6,6 @@ pub mod OneByOne
 pub mod LineByLine
 pub mod KindTables
 pub mod AsListed
+pub mod Lengths
 pub mod WellFormed
 pub mod Examples

@@ -5,7 +5,7 @@ use mathlib.Core.Path.{_≡_, refl, ap, subst, _∙_}
 use mathlib.Core.List.{List, [], _∷_, _++_}
 use native.Mathlib.Omega.{arith}
 use lib.Dec.{ltb, leb, ltb→lt, leb→le}
-use lib.ListN.{length, getD, drop}
+use lib.ListN.{length, getD, drop, length-append}
 use lib.IntN.{ℤ}
 use Rattle.base.specs.Part.{part}
 use Rattle.base.specs.Runs.{starts}
@@ -74,6 +74,12 @@ module _ (owner table from : List ℕ) (grams : List ℤ) (lines : List ℕ) (k 
     first : left k ≡ putTogether owner middle g ++ left (k + 1)
     unfolding numbered
     first = rw (rest-at lines k h, e)
+
+    pub line-room : {old whole now : List ℕ} {start next : ℕ} → ToCome old start whole now (left k) next
+        → start + length whole ≤ length old → next + length (putTogether owner middle g) ≤ length now
+    line-room t room =
+        let line = putTogether owner middle g in
+        omega (arith, ap length first, length-append line (left (k + 1)), t .adds-up, t .same)
 
     pub line-put : {old whole now new : List ℕ} {start next after : ℕ} → ToCome old start whole now (left k) next
         → Wrote now next (putTogether owner middle g) new after → ToCome old start whole new (left (k + 1)) after

@@ -1,6 +1,6 @@
 -- The listing as the code goes about it: by the numbers of names and kinds, with texts from tables. No reader has to believe it:
 -- proofs/AsListed.antt shows that it is 01's listing.
-use Prim.Native.Nat.{ℕ, _+_, _≤_}
+use Prim.Native.Nat.{ℕ, _+_}
 use Prim.Native.String.{String}
 use mathlib.Core.Path.{_≡_}
 use mathlib.Core.List.{List, [], _∷_, _++_, map}
@@ -16,7 +16,7 @@ use Rattle.inputs.specs.declared.Kind.the-variants.{Roughage, Cattle, Pigs}
 use Rattle.outputs.specs.Names.{Row, rows, number, totalTexts}
 use Rattle.outputs.specs.Grams.{at}
 use Rattle.listing.specs.HerdLines.{pathOf, linesOf}
-use Rattle.listing.specs.Bounds.{longestMiddle, mostLines}
+use Rattle.listing.specs.Bounds.{longestMiddle}
 use Rattle.listing.specs.Listing.{labelField, each}
 
 -- ---- the kinds by number
@@ -70,7 +70,7 @@ unfoldable pub numbered : List ℕ → List ℕ → List ℕ → List ℤ → Li
 numbered owner table from grams lines =
     each (λ (n : ℕ). putTogether owner (part table (getD from n 0) (getD from (n + 1) 0)) (at grams n)) lines
 
--- the table has a middle for each of the grams, and the lines are numbers of these, few of them
+-- the table has a middle for each of the grams, and the lines are numbers of these
 pub record Known (table from : List ℕ) (grams : List ℤ) (lines : List ℕ) : Type 0 where
   pub texts : List (List ℕ)
   pub table-is : table ≡ joined texts
@@ -78,4 +78,3 @@ pub record Known (table from : List ℕ) (grams : List ℤ) (lines : List ℕ) :
   pub short : T (all (λ (t : List ℕ). leb (length t) longestMiddle) texts)
   pub as-many : length grams ≡ length texts
   pub are-numbers : T (all (λ (n : ℕ). ltb n (length texts)) lines)
-  pub few : length lines ≤ mostLines

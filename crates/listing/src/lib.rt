@@ -11,12 +11,11 @@ use farm::Label;
 use inputs::Kind;
 use outputs::Figures;
 use outputs::Totals;
-use outputs::names;
 ghost use Prim.Native.Nat.{_+_, _≤_};
 ghost use lib.ListN.{length};
 ghost use Rattle.base.specs.Part.{part};
 ghost use Rattle.base.specs.Wrote.{Wrote};
-ghost use Rattle.listing.specs.Bounds.{longest};
+ghost use Rattle.listing.specs.Bounds.{herdRoom, totalsRoom};
 ghost use Rattle.listing.specs.Listing.{herdListing, totalsListing};
 ghost use Rattle.listing.specs.Answer.{Answered};
 
@@ -26,22 +25,20 @@ pub enum Written {
     Refused(Fault, usize),
 }
 
-// How long a line's parts can be: the path of a kind, label and path, section and name, kilograms.
+// As long as the path of a kind can be, and what a herd's lines begin with: the label's field, a comma and the path.
 const PATH_MOST: usize = 28;
 
 const OWNER_MOST: usize = labels::FIELD_MOST + 1 + PATH_MOST;
 
-const MIDDLE_MOST: usize = 29;
+// Room for the listing of any herd whose inputs are in their ranges, and for the totals of any farm of such herds.
+pub const HERD_ROOM: usize = 1320;
 
-const KILOGRAMS_MOST: usize = 21;
-
-// As long as a listing can be.
-pub const LONGEST: usize = names::COUNT * (OWNER_MOST + MIDDLE_MOST + KILOGRAMS_MOST + 2);
+pub const TOTALS_ROOM: usize = 748;
 
 // A herd's listing from `at` on; the end of it.
 pub fn put_herd_lines(out: &mut [u8], at: usize, label: Label, kind: Kind, f: Figures) -> usize
-    requires { ⌜ at + longest ≤ length (now out) ⌝ }
-    ensures { λ r. ⌜ Wrote (now (out .entry)) at (herdListing label kind f) (now (out .exit)) r × (r ≤ at + longest) ⌝ }
+    requires { ⌜ at + length (herdListing label kind f) ≤ length (now out) ⌝ }
+    ensures { λ r. ⌜ Wrote (now (out .entry)) at (herdListing label kind f) (now (out .exit)) r ⌝ }
 {
     let mut in_owner = [0u8; OWNER_MOST];
     let n = owners::put_owner(&mut in_owner, label, kind);
@@ -64,8 +61,8 @@ pub fn put_herd_lines(out: &mut [u8], at: usize, label: Label, kind: Kind, f: Fi
 
 // The totals' listing from `at` on; the end of it.
 pub fn put_total_lines(out: &mut [u8], at: usize, t: Totals) -> usize
-    requires { ⌜ at + longest ≤ length (now out) ⌝ }
-    ensures { λ r. ⌜ Wrote (now (out .entry)) at (totalsListing t) (now (out .exit)) r × (r ≤ at + longest) ⌝ }
+    requires { ⌜ at + length (totalsListing t) ≤ length (now out) ⌝ }
+    ensures { λ r. ⌜ Wrote (now (out .entry)) at (totalsListing t) (now (out .exit)) r ⌝ }
 {
     let grams = t.grams;
     lines::put_lines(
@@ -92,24 +89,26 @@ pub fn hand_over(out: &mut [u8], written: &[u8], n: usize) -> Written
 
 // A herd's listing.
 pub fn write_herd(out: &mut [u8], label: Label, kind: Kind, f: Figures) -> Written
+    requires { ⌜ length (herdListing label kind f) ≤ herdRoom ⌝ }
     ensures { λ r. ⌜ Answered (herdListing label kind f) (now (out .entry)) (now (out .exit)) r ⌝ }
 {
-    if LONGEST <= out.len() {
+    if HERD_ROOM <= out.len() {
         return Written::Length(put_herd_lines(out, 0, label, kind, f));
     }
-    let mut scratch = [0u8; LONGEST];
+    let mut scratch = [0u8; HERD_ROOM];
     let n = put_herd_lines(&mut scratch, 0, label, kind, f);
     hand_over(out, &scratch, n)
 }
 
 // The totals' listing.
 pub fn write_totals(out: &mut [u8], t: Totals) -> Written
+    requires { ⌜ length (totalsListing t) ≤ totalsRoom ⌝ }
     ensures { λ r. ⌜ Answered (totalsListing t) (now (out .entry)) (now (out .exit)) r ⌝ }
 {
-    if LONGEST <= out.len() {
+    if TOTALS_ROOM <= out.len() {
         return Written::Length(put_total_lines(out, 0, t));
     }
-    let mut scratch = [0u8; LONGEST];
+    let mut scratch = [0u8; TOTALS_ROOM];
     let n = put_total_lines(&mut scratch, 0, t);
     hand_over(out, &scratch, n)
 }

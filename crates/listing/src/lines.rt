@@ -3,12 +3,12 @@ use crate::blocks;
 ghost use Prim.Native.Nat.{_+_, _≤_};
 ghost use lib.ListN.{length};
 ghost use Rattle.base.specs.Wrote.{Wrote};
-ghost use Rattle.listing.specs.Bounds.{longestOwner, longestMiddle, longestLine, longest};
+ghost use Rattle.listing.specs.Bounds.{longestOwner, longestMiddle};
 ghost use Rattle.listing.specs.Numbered.{Known, putTogether, numbered};
 
 fn put_line(out: &mut [u8], at: usize, owner: &[u8], middle: &[u8], grams: i64) -> usize
-    requires { ⌜ (length (now owner) ≤ longestOwner) × (length (now middle) ≤ longestMiddle) × (at + longestLine ≤ length (now out)) ⌝ }
-    ensures { λ r. ⌜ Wrote (now (out .entry)) at (putTogether (now (owner .entry)) (now (middle .entry)) grams) (now (out .exit)) r × (r ≤ at + longestLine) ⌝ }
+    requires { ⌜ (length (now owner) ≤ longestOwner) × (length (now middle) ≤ longestMiddle) × (at + length (putTogether (now owner) (now middle) grams) ≤ length (now out)) ⌝ }
+    ensures { λ r. ⌜ Wrote (now (out .entry)) at (putTogether (now (owner .entry)) (now (middle .entry)) grams) (now (out .exit)) r ⌝ }
 {
     let a = blocks::put_text(out, at, owner);
     let b = blocks::put_text(out, a, middle);
@@ -26,8 +26,8 @@ pub fn put_lines(
     grams: &[i64],
     lines: &[usize],
 ) -> usize
-    requires { ⌜ Known (now middles) (now starts) (now grams) (now lines) × (length (now owner) ≤ longestOwner) × (at + longest ≤ length (now out)) ⌝ }
-    ensures { λ r. ⌜ Wrote (now (out .entry)) at (numbered (now (owner .entry)) (now (middles .entry)) (now (starts .entry)) (now (grams .entry)) (now (lines .entry))) (now (out .exit)) r × (r ≤ at + longest) ⌝ }
+    requires { ⌜ Known (now middles) (now starts) (now grams) (now lines) × (length (now owner) ≤ longestOwner) × (at + length (numbered (now owner) (now middles) (now starts) (now grams) (now lines)) ≤ length (now out)) ⌝ }
+    ensures { λ r. ⌜ Wrote (now (out .entry)) at (numbered (now (owner .entry)) (now (middles .entry)) (now (starts .entry)) (now (grams .entry)) (now (lines .entry))) (now (out .exit)) r ⌝ }
 {
     let mut next = at;
     let mut k = 0;

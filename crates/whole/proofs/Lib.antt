@@ -1,3 +1,5 @@
+pub mod Rooms
 pub mod FarmSteps
 pub mod RefusalLine
 pub mod FileSteps
+pub mod AnswerRoom

@@ -14,7 +14,7 @@ pub struct Answer {
 }
 
 // Room for the listing of any farm.
-pub const FARM_ROOM: usize = (farm::HERDS_MOST + 1) * listing::LONGEST;
+pub const FARM_ROOM: usize = farm::HERDS_MOST * listing::HERD_ROOM + listing::TOTALS_ROOM;
 
 // Room for the notes of any farm.
 pub const NOTES_ROOM: usize = noting::ROOM;

@@ -9,6 +9,7 @@ use lib.ListN.{length, getD}
 use Rattle.base.specs.Runs.{joined, starts}
 use Rattle.base.specs.Text.{bytes}
 use Rattle.base.proofs.Runs.{Run}
+use Rattle.base.proofs.Writes.{said}
 use Rattle.inputs.specs.declared.Kind.{Kind}
 use Rattle.farm.specs.Labels.{text}
 use Rattle.outputs.specs.Names.{rows, number}
@@ -17,7 +18,7 @@ use Rattle.listing.specs.HerdLines.{pathOf, linesOf}
 use Rattle.listing.specs.Numbered.{listed, ownerOf}
 use Rattle.listing.proofs.Answers.{part-is}
 use Rattle.listing.proofs.KindTables.{lines-run}
-use Rattle.listing.proofs.AsListed.{herd-known, herd-wrote}
+use Rattle.listing.proofs.AsListed.{herd-known, herd-is}
 use borrow.Author.Needs.{needs}
 use Rattle.listing.proofs.put_herd_lines.Statement.{statement}
 use Rattle.listing.proofs.put_herd_lines.Tie as tie
@@ -98,7 +99,12 @@ part-put-lines-end c = let r = run (c .before .before .before .before .before .b
 put-lines-requires : tie.Need-put-lines-requires
 put-lines-requires c κs =
     let n = c .before .before .before .before .before .before .before in
-    (herd-known (kind-of n) (grams-long (begin (n .before))) (run n .part-is), owner-short (n .before), search needs)
+    let s = begin (n .before) in
+    let a = s .args in (
+      herd-known (kind-of n) (grams-long s) (run n .part-is),
+      owner-short (n .before),
+      omega (arith, ap length (herd-is (a .label) (a .kind) (a .f) (owner-is (n .before)) (run n .part-is)), s .pre),
+    )
 
 same-length : tie.Need-same-length
 same-length c = search needs
@@ -108,7 +114,7 @@ returns c =
     let d = c .before .before in
     let n = d .before .before .before .before .before .before .before .before in
     let a = begin (n .before) .args in
-    (herd-wrote (a .label) (a .kind) (a .f) (owner-is (n .before)) (run n .part-is) (d .put-lines .ensures .0), d .put-lines .ensures .1)
+    said (herd-is (a .label) (a .kind) (a .f) (owner-is (n .before)) (run n .part-is)) (d .put-lines .ensures)
 
 pub put-herd-lines-spec : {M : Type 1} → statement M
 put-herd-lines-spec =

@@ -1,5 +1,6 @@
 -- `listing::put_total_lines` meets its contract: what is lent is the table of the totals' middles and their lines. Assumes nothing.
-use Rattle.listing.proofs.AsListed.{totals-known, totals-wrote}
+use Rattle.base.proofs.Writes.{said}
+use Rattle.listing.proofs.AsListed.{totals-known, totals-are}
 use borrow.Author.Needs.{needs}
 use Rattle.listing.proofs.put_total_lines.Statement.{statement}
 use Rattle.listing.proofs.put_total_lines.Tie as tie
@@ -20,13 +21,13 @@ slice-aggregate-put-lines-5 : tie.Need-slice-aggregate-put-lines-5
 slice-aggregate-put-lines-5 c = search needs
 
 put-lines-requires : tie.Need-put-lines-requires
-put-lines-requires c κs = (totals-known (search needs), search needs, search needs)
+put-lines-requires c κs = (totals-known (search needs), search needs, rw (totals-are _) (search needs))
 
 same-length : tie.Need-same-length
 same-length c = search needs
 
 returns : tie.Need-returns
-returns c = let d = c .before .before in (totals-wrote _ (d .put-lines .ensures .0), d .put-lines .ensures .1)
+returns c = said (totals-are _) (c .before .before .put-lines .ensures)
 
 pub put-total-lines-spec : {M : Type 1} → statement M
 put-total-lines-spec =

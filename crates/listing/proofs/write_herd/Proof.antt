@@ -12,7 +12,7 @@ same-length : tie.Need-same-length
 same-length c = search needs
 
 returns : tie.Need-returns
-returns c = let d = c .before .before in written refl (d .put-herd-lines .ensures .0) (search needs)
+returns c = let d = c .before .before in written refl (d .put-herd-lines .ensures) (search needs)
 
 slice-aggregate-put-herd-lines : tie.Need-slice-aggregate-put-herd-lines
 slice-aggregate-put-herd-lines c = search needs
@@ -33,7 +33,7 @@ returns-2 : tie.Need-returns-2
 returns-2 c =
     let d = c .before .before in
     let w = d .before .before .before .before .put-herd-lines2 .ensures in
-    handed refl (w .0) (search needs) (d .hand-over .ensures)
+    handed refl w (search needs) (d .hand-over .ensures)
 
 pub write-herd-spec : {M : Type 1} → statement M
 write-herd-spec =

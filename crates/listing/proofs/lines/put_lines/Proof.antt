@@ -1,15 +1,14 @@
--- `listing::lines::put_lines` meets its contract: what is still to be written is the lines of the numbers that are left, and each line takes
--- at most its room. Assumes nothing.
-use Prim.Native.Nat.{_+_, _-_, _*_, _≤_}
+-- `listing::lines::put_lines` meets its contract: what is still to be written is the lines of the numbers that are
+-- left. Assumes nothing.
+use Prim.Native.Nat.{_+_, _-_, _≤_}
 use native.Mathlib.Omega.{arith}
 use denote.Ref.{now}
 use lib.ListN.{length, getD, drop, length-take, length-drop}
 use mir.Facts.{toZ-ofZ}
 use Rattle.base.specs.Part.{part}
-use Rattle.listing.specs.Bounds.{longestLine}
 use Rattle.listing.specs.Numbered.{numbered}
 use Rattle.base.proofs.ToCome.{ToCome, begun}
-use Rattle.listing.proofs.LineByLine.{Stands, stands, line-put, all-put}
+use Rattle.listing.proofs.LineByLine.{Stands, stands, line-room, line-put, all-put}
 use borrow.Author.Needs.{needs, sfits-of}
 use Rattle.listing.proofs.lines.put_lines.Statement.{statement}
 use Rattle.listing.proofs.lines.put_lines.Tie as tie
@@ -18,13 +17,12 @@ abbrev Inv-loop : tie.InvT-loop
 Inv-loop out₀ at owner middles starts grams lines next₀ k₀ out next k =
     (k ≤ length lines)
     × ToCome out₀ at (numbered owner middles starts grams lines) out (numbered owner middles starts grams (drop k lines)) next
-    × (next ≤ at + k * longestLine)
 
 abbrev μ-loop : tie.MeasureT-loop
 μ-loop out₀ at owner middles starts grams lines next₀ k₀ out next k = length lines - k
 
 loop-holds : tie.Need-loop-holds Inv-loop μ-loop
-loop-holds c = (search needs, begun, search needs)
+loop-holds c = (search needs, begun)
 
 mul-n : tie.Need-mul-n Inv-loop μ-loop
 mul-n c = search needs
@@ -70,13 +68,15 @@ shared-slice-copy-out-put-line : tie.Need-shared-slice-copy-out-put-line Inv-loo
 shared-slice-copy-out-put-line c = let s = here (c .before .before .before .before .before) in search needs
 
 put-line-requires : tie.Need-put-line-requires Inv-loop μ-loop
+unfolding part
 put-line-requires c κs =
     let l = c .before .before .before .before .before .before in
     let s = here l in
-    let b = begin (l .before) in (
+    let b = begin (l .before) in
+    let g = toZ-ofZ (sfits-of (c .put-line-arg3 .given)) in (
       b .pre .1,
       simp (length-take, length-drop) (omega arith),
-      omega (arith, b .pre .0 .few, b .pre .2, l .before .loop .inv .1 .same, l .before .loop .inv .2),
+      line-room _ _ _ _ _ _ (l .loop-test .taken) _ g (l .before .loop .inv .1) (b .pre .2),
     )
 
 add-k : tie.Need-add-k Inv-loop μ-loop
@@ -90,17 +90,17 @@ unfolding part
 loop-again c =
     let p = c .before .before in
     let g = p .before in
-    let l = g .before .before .before .before .before .before in (
+    let l = g .before .before .before .before .before .before in
+    let e = toZ-ofZ (sfits-of (g .put-line-arg3 .given)) in (
       search needs,
-      line-put _ _ _ _ _ _ (l .loop-test .taken) _ (toZ-ofZ (sfits-of (g .put-line-arg3 .given))) (l .before .loop .inv .1) (p .put-line .ensures .0),
-      omega (arith, l .before .loop .inv .2, p .put-line .ensures .1),
+      line-put _ _ _ _ _ _ (l .loop-test .taken) _ e (l .before .loop .inv .1) (p .put-line .ensures),
     )
 
 same-length : tie.Need-same-length Inv-loop μ-loop
 same-length c = c .before .loop .inv .1 .same
 
 returns : tie.Need-returns Inv-loop μ-loop
-returns c = let l = c .before in (all-put _ _ _ _ _ _ (c .loop-test .left) (l .loop .inv .1), omega (arith, begin l .pre .0 .few, l .loop .inv .2))
+returns c = all-put _ _ _ _ _ _ (c .loop-test .left) (c .before .loop .inv .1)
 
 pub put-lines-spec : {M : Type 1} → statement M
 put-lines-spec =

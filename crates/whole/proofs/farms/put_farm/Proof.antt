@@ -3,7 +3,7 @@ use Prim.Native.Nat.{_-_}
 use mathlib.Core.Path.{_≡_}
 use lib.ListN.{length}
 use Rattle.farm.proofs.Left.{length-mapped}
-use Rattle.whole.proofs.FarmSteps.{Listing, asks, ends, farm-steps}
+use Rattle.whole.proofs.FarmSteps.{Listing, has-room, asks, ends, farm-steps}
 use borrow.Author.Needs.{needs}
 use Rattle.whole.proofs.farms.put_farm.Statement.{statement}
 use Rattle.whole.proofs.farms.put_farm.Tie as tie
@@ -37,7 +37,12 @@ figures-requires : tie.Need-figures-requires Inv-loop μ-loop
 figures-requires c κs = search (needs, farm-steps, length-mapped)
 
 put-herd-lines-requires : tie.Need-put-herd-lines-requires Inv-loop μ-loop
-put-herd-lines-requires c κs = search (needs, farm-steps, length-mapped)
+put-herd-lines-requires c κs =
+    let g = c .before in
+    let l = g .before .before .before in
+    let s = l .before .before .before .before in
+    has-room _ (s .pre .0) _ (s .pre .1) _ _ _ _ (l .before .loop .inv) (long s) (l .loop-test .taken) _ _
+    (g .before .typed-of .ensures) _ (g .figures .ensures)
 
 plus-requires : tie.Need-plus-requires Inv-loop μ-loop
 plus-requires c κs =
@@ -69,8 +74,8 @@ returns c =
     let w = c .before .before in
     let l = w .before .before .before in
     let s = l .before .before .before .before in
-    ends _ (s .pre .0) _ (s .pre .1) _ _ _ _ (l .before .loop .inv) (l .loop-test .left) _ (w .before .totals-from .ensures) _ _
-    (w .put-total-lines .ensures .0) (w .put-total-lines .ensures .1)
+    ends _ (s .pre .0) _ (s .pre .1) _ _ _ _ (l .before .loop .inv) (l .loop-test .left) _
+    (w .before .totals-from .ensures) _ _ (w .put-total-lines .ensures)
 
 pub put-farm-spec : {M : Type 1} → statement M
 put-farm-spec =

@@ -1,0 +1,107 @@
+-- How long lines and listings are, from how long their amounts are. Assumes nothing.
+use Prim.Native.Nat.{ℕ, _+_, _≤_}
+use Prim.Native.String.{String}
+use mathlib.Core.Path.{_≡_}
+use mathlib.Core.Bool.{Bool, true, false}
+use mathlib.Core.List.{List, [], _∷_, _++_}
+use native.Mathlib.Omega.{arith}
+use native.Mathlib.Nat.{le-trans}
+use lib.Dec.{leb→le}
+use lib.ListN.{length, getD, length-append}
+use lib.IntN.{ℤ}
+use Rattle.base.specs.Pick.{pick}
+use Rattle.base.specs.Text.{bytes}
+use Rattle.decimal.specs.Writing.{kilogramsOf}
+use Rattle.inputs.specs.declared.Kind.{Kind}
+use Rattle.inputs.specs.declared.Kind.the-variants.{Roughage, Cattle, Pigs}
+use Rattle.outputs.specs.declared.Figures.{Figures}
+use Rattle.outputs.specs.declared.Totals.{Totals}
+use Rattle.outputs.specs.Names.{number, totalNumber, totalTexts}
+use Rattle.outputs.specs.Grams.{at}
+use Rattle.listing.specs.Bounds.{longestLabel, longestField, nothing, amountRooms, totalRoom}
+use Rattle.listing.specs.Bounds.{herdRoom, totalsRoom}
+use Rattle.listing.specs.HerdLines.{linesOf}
+use Rattle.listing.specs.Listing.{hasComma, labelField, lineOf, each, moduleOf, herdLine, herdLines}
+use Rattle.listing.specs.Listing.{totalPath, totalLine, totalsListing}
+use Rattle.listing.specs.Numbered.{putTogether}
+
+-- ---- a line
+
+pub together-length : (owner middle : List ℕ) (g : ℤ)
+    → length (putTogether owner middle g) ≡ length owner + length middle + length (kilogramsOf g) + 2
+unfolding putTogether
+together-length owner middle g = simp length-append (omega arith)
+
+pub line-length : (label path name : List ℕ) (g : ℤ)
+    → length (lineOf label path name g)
+    ≡ length (labelField label) + length path + length name + length (kilogramsOf g) + 5
+unfolding lineOf
+line-length label path name g = simp length-append (omega arith)
+
+-- a label has at most two quotes more as a field
+field-length : (label : List ℕ) → length (labelField label) ≤ length label + 2
+unfolding labelField
+field-length label = go (hasComma label)
+  where
+    go : (b : Bool) → length (pick b (bytes "\"" ++ label ++ bytes "\"") label) ≤ length label + 2
+    go true = simp length-append (omega arith)
+    go false = omega arith
+
+-- ---- lines one after the other
+
+abbrev pub sumOf : {A : Type 0} → (A → ℕ) → List A → ℕ
+sumOf room [] = 0
+sumOf room (x ∷ xs) = room x + sumOf room xs
+
+module _ {A : Type 0} (f : A → List ℕ) (room : A → ℕ) where
+  each-fits : ((x : A) → length (f x) ≤ room x) → (xs : List A) → length (each f xs) ≤ sumOf room xs
+  each-fits fits [] = omega arith
+  each-fits fits (x ∷ xs) = let h = each-fits fits xs in omega (arith, length-append (f x) (each f xs), fits x)
+
+  pub each-fills : ((x : A) → room x ≤ length (f x)) → (xs : List A) → sumOf room xs ≤ length (each f xs)
+  each-fills fills [] = omega arith
+  each-fills fills (x ∷ xs) = let h = each-fills fills xs in omega (arith, length-append (f x) (each f xs), fills x)
+
+-- ---- a herd
+
+-- no amount is longer than its name has room for
+pub record Short (g : List ℤ) : Type 0 where
+  pub amount : (n : ℕ) → length (kilogramsOf (at g n)) ≤ getD amountRooms n nothing
+
+abbrev lineRoom : Kind → String → ℕ
+lineRoom k n = longestField + length (moduleOf k n) + length (bytes n) + getD amountRooms (number n) nothing + 5
+
+rooms : (k : Kind) → sumOf (lineRoom k) (linesOf k) ≤ herdRoom
+rooms Roughage = leb→le _ _ tt
+rooms Cattle = leb→le _ _ tt
+rooms Pigs = leb→le _ _ tt
+
+pub herd-short : (label : List ℕ) (k : Kind) (f : Figures) → length label ≤ longestLabel → Short (f .grams)
+    → length (herdLines label k f) ≤ herdRoom
+unfolding herdLines
+herd-short label k f h s = le-trans (each-fits (herdLine label k f) (lineRoom k) fits (linesOf k)) (rooms k)
+  where
+    fits : (n : String) → length (herdLine label k f n) ≤ lineRoom k n
+    fits n =
+        let g = at (f .grams) (number n) in
+        omega (arith, line-length label (moduleOf k n) (bytes n) g, field-length label, s .amount (number n))
+
+-- ---- the totals
+
+pub record TotalsShort (g : List ℤ) : Type 0 where
+  pub amount : (n : ℕ) → length (kilogramsOf (at g n)) ≤ totalRoom
+
+abbrev totalLineRoom : String → ℕ
+totalLineRoom n = length (bytes totalPath) + length (bytes n) + totalRoom + 5
+
+totals-rooms : sumOf totalLineRoom totalTexts ≤ totalsRoom
+totals-rooms = leb→le _ _ tt
+
+pub totals-short : (t : Totals) → TotalsShort (t .grams) → length (totalsListing t) ≤ totalsRoom
+unfolding totalsListing labelField hasComma
+totals-short t s = le-trans (each-fits (totalLine t) totalLineRoom fits totalTexts) totals-rooms
+  where
+    fits : (n : String) → length (totalLine t n) ≤ totalLineRoom n
+    fits n =
+        let g = at (t .grams) (totalNumber n) in
+        omega (arith, line-length [] (bytes totalPath) (bytes n) g, s .amount (totalNumber n))

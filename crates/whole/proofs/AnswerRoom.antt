@@ -1,0 +1,164 @@
+-- The room for an answer: it is enough for every accepted file, and not much larger than it has to be, since 64 herds
+-- of cattle, whose labels have to be quoted and whose figures are large, come within a kilobyte of it. Assumes nothing.
+use Prim.Native.Nat.{ℕ, zero, suc, _+_, _*_, _^_, _/_, _%_, _≤_}
+use Prim.Native.String.{String}
+use mathlib.Core.Path.{_≡_, refl}
+use mathlib.Core.Bool.{Bool, true, false}
+use mathlib.Core.List.{List, [], _∷_, _++_, map}
+use native.Mathlib.Nat.{le-trans, pow-suc, one-le-pow}
+use native.Mathlib.Omega.{arith}
+use borrow.Author.Tests.{ltb-true, ltb-false, leb-true}
+use lib.Dec.{leb, ltb, leb→le}
+use lib.ListN.{length, length-append}
+use lib.IntN.{ℤ, natAbs}
+use Rattle.base.specs.Pick.{pick}
+use Rattle.base.specs.Text.{bytes}
+use Rattle.base.specs.Part.{sameBytes}
+use Rattle.decimal.specs.Writing.{width, kilogramsOf}
+use Rattle.decimal.proofs.Widths.{whole-length, width-small, width-step}
+use Rattle.decimal.proofs.Kilograms.{thousandths-length, kilograms-length}
+use Rattle.inputs.specs.declared.Kind.the-variants.{Cattle}
+use Rattle.farm.specs.declared.Given.the-variants.{Value}
+use Rattle.farm.specs.declared.Slot.{Slot}
+use Rattle.farm.specs.declared.Herd.{Herd}
+use Rattle.farm.specs.declared.Farm.{Farm}
+use Rattle.farm.specs.declared.Checked.the-variants.{Accepted}
+use Rattle.farm.specs.Labels.{text, byteOk, labelOk, sameLabel, labelOf}
+use Rattle.checks.specs.Checks.{lacks, unfit, herdsOf, checkFarm}
+use Rattle.reader.specs.Files.{readOf}
+use Rattle.kinds.specs.Choices.{yardAt, floorAt}
+use Rattle.yard.specs.Yard.{«days_with_grazing_and_yard», shareLowered, «share_excretion_with_grazing», yardTime}
+use Rattle.pasture.specs.Pasture.{outdoorGrazingTime}
+use Rattle.typed.specs.Typed.{typedOf, outdoorOf, cattleOf}
+use Rattle.outputs.specs.declared.Totals.{Totals}
+use Rattle.outputs.specs.Names.{totalTexts}
+use Rattle.outputs.specs.Grams.{figure, total, byNumber, farmTotal, totalsOf}
+use Rattle.herd.specs.Herd.{figuresOf}
+use Rattle.model.specs.Answers.{herdFigures, farmAnswer}
+use Rattle.listing.specs.HerdLines.{linesOf}
+use Rattle.listing.specs.Listing.{hasComma, labelField, each, moduleOf, herdLine, herdLines}
+use Rattle.listing.specs.Listing.{totalPath, totalLine, totalsListing}
+use Rattle.listing.proofs.Lengths.{sumOf, line-length, each-fills}
+use Rattle.whole.specs.Lines.{listingOf, farmListing}
+use Rattle.whole.specs.Rooms.{farmRoom}
+use Rattle.whole.specs.Program.{outputOf, programOutput}
+use Rattle.whole.proofs.Rooms.{farm-fits}
+use Rattle.whole.proofs.FileSteps.{passes}
+
+pub answer-fits : (s : List ℕ) → readOf s .checked ≡ Accepted → length (programOutput s) ≤ farmRoom
+unfolding outputOf
+answer-fits s e = rw e (farm-fits (readOf s .farm) (passes s (readOf s) refl e))
+
+-- ---- the farm
+
+abbrev slot : ℕ → Slot
+slot v = record { given = Value v }
+
+-- 10000 head of 200 kg, TAN 100 percent; 292 yard days, roughage exclusively there, solid floor, free factor 0; 293
+-- days of 23.7 hours on pasture
+abbrev herd : ℕ → Herd
+herd i =
+    record {
+      label = labelOf (bytes "Herd, number, " ++ (48 + i / 10) ∷ (48 + i % 10) ∷ []);
+      kind = Cattle;
+      slots = slot 10000 ∷ slot 200000 ∷ slot 10000 ∷ slot 292 ∷ slot 3 ∷ slot 0 ∷ slot 0 ∷ slot 293 ∷ slot 237 ∷ [];
+    }
+
+abbrev herdsFrom : ℕ → ℕ → List Herd
+herdsFrom i zero = []
+herdsFrom i (suc k) = herd i ∷ herdsFrom (suc i) k
+
+abbrev pub longFarm : Farm
+longFarm = record { herds = herdsFrom 0 64; count = 64 }
+
+long-accepted : checkFarm longFarm ≡ Accepted
+unfolding checkFarm labelOk sameLabel sameBytes byteOk lacks unfit labelOf
+long-accepted = refl
+
+-- ---- how long an amount is at least: its digits, up to nine, counted by comparing
+
+abbrev digitsTo : ℕ → ℕ → ℕ
+digitsTo zero n = 1
+digitsTo (suc k) n = pick (leb (10 ^ suc k) n) (suc (suc k)) (digitsTo k n)
+
+one-digit : (n : ℕ) → 1 ≤ width n
+one-digit n = go (ltb n 10) refl
+  where
+    go : (t : Bool) → ltb n 10 ≡ t → 1 ≤ width n
+    go true e = omega (arith, width-small n (ltb-true n 10 e))
+    go false e = omega (arith, width-step n (ltb-false n 10 e))
+
+width-least : (k n : ℕ) → 10 ^ k ≤ n → suc k ≤ width n
+width-least zero n h = one-digit n
+width-least (suc k) n h =
+    let p : 10 ^ k * 10 ≤ n = rw (← pow-suc 10 k) h in
+    let q : 1 ≤ 10 ^ k = one-le-pow k 10 (omega arith) in
+    omega (arith, width-step n (omega arith), width-least k (n / 10) (omega arith))
+
+digits-least : (k n : ℕ) → digitsTo k n ≤ width n
+digits-least zero n = one-digit n
+digits-least (suc k) n = go (leb (10 ^ suc k) n) refl (digits-least k n)
+  where
+    go : (t : Bool) → leb (10 ^ suc k) n ≡ t → digitsTo k n ≤ width n → pick t (suc (suc k)) (digitsTo k n) ≤ width n
+    go true e h = width-least (suc k) n (leb-true (10 ^ suc k) n e)
+    go false e h = h
+
+abbrev amountLeast : ℤ → ℕ
+amountLeast z = digitsTo 8 (natAbs z / 1000) + 4
+
+amount-least : (z : ℤ) → amountLeast z ≤ length (kilogramsOf z)
+amount-least z =
+    let n = natAbs z / 1000 in
+    omega (arith, kilograms-length z, thousandths-length (natAbs z), whole-length n, digits-least 8 n)
+
+-- ---- the listing
+
+abbrev herdLeast : Herd → String → ℕ
+herdLeast h n = 18 + length (moduleOf Cattle n) + length (bytes n) + amountLeast (figure n (herdFigures h)) + 5
+
+herd-long : (i : ℕ) → 1306 ≤ length (listingOf (herd i))
+unfolding labelOf labelField hasComma herdLines typedOf outdoorOf cattleOf yardAt floorAt figuresOf yardTime outdoorGrazingTime «days_with_grazing_and_yard» shareLowered «share_excretion_with_grazing»
+herd-long i =
+    le-trans (leb→le 1306 (sumOf (herdLeast (herd i)) (linesOf Cattle)) tt)
+    (each-fills (herdLine label Cattle (herdFigures (herd i))) (herdLeast (herd i)) fills (linesOf Cattle))
+  where
+    label : List ℕ
+    label = text (herd i .label)
+
+    fills : (n : String) → herdLeast (herd i) n ≤ length (herdLine label Cattle (herdFigures (herd i)) n)
+    fills n =
+        let z = figure n (herdFigures (herd i)) in
+        omega (arith, line-length label (moduleOf Cattle n) (bytes n) z, amount-least z)
+
+herds-long : (i k : ℕ) → k * 1306 ≤ length (each listingOf (herdsFrom i k))
+herds-long i zero = omega arith
+herds-long i (suc k) =
+    let rest = each listingOf (herdsFrom (suc i) k) in
+    omega (arith, length-append (listingOf (herd i)) rest, herd-long i, herds-long (suc i) k)
+
+abbrev longTotals : Totals
+longTotals = totalsOf (map herdFigures (herdsOf longFarm))
+
+abbrev totalLeast : String → ℕ
+totalLeast n = length (bytes totalPath) + length (bytes n) + amountLeast (total n longTotals) + 5
+
+totals-long : 696 ≤ length (totalsListing longTotals)
+unfolding labelField hasComma totalsListing totalsOf byNumber farmTotal typedOf outdoorOf cattleOf yardAt floorAt figuresOf yardTime outdoorGrazingTime «days_with_grazing_and_yard» shareLowered «share_excretion_with_grazing»
+totals-long =
+    le-trans (leb→le 696 (sumOf totalLeast totalTexts) tt)
+    (each-fills (totalLine longTotals) totalLeast fills totalTexts)
+  where
+    fills : (n : String) → totalLeast n ≤ length (totalLine longTotals n)
+    fills n =
+        let z = total n longTotals in
+        omega (arith, line-length [] (bytes totalPath) (bytes n) z, amount-least z)
+
+farm-long : 84280 ≤ length (farmListing longFarm)
+unfolding farmListing farmAnswer
+farm-long =
+    let herds = each listingOf (herdsOf longFarm) in
+    rw long-accepted (omega (arith, length-append herds (totalsListing longTotals), herds-long 0 64, totals-long))
+
+-- an accepted farm's listing comes within a kilobyte of the room
+pub room-nearly-used : (checkFarm longFarm ≡ Accepted) × (farmRoom ≤ length (farmListing longFarm) + 1024)
+room-nearly-used = (long-accepted, omega (arith, farm-long))

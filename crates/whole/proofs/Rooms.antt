@@ -1,0 +1,203 @@
+-- How long an answer is at most: every amount of an accepted herd and of an accepted farm's totals is short, and so are
+-- their listings. Assumes nothing.
+use Prim.Native.Nat.{ℕ, zero, suc, _+_, _*_, _/_, _^_, _≤_, _<_}
+use mathlib.Core.Path.{_≡_, refl, sym, ap, _∙_}
+use mathlib.Core.Bool.{Bool, true, false, _&&_}
+use mathlib.Core.List.{List, [], _∷_, _++_, map}
+use native.Mathlib.Nat.{mul-zero, min-le-left}
+use native.Mathlib.Omega.{arith}
+use borrow.Author.Tests.{ltb-true, ltb-false, leb-true}
+use lib.Dec.{leb, ltb, leb→le}
+use lib.ListN.{length, getD, take, length-append, length-take, length-map}
+use lib.IntN.{ℤ, pos, natAbs, _+ℤ_}
+use Rattle.base.specs.Each.{Each, none, more}
+use Rattle.base.proofs.Clash.{clash}
+use Rattle.base.proofs.Each.{each-of, each-map}
+use Rattle.base.proofs.Runs.{all-getD}
+use Rattle.cut.specs.Total.{addUp, signedTotal}
+use Rattle.cut.proofs.Signed.{abs-add}
+use Rattle.decimal.specs.Writing.{width, wholeOf, thousandthsOf, sign, kilogramsOf}
+use Rattle.decimal.proofs.Kilograms.{kilograms-within}
+use Rattle.decimal.proofs.Signs.{sign-short}
+use Rattle.amounts.specs.Arithmetic.{cutting}
+use Rattle.kinds.specs.declared.Inputs.{Inputs}
+use Rattle.kinds.specs.declared.Inputs.the-variants as kinds
+use Rattle.kinds.specs.Sound.{Sound}
+use Rattle.farm.specs.declared.Label.{Label}
+use Rattle.farm.specs.declared.Herd.{Herd}
+use Rattle.farm.specs.declared.Farm.{Farm}
+use Rattle.farm.specs.declared.Checked.the-variants.{Accepted}
+use Rattle.farm.specs.Limits.{labelMost, herdsMost}
+use Rattle.farm.specs.Labels.{text, labelOk, allOk}
+use Rattle.checks.specs.Checks.{checkHerd, checkFarm, herdsOf}
+use Rattle.checks.proofs.Accepts.{accepted-herd, farm-count, farm-each}
+use Rattle.typed.specs.Typed.{typedOf}
+use Rattle.typed.proofs.Sound.{typed-sound}
+use Rattle.outputs.specs.declared.Figures.{Figures}
+use Rattle.outputs.specs.declared.Totals.{Totals}
+use Rattle.outputs.specs.Sections.{FiguresIn}
+use Rattle.outputs.specs.Names.{totals, addends}
+use Rattle.outputs.specs.Grams.{at, gramsOf, farmTotal, totalsOf, To}
+use Rattle.outputs.proofs.ByNumber.{by-number-at, by-number-past}
+use Rattle.herd.specs.Herd.{figuresIn, figuresOf}
+use Rattle.herd.proofs.Made.{made}
+use Rattle.herd.proofs.Bounds.{most, made-to, figures-to}
+use Rattle.model.specs.Answers.{herdFigures, farmAnswer}
+use Rattle.listing.specs.Bounds.{longestAmount, nothing, amountRooms, totalRoom, herdRoom, totalsRoom}
+use Rattle.listing.specs.Listing.{each, totalsListing}
+use Rattle.listing.proofs.Lengths.{Short, herd-short, TotalsShort, totals-short}
+use Rattle.whole.specs.Lines.{listingOf, farmListing}
+use Rattle.whole.specs.Rooms.{farmRoom}
+
+-- ---- a herd
+
+-- amounts by number, none longer than its room
+data Shorts : List ℕ → List ℤ → Type 0 where
+  end : Shorts [] []
+  next : {w : ℕ} {ws : List ℕ} {z : ℤ} {g : List ℤ} → length (kilogramsOf z) ≤ w → Shorts ws g → Shorts (w ∷ ws) (z ∷ g)
+
+short-at : {ws : List ℕ} {g : List ℤ} → Shorts ws g → (n : ℕ) → length (kilogramsOf (at g n)) ≤ getD ws n nothing
+unfolding kilogramsOf sign thousandthsOf wholeOf width
+short-at end n = leb→le _ _ tt
+short-at (next h s) zero = h
+short-at (next h s) (suc n) = short-at s n
+
+amount-short : {x : ℕ} → x ≤ most → length (kilogramsOf (pos x)) ≤ longestAmount
+unfolding sign
+amount-short {x} h = omega (arith, kilograms-within 6 (pos x) (omega arith))
+
+rest-short : (z : ℤ) → natAbs z ≤ most → length (kilogramsOf z) ≤ longestAmount + 1
+rest-short z h = omega (arith, kilograms-within 6 z (omega arith), sign-short z)
+
+none-short : {x : ℕ} → x ≡ 0 → length (kilogramsOf (pos x)) ≤ nothing
+unfolding kilogramsOf sign thousandthsOf wholeOf width
+none-short e = rw e (leb→le _ _ tt)
+
+-- no N2 comes from pasture, of whatever kind the herd is
+no-n2 : (i : Inputs) → figuresIn cutting i .grazing .«n2_ngrazing» ≡ 0
+no-n2 (kinds.Roughage r) = rw mul-zero
+no-n2 (kinds.Cattle c) = rw mul-zero
+no-n2 (kinds.Pigs p) = rw mul-zero
+
+shorts : (f : FiguresIn cutting) → To most (gramsOf f) → f .grazing .«n2_ngrazing» ≡ 0 → Shorts amountRooms (gramsOf f)
+shorts f to n2 =
+    next (amount-short (to .most 0))
+    (next (amount-short (to .most 1))
+    (next (amount-short (to .most 2))
+    (next (amount-short (to .most 3))
+    (next (amount-short (to .most 4))
+    (next (amount-short (to .most 5))
+    (next (amount-short (to .most 6))
+    (next (amount-short (to .most 7))
+    (next (amount-short (to .most 8))
+    (next (amount-short (to .most 9))
+    (next (none-short n2)
+    (next (amount-short (to .most 11))
+    (next (amount-short (to .most 12))
+    (next (amount-short (to .most 13))
+    (next (rest-short (f .grazing .«tan_remain_grazing») (to .most 14))
+    (next (amount-short (to .most 15))
+    (next (amount-short (to .most 16))
+    (next (amount-short (to .most 17))
+    (next (amount-short (to .most 18))
+    (next (amount-short (to .most 19)) end)))))))))))))))))))
+
+figures-short : (i : Inputs) → Sound i → Short (figuresOf i .grams)
+unfolding figuresOf
+figures-short i s = record { amount = short-at (shorts (figuresIn cutting i) (made-to (made s)) (no-n2 i)) }
+
+good-length : (l : Label) → labelOk l ≡ true → l .len ≤ labelMost
+unfolding labelOk
+good-length l e = go (leb 1 (l .len)) (leb (l .len) labelMost) (allOk (text l)) refl e
+  where
+    go : (a b c : Bool) → leb (l .len) labelMost ≡ b → (a && (b && c)) ≡ true → l .len ≤ labelMost
+    go true true c q t = leb-true (l .len) labelMost q
+    go true false c q t = clash cc
+    go false b c q t = clash cc
+
+label-short : (h : Herd) → checkHerd h ≡ Accepted → length (text (h .label)) ≤ labelMost
+label-short h e =
+    let l = h .label in
+    let good = good-length l (accepted-herd h e .label) in
+    omega (arith, good, length-take (l .len) (l .bytes), min-le-left (l .len) (length (l .bytes)))
+
+pub herd-fits : (h : Herd) → checkHerd h ≡ Accepted → length (listingOf h) ≤ herdRoom
+herd-fits h e =
+    let short = figures-short (typedOf h) (typed-sound h e) in
+    herd-short (text (h .label)) (h .kind) (herdFigures h) (label-short h e) short
+
+-- ---- the totals
+
+-- a sum of amounts that are at most k each
+sum-most : {A : Type 0} (f : A → ℤ) (k : ℕ) (t : ℤ) {l : List A} → Each (λ a. natAbs (f a) ≤ k) l
+    → natAbs (addUp _+ℤ_ f t l) ≤ natAbs t + k * length l
+sum-most f k t none = omega arith
+sum-most f k t (more {a} h hs) = let r = sum-most f k (t +ℤ f a) hs in omega (arith, abs-add t (f a))
+
+-- a total has at most three addends
+few : (t : ℕ) → length (getD addends t []) ≤ 3
+few t = leb→le _ _ (all-getD (λ (l : List ℕ). leb (length l) 3) addends tt [] tt t)
+
+module _ (l : List Figures) (room : length l ≤ herdsMost) (to : Each (λ (f : Figures). To most (f .grams)) l) where
+  figure-most : (n : ℕ) → natAbs (signedTotal (λ (f : Figures). at (f .grams) n) l) ≤ most * herdsMost
+  figure-most n =
+      omega (arith, sum-most (λ (f : Figures). at (f .grams) n) most (pos 0) (each-map (λ f t. t .most n) to))
+
+  total-most : (t : ℕ) → natAbs (farmTotal l t) ≤ most * herdsMost * 3
+  unfolding farmTotal
+  total-most t =
+      let figures = each-of figure-most (getD addends t []) in
+      let sums = sum-most (λ n. signedTotal (λ (f : Figures). at (f .grams) n) l) (most * herdsMost) (pos 0) figures in
+      omega (arith, few t, sums)
+
+  totals-most : (n : ℕ) → natAbs (at (totalsOf l .grams) n) ≤ most * herdsMost * 3
+  unfolding totalsOf
+  totals-most n = go (ltb n (length totals)) refl
+    where
+      go : (t : Bool) → ltb n (length totals) ≡ t → natAbs (at (totalsOf l .grams) n) ≤ most * herdsMost * 3
+      go true e = rw (by-number-at (farmTotal l) (length totals) n (ltb-true n (length totals) e)) (total-most n)
+      go false e = rw (by-number-past (farmTotal l) (length totals) n (ltb-false n (length totals) e)) (omega arith)
+
+  totals-amounts : TotalsShort (totalsOf l .grams)
+  totals-amounts = record { amount = λ n. short n }
+    where
+      short : (n : ℕ) → length (kilogramsOf (at (totalsOf l .grams) n)) ≤ totalRoom
+      short n =
+          let z = at (totalsOf l .grams) n in
+          omega (arith, kilograms-within 8 z (omega (arith, totals-most n)), sign-short z)
+
+herds-most : {l : List Herd} → Each (λ h. checkHerd h ≡ Accepted) l
+    → Each (λ (f : Figures). To most (f .grams)) (map herdFigures l)
+herds-most none = none
+herds-most (more {a} p ps) = more (figures-to (typedOf a) (typed-sound a p)) (herds-most ps)
+
+-- a farm that is accepted has at most 64 herds
+herds-few : (f : Farm) → checkFarm f ≡ Accepted → length (herdsOf f) ≤ herdsMost
+herds-few f e =
+    omega (arith, length-take (f .count) (f .herds), min-le-left (f .count) (length (f .herds)), farm-count f e)
+
+pub totals-fit : (f : Farm) → checkFarm f ≡ Accepted → length (totalsListing (farmAnswer f .totals)) ≤ totalsRoom
+unfolding farmAnswer
+totals-fit f e =
+    let l = map herdFigures (herdsOf f) in
+    let few : length l ≤ herdsMost = omega (arith, length-map (herdsOf f) herdFigures, herds-few f e) in
+    rw e (totals-short _ (totals-amounts l few (herds-most (farm-each f e))))
+
+-- ---- a farm
+
+-- as many entries as fit the room, each of which fits its own
+each-fits : {A : Type 0} (f : A → List ℕ) (k : ℕ) {l : List A} → Each (λ a. length (f a) ≤ k) l
+    → length (each f l) ≤ k * length l
+each-fits f k none = omega arith
+each-fits f k (more {a} {l} h hs) = let r = each-fits f k hs in omega (arith, length-append (f a) (each f l))
+
+pub farm-fits : (f : Farm) → checkFarm f ≡ Accepted → length (farmListing f) ≤ farmRoom
+unfolding farmListing
+farm-fits f e =
+    omega (
+      arith,
+      length-append (each listingOf (herdsOf f)) (totalsListing (farmAnswer f .totals)),
+      each-fits listingOf herdRoom (each-map herd-fits (farm-each f e)),
+      herds-few f e,
+      totals-fit f e,
+    )
