@@ -1,10 +1,10 @@
--- `test_vectors::run_one` is safe: the file's part of the buffer is within it.
+-- `packs::next_file` is safe: the file's part of the buffer is within it.
 -- Assumes nothing.
 use mathlib.Core.Path.{sym}
 use lib.Seq.{length-take-le}
 use borrow.Author.Needs.{needs}
-use Rattle.test_vectors.proofs.run_one.Statement.{statement}
-use Rattle.test_vectors.proofs.run_one.Tie as tie
+use Rattle.packs.proofs.next_file.Statement.{statement}
+use Rattle.packs.proofs.next_file.Tie as tie
 
 slice-aggregate-filled : tie.Need-slice-aggregate-filled
 slice-aggregate-filled c = search needs
@@ -36,23 +36,14 @@ same-length c = search needs
 returns-3 : tie.Need-returns-3
 returns-3 c = search needs
 
-part-of-requires : tie.Need-part-of-requires
-part-of-requires c κs = search needs
-
-print-figures-requires : tie.Need-print-figures-requires
-print-figures-requires c κs = search needs
-
-print-notes-requires : tie.Need-print-notes-requires
-print-notes-requires c κs = search needs
-
 same-length-2 : tie.Need-same-length-2
 same-length-2 c = search needs
 
 returns-4 : tie.Need-returns-4
 returns-4 c = search needs
 
-pub run-one-spec : {M : Type 1} → statement M
-run-one-spec =
+pub next-file-spec : {M : Type 1} → statement M
+next-file-spec =
     tie.close
     (tie.spec
     slice-aggregate-filled
@@ -65,8 +56,5 @@ run-one-spec =
     filled-requires-2
     same-length
     returns-3
-    part-of-requires
-    print-figures-requires
-    print-notes-requires
     same-length-2
     returns-4)
