@@ -1,0 +1,5 @@
+pub mod MonthSteps
+pub mod DateSteps
+pub mod Years
+pub mod DateTexts
+pub mod Rows

@@ -1,0 +1,26 @@
+-- `calendar::is_leap` meets its contract, by its tests. Assumes nothing.
+use Rattle.base.proofs.Picks.{picks}
+use Rattle.calendar.specs.Calendar.{isLeap}
+use borrow.Author.Needs.{needs}
+use Rattle.calendar.proofs.is_leap.Statement.{statement}
+use Rattle.calendar.proofs.is_leap.Tie as tie
+
+returns : tie.Need-returns
+unfolding isLeap
+returns c = search (needs, picks)
+
+returns-2 : tie.Need-returns-2
+unfolding isLeap
+returns-2 c = search (needs, picks)
+
+returns-3 : tie.Need-returns-3
+unfolding isLeap
+returns-3 c = search (needs, picks)
+
+pub is-leap-spec : {M : Type 1} → statement M
+is-leap-spec =
+    tie.close
+    (tie.spec
+    returns
+    returns-2
+    returns-3)

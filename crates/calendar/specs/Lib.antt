@@ -1,0 +1,4 @@
+pub mod Calendar
+pub mod Texts
+pub mod Following
+pub mod Reading

@@ -1,0 +1,4 @@
+pub mod DaySteps
+pub mod TallySteps
+pub mod LogSteps
+pub mod Tallied
