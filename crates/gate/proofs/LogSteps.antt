@@ -14,6 +14,7 @@ use Rattle.csv.specs.declared.Step.{Step}
 use Rattle.csv.specs.declared.Step.the-variants.{Record, Broken, End}
 use Rattle.csv.specs.Reading.{Reading, readingOf, partsOf}
 use Rattle.csv.specs.Places.{partsAt, stepOf}
+use Rattle.csv.specs.Outcome.{ReadAs}
 use Rattle.csv.proofs.Steps.{Says, says, next-reads, end-read}
 use Rattle.calendar.specs.declared.Date.{Date}
 use Rattle.calendar.specs.declared.Due.{Due}
@@ -158,6 +159,7 @@ module _ (s : List ℕ) (place : ReaderPlace) (p : Progress) (n : ℕ) (x : Reac
       pub log-further : {q : Progress} → t ≡ Further q → Reached s next q (n + 1)
       log-further {q} e = go y refl
         where
+          r : ReadAs s (place .at) f next
           r = next-reads s (place .at) (sym w ∙ z)
 
           more : (d : Day) → y ≡ reads.Says d → q ≡ progress (dueAfter (d .date)) (withDay (p .tally) d) → Reached s next q (n + 1)

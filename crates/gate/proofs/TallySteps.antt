@@ -38,16 +38,16 @@ pub ruleset tally-steps = (not-counted, is-counted, outdoors-is)
 
 -- ---- a day more is one more at most, and its hours more
 
-pub record Grown (t : Tally) (d : Day) : Type 0 where
-  pub grazing : withDay t d .«grazing_days» ≤ t .«grazing_days» + 1
-  pub yard : withDay t d .«yard_days» ≤ t .«yard_days» + 1
-  pub hours : withDay t d .pasture ≤ t .pasture + d .pasture
+pub record Grown (t : Tally) (d : Day) (r : Tally) : Type 0 where
+  pub grazing : r .«grazing_days» ≤ t .«grazing_days» + 1
+  pub yard : r .«yard_days» ≤ t .«yard_days» + 1
+  pub hours : r .pasture ≤ t .pasture + d .pasture
 
-pub grown : (t : Tally) (d : Day) → Grown t d
+pub grown : (t : Tally) (d : Day) → Grown t d (withDay t d)
 unfolding withDay
-grown t d = go (isLeapDay (d .date)) refl
+grown t d = go (isLeapDay (d .date))
   where
-    go : (b : Bool) → isLeapDay (d .date) ≡ b → Grown t d
-    go true e = rw e (record { grazing = omega arith; yard = omega arith; hours = omega arith })
-    go false e =
-        rw e (record { grazing = omega (arith, one-small (d .pasture) refl); yard = omega (arith, one-small (d .yard) refl); hours = omega arith })
+    go : (b : Bool) → Grown t d (pick b t (tally (t .«grazing_days» + oneIf (d .pasture)) (t .«yard_days» + oneIf (d .yard)) (t .pasture + d .pasture)))
+    go true = record { grazing = omega arith; yard = omega arith; hours = omega arith }
+    go false =
+        record { grazing = omega (arith, one-small (d .pasture) refl); yard = omega (arith, one-small (d .yard) refl); hours = omega arith }

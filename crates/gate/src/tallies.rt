@@ -3,7 +3,8 @@ use crate::Day;
 use crate::Outdoors;
 use crate::Tally;
 ghost use mathlib.Core.Path.{_≡_};
-ghost use Rattle.gate.specs.Tallies.{oneIf, withDay, meanOf, outdoorsBy, Roomy};
+ghost use Rattle.gate.specs.Outdoors.{meanOf};
+ghost use Rattle.gate.specs.Tallies.{oneIf, withDay, outdoorsBy, Roomy};
 
 // 1 for a day with hours.
 fn one_if(hours: u8) -> u32
