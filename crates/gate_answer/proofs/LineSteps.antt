@@ -1,0 +1,59 @@
+-- The lines of an answer, from the calls that put them: each law in the form that a place of src/lib.rt wants. Assumes nothing.
+use Prim.Native.Nat.{ℕ, _+_, _/_, _%_, _^_, _≤_, _<_}
+use mathlib.Core.Path.{_≡_, refl, sym, ap, _∙_}
+use mathlib.Core.List.{List, [], _∷_, _++_}
+use native.Mathlib.Omega.{arith}
+use lib.ListN.{length, replicate}
+use lib.Seq.{sets}
+use Rattle.base.specs.Text.{bytes}
+use Rattle.base.specs.Wrote.{Wrote}
+use Rattle.base.proofs.Writes.{said}
+use Rattle.decimal.specs.Writing.{wholeOf}
+use Rattle.decimal.proofs.Widths.{whole-length}
+use Rattle.decimal.proofs.Kilograms.{whole-short}
+use Rattle.gate.specs.declared.Outdoors.{Outdoors}
+use Rattle.gate.specs.declared.LogFault.{LogFault}
+use Rattle.gate.specs.declared.LogAnswer.{LogAnswer}
+use Rattle.gate.specs.declared.LogAnswer.the-variants.{Gives, Refused}
+use Rattle.gate.specs.Refusals.{number}
+use Rattle.gate.specs.Logs.{readLog}
+use Rattle.gate_answer.specs.declared.PutAnswer.{PutAnswer}
+use Rattle.gate_answer.specs.Lines.{_and_, outdoorsLines, refusalLine, answerLines}
+use Rattle.gate_answer.specs.Program.{answerRoom, logOutput, answerOf}
+
+-- a number of 64 bits has at most 20 digits
+pub whole-text : (n : ℕ) → n < 2 ^ 64 → length (wholeOf n) ≤ 20
+whole-text n h = omega (arith, whole-length n, whole-short n h)
+
+pub outdoors-is : (o : Outdoors)
+    → ("grazing_days," and o .«grazing_days»)
+    ++ ("\r\nyard_days," and o .«yard_days»)
+    ++ ("\r\ngrazing_hours," and (o .«grazing_hours» / 10))
+    ++ ("." and (o .«grazing_hours» % 10))
+    ++ bytes "\r\n"
+    ≡ outdoorsLines o
+unfolding outdoorsLines
+outdoors-is o = refl
+
+pub refusal-is : (fault : LogFault) (n r : ℕ) → n ≡ number fault → ("refused," and n) ++ ("," and r) ++ bytes "\r\n" ≡ refusalLine fault r
+unfolding refusalLine
+refusal-is fault n r e = rw e
+
+-- ---- by the answer
+
+module _ {a : LogAnswer} {old new : List ℕ} {r : ℕ} where
+  pub lines-given : {o : Outdoors} → a ≡ Gives o → Wrote old 0 (outdoorsLines o) new r → Wrote old 0 (answerLines a) new r
+  lines-given e w = rw e w
+
+  pub lines-refused : {fault : LogFault} {n : ℕ} → a ≡ Refused fault n → Wrote old 0 (refusalLine fault n) new r → Wrote old 0 (answerLines a) new r
+  lines-refused e w = rw e w
+
+pub answer-is : (s : List ℕ) {a : LogAnswer} → a ≡ readLog s → {new : List ℕ} {r : ℕ} → Wrote (replicate answerRoom 0) 0 (answerLines a) new r
+    → record { answer = a; bytes = new; length = r } ≡ answerOf s
+unfolding answerOf logOutput
+answer-is s {a} q {new} {r} w =
+    let b : new ≡ sets (replicate answerRoom 0) 0 (answerLines (readLog s)) = w .bytes ∙ ap (λ (x : LogAnswer). sets (replicate answerRoom 0) 0 (answerLines x)) q in
+    let l : r ≡ length (answerLines (readLog s)) = w .past ∙ omega arith ∙ ap (λ (x : LogAnswer). length (answerLines x)) q in
+    rw (q, b, l)
+
+pub ruleset line-steps = (lines-given, lines-refused, answer-is)

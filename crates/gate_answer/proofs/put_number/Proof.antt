@@ -1,0 +1,20 @@
+-- `gate_answer::put_number` meets its contract: the number has at most 20 digits. Assumes nothing.
+use native.Mathlib.Omega.{arith}
+use Rattle.base.proofs.Writes.{joined}
+use Rattle.gate_answer.proofs.LineSteps.{whole-text}
+use borrow.Author.Needs.{needs}
+use Rattle.gate_answer.proofs.put_number.Statement.{statement}
+use Rattle.gate_answer.proofs.put_number.Tie as tie
+
+pub put-number-spec : {M : Type 1} → statement M
+put-number-spec =
+    tie.close
+    (tie.spec
+    (λ c κs. search needs)
+    (λ c κs. omega (arith, whole-text (c .before .before .before .before .before .before .before .args .n) (search needs)))
+    (λ c. search needs)
+    (λ c. 
+      let w = c .before .before in
+      let p = w .before .before .before .before in
+      let s = p .before .before .before .before in
+      (joined (p .put .ensures) (w .put-whole .ensures), omega (arith, whole-text (s .args .n) (search needs)))))

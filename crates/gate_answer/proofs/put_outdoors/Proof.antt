@@ -1,0 +1,36 @@
+-- `gate_answer::put_outdoors` meets its contract, by its calls, one after the other. Assumes nothing.
+use Rattle.base.proofs.Writes.{said, joined}
+use Rattle.gate_answer.proofs.LineSteps.{outdoors-is}
+use borrow.Author.Needs.{needs}
+use Rattle.gate_answer.proofs.put_outdoors.Statement.{statement}
+use Rattle.gate_answer.proofs.put_outdoors.Tie as tie
+
+pub put-outdoors-spec : {M : Type 1} → statement M
+put-outdoors-spec =
+    tie.close
+    (tie.spec
+    (λ c. search needs)
+    (λ c. search needs)
+    (λ c κs. search needs)
+    (λ c. search needs)
+    (λ c. search needs)
+    (λ c κs. search needs)
+    (λ c. search needs)
+    (λ c. search needs)
+    (λ c κs. search needs)
+    (λ c. search needs)
+    (λ c. search needs)
+    (λ c κs. search needs)
+    (λ c. search needs)
+    (λ c κs. search needs)
+    (λ c. search needs)
+    (λ c. 
+      let e = c .before .before in
+      let t = e .before .before .before .before .before in
+      let h = t .before .before .before .before .before .before in
+      let y = h .before .before .before .before .before .before in
+      let g = y .before .before .before .before .before .before in
+      said (outdoors-is _)
+      (joined
+      (joined (joined (joined (g .put-number .ensures .0) (y .put-number2 .ensures .0)) (h .put-number3 .ensures .0)) (t .put-number4 .ensures .0))
+      (e .put .ensures))))

@@ -1,0 +1,25 @@
+-- What the program prints for a gate's log. To be believed: `logOutput`; the rest says how the code hands it over.
+use Prim.Native.Nat.{ℕ}
+use mathlib.Core.List.{List}
+use lib.ListN.{length, replicate}
+use lib.Seq.{sets}
+use Rattle.gate.specs.Logs.{readLog}
+use Rattle.gate_answer.specs.declared.PutAnswer.{PutAnswer}
+use Rattle.gate_answer.specs.Lines.{answerLines}
+
+unfoldable pub logOutput : List ℕ → List ℕ
+logOutput s = answerLines (readLog s)
+
+-- ---- how the code hands it over; no reader has to believe it
+
+-- the digits that a number of 64 bits has at most
+abbrev pub digitsMost : ℕ
+digitsMost = 20
+
+-- longer than any answer
+abbrev pub answerRoom : ℕ
+answerRoom = 192
+
+-- the answer, and its bytes before zeros
+unfoldable pub answerOf : List ℕ → PutAnswer
+answerOf s = record { answer = readLog s; bytes = sets (replicate answerRoom 0) 0 (logOutput s); length = length (logOutput s) }
