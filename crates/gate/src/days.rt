@@ -14,7 +14,7 @@ const FIELDS: usize = 3;
 const DECIMALS: usize = 1;
 
 // A day's hours on pasture and on the yard.
-enum Hours {
+pub enum Hours {
     Are(u8, u8),
     Unfit,
 }

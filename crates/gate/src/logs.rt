@@ -18,7 +18,7 @@ ghost use Rattle.gate.specs.Tallies.{Roomy};
 ghost use Rattle.gate.specs.Logs.{takenBy, nothingRead, finished, readFrom, logMost, readLog};
 
 // What a record does: it takes reading further, or something is wrong with it.
-enum Taken {
+pub enum Taken {
     Further(Progress),
     Wrong(LogFault),
 }

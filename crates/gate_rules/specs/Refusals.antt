@@ -1,0 +1,50 @@
+-- 02, W10, Refusals: when each applies, said of a log's records and not of how they are read, and which is the first. proofs/Refuses.antt shows
+-- that the reader gives exactly that one. To be believed.
+use Prim.Native.Nat.{ℕ, _+_, _<_, _≤_}
+use mathlib.Core.Path.{_≡_}
+use mathlib.Core.List.{List, []}
+use lib.ListN.{length}
+use Rattle.csv.specs.Grammar.{FileOf, Breaks}
+use Rattle.rules.specs.Lists.{Last}
+use Rattle.rules.specs.Rules.{Record}
+use Rattle.rules.specs.Refusals.{RecordAt}
+use Rattle.calendar.specs.declared.Date.{Date}
+use Rattle.calendar.specs.Calendar.{newYear, nextDate, IsEve}
+use Rattle.calendar.specs.Texts.{IsDate}
+use Rattle.gate.specs.declared.LogFault.{LogFault}
+use Rattle.gate.specs.declared.LogFault.the-variants.{LogTooLong, RecordBroken, NotThreeFields, BadHours, WrongDate}
+use Rattle.gate.specs.Refusals.{number}
+use Rattle.gate_rules.specs.Rules.{dateText, HoursAre, logMost}
+
+-- ---- 3, 7 and 14, of the record cs that stands behind these
+
+-- the date that has to come behind these records: 1 January of any year at the front, else the day after that of the record before, to 31 December
+pub data DueAfter (before : List Record) : Date → Type 0 where
+  new-year : {y : ℕ} → before ≡ [] → DueAfter before (newYear y)
+  next : {r : Record} {d : Date} → Last before r → IsDate (dateText r) d → (IsEve d → ⊥) → DueAfter before (nextDate d)
+
+pub data Applies (before : List Record) (cs : Record) : LogFault → Type 0 where
+  not-three-fields : (length cs ≡ 3 → ⊥) → Applies before cs NotThreeFields
+  bad-hours : ((p q : ℕ) → HoursAre cs p q → ⊥) → Applies before cs BadHours
+  wrong-date : ((d : Date) → IsDate (dateText cs) d → DueAfter before d → ⊥) → Applies before cs WrongDate
+
+-- ---- a log's refusals
+
+-- the refusal applies to the log, with this record number; 14 with 0 for "a log that ends before 31 December, an empty one too"
+pub data AppliesAt (s : List ℕ) : ℕ → LogFault → Type 0 where
+  too-long : logMost < length s → AppliesAt s 0 LogTooLong
+  broken : {rs : List Record} → Breaks rs s → AppliesAt s (length rs + 1) RecordBroken
+  wrong : {before : List Record} {cs : Record} {fault : LogFault} → RecordAt s before cs → Applies before cs fault → AppliesAt s (length before + 1) fault
+  ends-early : {rs : List Record} → FileOf rs s → ((r : Record) (d : Date) → Last rs r → IsDate (dateText r) d → IsEve d → ⊥) → AppliesAt s 0 WrongDate
+
+-- 1 before all; then records from the front, in each 2, 3, 7, 14; then the log's end
+pub data Sooner : ℕ → LogFault → ℕ → LogFault → Type 0 where
+  too-long-first : {m n : ℕ} {fault : LogFault} → number LogTooLong < number fault → Sooner m LogTooLong n fault
+  from-the-front : {m n : ℕ} {fault other : LogFault} → 1 ≤ m → m < n → Sooner m fault n other
+  in-that-order : {n : ℕ} {fault other : LogFault} → 1 ≤ n → number fault < number other → Sooner n fault n other
+  then-the-end : {m : ℕ} {fault : LogFault} → 1 ≤ m → Sooner m fault 0 WrongDate
+
+-- the first refusal: it applies, and none that applies is sooner
+pub record First (s : List ℕ) (n : ℕ) (fault : LogFault) : Type 0 where
+  pub applies : AppliesAt s n fault
+  pub none-sooner : (m : ℕ) (other : LogFault) → AppliesAt s m other → Sooner m other n fault → ⊥
