@@ -7,7 +7,7 @@ use mathlib.Core.Bool.{Bool, true, false}
 use mathlib.Core.List.{List, [], _∷_, _++_}
 use native.Mathlib.Omega.{arith}
 use lib.Dec.{leb, ltb, leb→le}
-use lib.ListN.{getD, take, List·getD-eq-default}
+use lib.ListN.{length, getD, take, List·getD-eq-default}
 use borrow.Author.Tests.{leb-true, leb-false, ltb-true, ltb-false, lt-ltb, le-ltb}
 use Rattle.base.specs.Pick.{pick}
 use Rattle.base.specs.Each.{Each}
@@ -280,7 +280,32 @@ eve-exactly y n = (λ e. to e, λ e. from e)
         one d p v =
             ap (λ (n : ℕ). date n (d .month) (d .day)) p ∙ ap (λ (n : ℕ). date y n (d .day)) (v .december) ∙ ap (λ (n : ℕ). date y 12 n) (v .last)
 
+-- ---- 29 February
+
+module _ (y : ℕ) (leap : isLeap y ≡ true) where
+  february : daysIn y 2 ≡ 29
+  unfolding daysIn
+  february = simp (daysIn, leap)
+
+  in-february : (n k : ℕ) → k + n ≤ 29 → after n (date y 2 k) ≡ date y 2 (k + n)
+  in-february zero k h = let s : k ≡ k + 0 = omega arith in ap (date y 2) s
+  in-february (suc n) k h =
+      let s : k + 1 + n ≡ k + suc n = omega arith in
+      ap (after n) (next-in-month (date y 2 k) (omega (arith, february))) ∙ in-february n (k + 1) (omega arith) ∙ ap (date y 2) s
+
+  january : after 31 (newYear y) ≡ date y 2 1
+  unfolding nextDate daysIn
+  january = refl
+
+  -- in a leap year the date of the sixtieth day is 29 February
+  pub leap-day : after 59 (newYear y) ≡ date y 2 29
+  leap-day = after-plus 31 28 (newYear y) ∙ ap (after 28) january ∙ in-february 28 1 (omega arith)
+
 -- ---- the dates one after the other
+
+pub dates-length : (n : ℕ) (d : Date) → length (datesFrom n d) ≡ n
+dates-length zero d = refl
+dates-length (suc n) d = ap suc (dates-length n (nextDate d))
 
 -- the dates of some days are those of one day less, and then the one so many days later
 pub dates-last : (k : ℕ) (d : Date) → datesFrom (suc k) d ≡ datesFrom k d ++ (after k d ∷ [])

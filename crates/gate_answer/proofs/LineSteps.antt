@@ -1,7 +1,7 @@
 -- The lines of an answer, from the calls that put them: each law in the form that a place of src/lib.rt wants. Assumes nothing.
 use Prim.Native.Nat.{ℕ, _+_, _/_, _%_, _^_, _≤_, _<_}
 use mathlib.Core.Path.{_≡_, refl, sym, ap, _∙_}
-use mathlib.Core.List.{List, [], _∷_, _++_}
+use mathlib.Core.List.{List, [], _∷_, _++_, append-assoc}
 use native.Mathlib.Omega.{arith}
 use lib.ListN.{length, replicate}
 use lib.Seq.{sets}
@@ -18,24 +18,30 @@ use Rattle.gate.specs.declared.LogAnswer.the-variants.{Gives, Refused}
 use Rattle.gate.specs.Refusals.{number}
 use Rattle.gate.specs.Logs.{readLog}
 use Rattle.gate_answer.specs.declared.PutAnswer.{PutAnswer}
-use Rattle.gate_answer.specs.Lines.{_and_, outdoorsLines, refusalLine, answerLines}
+use Rattle.gate_answer.specs.Lines.{outdoorsLines, refusalLine, answerLines}
 use Rattle.gate_answer.specs.Program.{answerRoom, logOutput, answerOf}
 
 -- a number of 64 bits has at most 20 digits
 pub whole-text : (n : ℕ) → n < 2 ^ 64 → length (wholeOf n) ≤ 20
 whole-text n h = omega (arith, whole-length n, whole-short n h)
 
+-- the lines, by the pieces in which the code puts them: a text, and a number behind it
+regroup : (A a B b C c D d E : List ℕ) → (A ++ a) ++ (B ++ b) ++ (C ++ c) ++ (D ++ d) ++ E ≡ A ++ (a ++ (B ++ (b ++ (C ++ ((c ++ (D ++ d)) ++ E)))))
+regroup A a B b C c D d E = simp append-assoc
+
 pub outdoors-is : (o : Outdoors)
-    → ("grazing_days," and o .«grazing_days»)
-    ++ ("\r\nyard_days," and o .«yard_days»)
-    ++ ("\r\ngrazing_hours," and (o .«grazing_hours» / 10))
-    ++ ("." and (o .«grazing_hours» % 10))
+    → (bytes "grazing_days," ++ wholeOf (o .«grazing_days»))
+    ++ (bytes "\r\nyard_days," ++ wholeOf (o .«yard_days»))
+    ++ (bytes "\r\ngrazing_hours," ++ wholeOf (o .«grazing_hours» / 10))
+    ++ (bytes "." ++ wholeOf (o .«grazing_hours» % 10))
     ++ bytes "\r\n"
     ≡ outdoorsLines o
 unfolding outdoorsLines
-outdoors-is o = refl
+outdoors-is o =
+    regroup (bytes "grazing_days,") (wholeOf (o .«grazing_days»)) (bytes "\r\nyard_days,") (wholeOf (o .«yard_days»)) (bytes "\r\ngrazing_hours,")
+    (wholeOf (o .«grazing_hours» / 10)) (bytes ".") (wholeOf (o .«grazing_hours» % 10)) (bytes "\r\n")
 
-pub refusal-is : (fault : LogFault) (n r : ℕ) → n ≡ number fault → ("refused," and n) ++ ("," and r) ++ bytes "\r\n" ≡ refusalLine fault r
+pub refusal-is : (fault : LogFault) (n r : ℕ) → n ≡ number fault → (bytes "refused," ++ wholeOf n) ++ (bytes "," ++ wholeOf r) ++ bytes "\r\n" ≡ refusalLine fault r
 unfolding refusalLine
 refusal-is fault n r e = rw e
 

@@ -2,7 +2,7 @@
 -- "`refused,NUMBER,RECORD` and CRLF". To be believed.
 use Prim.Native.Nat.{ℕ, _/_, _%_}
 use Prim.Native.String.{String}
-use mathlib.Core.List.{List, _++_}
+use mathlib.Core.List.{List, [], _++_}
 use Rattle.base.specs.Text.{bytes}
 use Rattle.decimal.specs.Writing.{wholeOf}
 use Rattle.gate.specs.declared.Outdoors.{Outdoors}
@@ -11,21 +11,22 @@ use Rattle.gate.specs.declared.LogAnswer.{LogAnswer}
 use Rattle.gate.specs.declared.LogAnswer.the-variants.{Gives, Refused}
 use Rattle.gate.specs.Refusals.{number}
 
--- a text, and a whole number behind it
-infix 70 _and_
-abbrev pub _and_ : String → ℕ → List ℕ
-text and n = bytes text ++ wholeOf n
+-- tenths, with one decimal
+abbrev pub tenthsOf : ℕ → List ℕ
+tenthsOf n = wholeOf (n / 10) ++ (bytes "." ++ wholeOf (n % 10))
+
+-- a line of a name and a value, and what comes behind it
+abbrev pub line : String → List ℕ → List ℕ → List ℕ
+line name value behind = bytes name ++ (bytes "," ++ (value ++ (bytes "\r\n" ++ behind)))
 
 unfoldable pub outdoorsLines : Outdoors → List ℕ
 outdoorsLines o =
-    ("grazing_days," and o .«grazing_days»)
-    ++ ("\r\nyard_days," and o .«yard_days»)
-    ++ ("\r\ngrazing_hours," and (o .«grazing_hours» / 10))
-    ++ ("." and (o .«grazing_hours» % 10))
-    ++ bytes "\r\n"
+    line "grazing_days" (wholeOf (o .«grazing_days»))
+    (line "yard_days" (wholeOf (o .«yard_days»))
+    (line "grazing_hours" (tenthsOf (o .«grazing_hours»)) []))
 
 unfoldable pub refusalLine : LogFault → ℕ → List ℕ
-refusalLine fault record′ = ("refused," and number fault) ++ ("," and record′) ++ bytes "\r\n"
+refusalLine fault record′ = bytes "refused," ++ wholeOf (number fault) ++ (bytes "," ++ wholeOf record′) ++ bytes "\r\n"
 
 abbrev pub answerLines : LogAnswer → List ℕ
 answerLines (Gives o) = outdoorsLines o

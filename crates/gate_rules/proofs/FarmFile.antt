@@ -1,0 +1,77 @@
+-- What a log comes to, as it is printed, is a value of a farm file's inputs of the same names. Assumes nothing.
+use Prim.Native.Nat.{ℕ, _+_, _*_, _/_, _%_, _<_, _≤_}
+use mathlib.Core.Path.{_≡_, refl, sym, ap, _∙_}
+use mathlib.Core.List.{List, [], _∷_, _++_, append-assoc}
+use native.Mathlib.Omega.{arith}
+use native.Mathlib.Nat.{mul-one}
+use lib.Dec.{lit<}
+use lib.ListN.{length}
+use Rattle.base.specs.Text.{bytes}
+use Rattle.base.specs.Each.{Each, none, more}
+use Rattle.decimal.specs.Numbers.{Digit, Digits, Whole, value, IsNumber}
+use Rattle.decimal.specs.Writing.{wholeOf}
+use Rattle.decimal.proofs.Agrees.{same-number, value-append}
+use Rattle.decimal.proofs.Widths.{whole-length, width-small}
+use Rattle.decimal.proofs.Written.{whole-number}
+use Rattle.inputs.specs.declared.Kind.{Kind}
+use Rattle.inputs.specs.declared.Kind.the-variants.{Roughage, Cattle}
+use Rattle.inputs.specs.Inputs.{formOf}
+use Rattle.farm.specs.declared.Given.the-variants.{Value}
+use Rattle.rules.specs.Rules.{GoodLabel, Names, ValueIs, RecordSays}
+use Rattle.gate.specs.declared.Outdoors.{Outdoors}
+use Rattle.gate.specs.declared.LogAnswer.the-variants.{Gives}
+use Rattle.gate.specs.Logs.{readLog}
+use Rattle.gate_answer.specs.Lines.{tenthsOf}
+use Rattle.gate_rules.specs.FarmFile.{Fits, Entry, entriesOf, Takes}
+use Rattle.gate_rules.proofs.Accepts.{accepts-exactly}
+use Rattle.gate_rules.proofs.Ranges.{log-fits}
+
+-- ---- tenths that are written read as themselves
+
+-- a whole number's text has no point
+record WholeText (t : List ℕ) (v : ℕ) : Type 0 where
+  whole : Whole t
+  is : value t ≡ v
+
+whole-text : {t : List ℕ} {d v : ℕ} → IsNumber t d v → d ≡ 0 → WholeText t v
+whole-text (IsNumber.whole {w = w} x) e = record { whole = x; is = rw e (sym (mul-one (value w))) }
+whole-text (IsNumber.pointed _ _ o l) e = absurd (omega arith)
+
+digits : {t : List ℕ} → Whole t → Digits t
+digits Whole.nought = Digits.more {b = 48} (record { low = omega arith; high = omega arith }) Digits.none
+digits (Whole.some g _ gs) = Digits.more g gs
+
+-- one digit behind others
+one-behind : (w f : List ℕ) (v n : ℕ) → length f ≡ 1 → value w ≡ v → value f ≡ n → value (w ++ f) ≡ v * 10 + n
+one-behind w [] v n l p q = absurd (omega arith)
+one-behind w (b ∷ []) v n l p q = value-append 0 w (b ∷ []) ∙ omega arith
+one-behind w (b ∷ c ∷ f) v n l p q = absurd (omega arith)
+
+pub tenths-number : (n : ℕ) → IsNumber (tenthsOf n) 1 n
+tenths-number n =
+    let w = whole-text (whole-number (n / 10)) refl in
+    let f = whole-text (whole-number (n % 10)) refl in
+    let one : length (wholeOf (n % 10)) ≡ 1 = whole-length (n % 10) ∙ width-small (n % 10) (omega arith) in
+    let is : value (wholeOf (n / 10) ++ wholeOf (n % 10)) ≡ n = one-behind (wholeOf (n / 10)) (wholeOf (n % 10)) (n / 10) (n % 10) one (w .is) (f .is) ∙ omega arith in
+    same-number (append-assoc (wholeOf (n / 10)) (bytes ".") (wholeOf (n % 10))) (rw one (mul-one (value (wholeOf (n / 10) ++ wholeOf (n % 10))) ∙ is))
+    (IsNumber.pointed {d = 1} (w .whole) (digits (f .whole)) (omega arith) (omega arith))
+
+-- ---- the entries
+
+module _ (o : Outdoors) (fits : Fits o) (label : List ℕ) (good : GoodLabel label) where
+  entries-taken : Each (Takes label) (entriesOf o)
+  unfolding formOf
+  entries-taken =
+      let grazing = ValueIs.number (whole-number (o .«grazing_days»)) (fits .grazing) in
+      let yard = ValueIs.number (whole-number (o .«yard_days»)) (fits .yard) in
+      let hours = ValueIs.number (tenths-number (o .«grazing_hours»)) (fits .hours) in
+      more (record { slot = 5; says = RecordSays.says good (record { inside = lit< tt; path = refl; name = refl }) grazing })
+      (more (record { slot = 6; says = RecordSays.says good (record { inside = lit< tt; path = refl; name = refl }) hours })
+      (more (record { slot = 3; says = RecordSays.says good (record { inside = lit< tt; path = refl; name = refl }) yard })
+      (more (record { slot = 7; says = RecordSays.says good (record { inside = lit< tt; path = refl; name = refl }) grazing })
+      (more (record { slot = 8; says = RecordSays.says good (record { inside = lit< tt; path = refl; name = refl }) hours })
+      none))))
+
+-- whatever a log comes to, a farm file takes it, for a herd of any good label
+pub farm-file-takes : (s : List ℕ) (o : Outdoors) → readLog s ≡ Gives o → (label : List ℕ) → GoodLabel label → Each (Takes label) (entriesOf o)
+farm-file-takes s o e label good = entries-taken o (log-fits s o (accepts-exactly s o .0 e)) label good
