@@ -1,14 +1,19 @@
 """The logs that the pack of `test_gate` is made of: whole years, and years that are spoilt in one place or two."""
 
-from dice import Dice
-from gatelog import HOURS, MONTHS, dates_of
-from farms import number_text
+from itertools import chain, repeat
 from pathlib import Path
+
+from dice import Dice
+from farms import number_text
+from gatelog import HOURS, MONTHS, dates_of
 from reading import MOST_BYTES
 
 SEED = 20221101
 RANDOM_LOGS = 60
 CUT_LOGS = 20
+
+# How many records stay behind one that is spoilt: none of them is read.
+RECORDS_BEHIND = 6
 
 # Common and leap years; hundredth years that are not leap years and those that are; the first and the last of four digits.
 YEARS = (2022, 2023, 2024, 1900, 2000, 2100, 1600, 0, 1, 4, 100, 400, 9999, 9996)
@@ -40,10 +45,9 @@ def season_hours():
         yield from [(pasture, yard)] * days
 
 
-def year_of(year, hours=("1.5", "2")):
-    """The fields of a year's records, with the same hours each day or with those of an iterator."""
-    each = iter(hours) if not isinstance(hours, tuple) else iter(lambda: hours, None)
-    return [[date, *next(each, ("0", "0"))] for date in dates_of(year)]
+def year_of(year, hours=repeat(("1", "2"))):
+    """The fields of a year's records, with these hours day by day, and none past the last of them."""
+    return [[date, *pair] for date, pair in zip(dates_of(year), chain(hours, repeat(("0", "0"))))]
 
 
 def file_of(days):
@@ -55,24 +59,29 @@ def changed(days, number, fields):
     return days[: number - 1] + [fields] + days[number:]
 
 
+def spoilt(days, number, fields):
+    """A log with a spoilt record, to a few records behind it."""
+    return file_of(changed(days, number, fields)[: number + RECORDS_BEHIND])
+
+
 def whole_years():
     for year in YEARS:
         yield file_of(year_of(year))
     for year in (2023, 2024):
         yield file_of(year_of(year, season_hours()))
-        yield file_of(year_of(year, ("0", "0")))
-        yield file_of(year_of(year, ("24.0", "0")))
-        yield file_of(year_of(year, ("0", "24")))
+        yield file_of(year_of(year, repeat(("0", "0"))))
+        yield file_of(year_of(year, repeat(("24.0", "0"))))
+        yield file_of(year_of(year, repeat(("0", "24"))))
 
 
 def counted_days():
     """Hours on 29 February alone, and on all other days; a mean that is cut and one that is not."""
     place = MONTHS[0] + 29
     for rest, that in (("0", "5"), ("5", "0"), ("5", "24"), ("0.1", "24")):
-        yield file_of(changed(year_of(2024, (rest, rest)), place, ["2024-02-29", that, "0"]))
-        yield file_of(changed(year_of(2024, (rest, rest)), place, ["2024-02-29", "0", that]))
+        yield file_of(changed(year_of(2024, repeat((rest, rest))), place, ["2024-02-29", that, "0"]))
+        yield file_of(changed(year_of(2024, repeat((rest, rest))), place, ["2024-02-29", "0", that]))
     for hours in (("0.1", "0.2"), ("0.1", "0.1", "0.2"), ("9.9", "10.0"), ("24", "23.9", "23.9")):
-        yield file_of(year_of(2023, iter([(pasture, "0") for pasture in hours])))
+        yield file_of(year_of(2023, [(pasture, "0") for pasture in hours]))
 
 
 def fields_spoilt():
@@ -80,18 +89,18 @@ def fields_spoilt():
     for number in (1, 60, 365):
         date = days[number - 1][0]
         for text in BAD_HOURS:
-            yield file_of(changed(days, number, [date, text, "0"]))
-            yield file_of(changed(days, number, [date, "0", text]))
+            yield spoilt(days, number, [date, text, "0"])
+            yield spoilt(days, number, [date, "0", text])
         for fields in ([], [date], [date, "0"], [date, "0", "0", ""], [date, "0", "0", "0"], ["", "", ""], [date, "0,0"]):
-            yield file_of(changed(days, number, fields))
+            yield spoilt(days, number, fields)
     for text in FIT_HOURS:
         yield file_of(changed(days, 200, [days[199][0], text, "0"]))
         yield file_of(changed(days, 200, [days[199][0], "0", text]))
     for pair in HOURS_TOGETHER:
         yield file_of(changed(days, 200, [days[199][0], *pair]))
     for date in BAD_DATES:
-        yield file_of(changed(days, 60, [date, "1", "1"]))
-        yield file_of(changed(days, 1, [date, "1", "1"]))
+        yield spoilt(days, 60, [date, "1", "1"])
+        yield spoilt(days, 1, [date, "1", "1"])
 
 
 def dates_out_of_order():
@@ -99,16 +108,17 @@ def dates_out_of_order():
     for year in (2023, 2024, 1900, 2000):
         days = year_of(year)
         for number in (1, 2, 59, 60, 61, len(days) - 1, len(days)):
-            yield file_of(days[: number - 1] + days[number:])
-            yield file_of(days[:number] + days[number - 1 :])
+            end = number + RECORDS_BEHIND
+            yield file_of((days[: number - 1] + days[number:])[:end])
+            yield file_of((days[:number] + days[number - 1 :])[:end])
             yield file_of(days[:number])
-        yield file_of(days[:59] + [[f"{year:04}-02-29", "1", "1"]] + days[59:])
-        yield file_of(days[:60] + [[f"{year:04}-02-30", "1", "1"]] + days[60:])
+        yield file_of((days[:59] + [[f"{year:04}-02-29", "1", "1"]] + days[59:])[:70])
+        yield file_of((days[:60] + [[f"{year:04}-02-30", "1", "1"]] + days[60:])[:70])
         yield file_of(days[:-1] + [[f"{year:04}-12-32", "1", "1"]])
         for extra in (f"{year + 1:04}-01-01", f"{year:04}-12-31", f"{year:04}-12-32", "x"):
             yield file_of(days + [[extra, "1", "1"]])
         yield file_of(days[::-1])
-        yield file_of(days[180:] + days[:180])
+        yield file_of(days[180:])
     yield file_of(year_of(2023) + year_of(2024))
 
 
@@ -128,9 +138,9 @@ def two_faults():
         "7 and unreadable": ["x", "25", "1"],
     }
     for fields in wrong.values():
-        yield file_of(changed(days, 60, fields))
+        yield spoilt(days, 60, fields)
         for other in wrong.values():
-            yield file_of(changed(changed(days, 60, fields), 61, other))
+            yield spoilt(changed(days, 61, other), 60, fields)
     yield file_of(days + [["2024-01-01", "25", "0"]])
     yield file_of(days + [["2024-01-01", "25"]])
     yield file_of(days[:100] + [["2023-04-11", "1"]])
@@ -149,15 +159,17 @@ def ends():
         yield file_of([["x", "1", "1"]]).ljust(size, b"0")
 
 
+def random_hours(dice):
+    """Hours day by day: mostly such as a day has, now and then two numbers that may be too much together."""
+    while True:
+        tenths = dice.below(241)
+        pasture = dice.below(tenths + 1) if dice.one_in(2) else 0
+        fit = tuple(f"{n // 10}.{n % 10}" for n in (pasture, dice.below(tenths - pasture + 1)))
+        yield (number_text(dice, HOURS), number_text(dice, HOURS)) if dice.one_in(400) else fit
+
+
 def random_year(dice):
-    hours = ((number_text(dice, HOURS), number_text(dice, HOURS)) if dice.one_in(400) else small_hours(dice) for _ in iter(int, 1))
-    return year_of(dice.pick((2023, 2024, dice.below(10000))), hours)
-
-
-def small_hours(dice):
-    tenths = dice.below(241)
-    pasture = dice.below(tenths + 1) if dice.one_in(2) else 0
-    return tuple(f"{n // 10}.{n % 10}" for n in (pasture, dice.below(tenths - pasture + 1)))
+    return year_of(dice.pick((2023, 2024, dice.below(10000))), random_hours(dice))
 
 
 def random_logs():

@@ -1,14 +1,15 @@
 #!/usr/bin/env python3
-"""The stored test vectors: farm files and the outputs that belong to them.
+"""The stored test vectors: files and the outputs that belong to them.
 
-    vectors.py --write          make both packs anew
-    vectors.py --check          make them in memory and compare with the stored ones
-    vectors.py --which OFFSET   show the file that a byte of the outputs belongs to
+    vectors.py --write                  make all packs anew
+    vectors.py --check                  make them in memory and compare with the stored ones
+    vectors.py --which OFFSET           show the farm file that a byte of the outputs belongs to
+    vectors.py --which OFFSET --logs    the same of the gate's logs
 
-The packs are the input and the expected output of the program `test_vectors`:
-`crates/test_vectors/stdin` holds each file's length as 4 bytes, little-endian, and its
-bytes; `crates/test_vectors/stdout` holds the outputs one after the other, for each file
-what every command prints.
+The packs are the input and the expected output of two programs: `test_vectors`, farm
+files and for each what every command prints, and `test_gate`, logs of a pasture gate
+and their answers. In a program's folder `stdin` holds each file's length as 4 bytes,
+little-endian, and its bytes; `stdout` holds the outputs one after the other.
 """
 
 import argparse
@@ -16,14 +17,33 @@ import sys
 from collections import Counter
 from pathlib import Path
 
-from cases import every_file
+import cases
+import gate_cases
+import gatelog
 from urvendlo import COMMANDS, answer
 
-PROGRAM = Path(__file__).resolve().parent.parent / "crates" / "test_vectors"
-FILES = PROGRAM / "stdin"
-OUTPUTS = PROGRAM / "stdout"
+CRATES = Path(__file__).resolve().parent.parent / "crates"
 LENGTH_BYTES = 4
 REFUSAL_FIELDS = 3
+
+
+def output(file):
+    """What the commands print for a file, one after the other."""
+    return b"".join(answer(file, command) for command in COMMANDS)
+
+
+class Pack:
+    """What a test program is run on: files, what it prints for each, and the answer that tells a refusal."""
+
+    def __init__(self, program, every_file, output, answer):
+        self.files = CRATES / program / "stdin"
+        self.outputs = CRATES / program / "stdout"
+        self.program, self.every_file, self.output, self.answer = program, every_file, output, answer
+
+
+FARMS = Pack("test_vectors", cases.every_file, output, answer)
+LOGS = Pack("test_gate", gate_cases.every_log, gatelog.answer, gatelog.answer)
+FILES = FARMS.files
 
 
 def packed(files):
@@ -38,42 +58,37 @@ def unpacked(pack):
         yield pack[begin:at]
 
 
-def output(file):
-    """What the commands print for a file, one after the other."""
-    return b"".join(answer(file, command) for command in COMMANDS)
+def write(pack):
+    files = list(pack.every_file())
+    pack.files.write_bytes(packed(files))
+    pack.outputs.write_bytes(b"".join(map(pack.output, files)))
 
 
-def write():
-    files = list(every_file())
-    FILES.write_bytes(packed(files))
-    OUTPUTS.write_bytes(b"".join(map(output, files)))
-
-
-def check():
+def check(pack):
     """Compare with the stored packs; give whether they are the same."""
-    files = list(every_file())
-    outputs = b"".join(map(output, files))
+    files = list(pack.every_file())
+    outputs = b"".join(map(pack.output, files))
     same = True
-    for path, made in ((FILES, packed(files)), (OUTPUTS, outputs)):
+    for path, made in ((pack.files, packed(files)), (pack.outputs, outputs)):
         if path.read_bytes() != made:
-            print(f"{path.name}: the stored pack differs from the one made now")
+            print(f"{pack.program}/{path.name}: the stored pack differs from the one made now")
             same = False
-    counts = Counter(refusal_number(answer(file)) for file in files)
-    print(f"{len(files)} files, {counts.pop(None)} accepted; refused, by number:")
+    counts = Counter(refusal_number(pack.answer(file)) for file in files)
+    print(f"{pack.program}: {len(files)} files, {counts.pop(None)} accepted; refused, by number:")
     print(", ".join(f"{number}: {counts[number]}" for number in sorted(counts)))
     return same
 
 
 def refusal_number(output):
-    """The number of a refusal's line, or None for figures, which have many fields."""
+    """The number of a refusal's line, or None for an answer, which has more fields."""
     fields = output.split(b",")
     return int(fields[1]) if len(fields) == REFUSAL_FIELDS else None
 
 
-def show(offset):
+def show(pack, offset):
     end = 0
-    for number, file in enumerate(unpacked(FILES.read_bytes()), start=1):
-        printed = output(file)
+    for number, file in enumerate(unpacked(pack.files.read_bytes()), start=1):
+        printed = pack.output(file)
         begin, end = end, end + len(printed)
         if offset < end:
             print(f"file {number}, {len(file)} bytes; its output stands at {begin} to {end}:")
@@ -87,15 +102,19 @@ def show(offset):
 def main():
     parser = argparse.ArgumentParser(description="The stored test vectors.")
     choice = parser.add_mutually_exclusive_group(required=True)
-    choice.add_argument("--write", action="store_true", help="make both packs anew")
+    choice.add_argument("--write", action="store_true", help="make the packs anew")
     choice.add_argument("--check", action="store_true", help="compare with the stored packs")
     choice.add_argument("--which", type=int, metavar="OFFSET", help="show one file and its output")
+    parser.add_argument("--logs", action="store_true", help="of the gate's logs")
     chosen = parser.parse_args()
     if chosen.write:
-        write()
+        write(FARMS)
+        write(LOGS)
         return 0
-    done = check() if chosen.check else show(chosen.which)
-    return 0 if done else 1
+    if chosen.check:
+        same = [check(FARMS), check(LOGS)]
+        return 0 if all(same) else 1
+    return 0 if show(LOGS if chosen.logs else FARMS, chosen.which) else 1
 
 
 if __name__ == "__main__":
