@@ -11,6 +11,8 @@ from pathlib import Path
 
 import damage
 import faults
+import gate_cases
+import gatelog
 import printed
 from arithmetic import BILLION, CUTS, EXACT, HALF, Cuts
 from dice import Dice
@@ -641,6 +643,75 @@ class Refusals(unittest.TestCase):
         ):
             self.assertEqual(refusal(open_herds + record), (number, 3), record)
         self.assertEqual(refusal(open_herds), (12, 1))
+
+
+class GateLogs(unittest.TestCase):
+    """Request W10, on logs that are written out from its text."""
+
+    def days(self, year, **changes):
+        """A year's records with an hour on pasture and none on the yard, changed on some dates, as m03_d01=(pasture, yard)."""
+        days = [[date, "1", "0"] for date in gatelog.dates_of(year)]
+        for name, (pasture, yard) in changes.items():
+            date = f"{year:04}-{name[1:3]}-{name[5:7]}"
+            (place,) = [place for place, day in enumerate(days) if day[0] == date]
+            days[place] = [date, pasture, yard]
+        return days
+
+    def expect(self, days, grazing_days, yard_days, hours):
+        lines = f"grazing_days,{grazing_days}\r\nyard_days,{yard_days}\r\ngrazing_hours,{hours}\r\n"
+        self.assertEqual(gatelog.answer(gate_cases.file_of(days)).decode(), lines)
+
+    def expect_refusal(self, days, number, record):
+        self.assertEqual(gatelog.answer(gate_cases.file_of(days)), f"refused,{number},{record}\r\n".encode())
+
+    def test_years(self):
+        for year, leap in ((2023, 0), (2024, 1), (1900, 0), (2000, 1), (2100, 0), (0, 1), (4, 1), (100, 0), (9999, 0)):
+            dates = gatelog.dates_of(year)
+            self.assertEqual(len(dates), 365 + leap)
+            self.assertEqual((dates[0], dates[-1]), (f"{year:04}-01-01", f"{year:04}-12-31"))
+            self.assertEqual(f"{year:04}-02-29" in dates, bool(leap))
+            self.assertEqual(dates, sorted(set(dates)))
+        self.assertEqual(gatelog.dates_of(2023)[58:60], ["2023-02-28", "2023-03-01"])
+
+    def test_what_it_comes_to(self):
+        self.expect(self.days(2023), 365, 0, "1.0")
+        self.expect(self.days(2024), 365, 0, "1.0")
+        self.expect(self.days(2024, m02_d29=("24", "0")), 365, 0, "1.0")
+        self.expect(self.days(2024, m02_d29=("0", "24")), 365, 0, "1.0")
+        self.expect(self.days(2023, m03_d01=("0.0", "24.0")), 364, 1, "1.0")
+        none = [[date, "0", "2.5"] for date in gatelog.dates_of(2023)]
+        self.expect(none, 0, 365, "0.0")
+        self.expect([["2023-01-01", "10", "0"], ["2023-01-02", "0.5", "0"], *none[2:]], 2, 363, "5.2")
+        self.expect([["2023-01-01", "9.9", "0"], ["2023-01-02", "10.0", "14"], *none[2:]], 2, 364, "9.9")
+
+    def test_refusals(self):
+        days = self.days(2023)
+        self.expect_refusal([], 14, 0)
+        self.expect_refusal(days[:-1], 14, 0)
+        self.expect_refusal(days + [["2024-01-01", "1", "0"]], 14, 366)
+        self.expect_refusal(days + [["2023-12-31", "1", "0"]], 14, 366)
+        self.expect_refusal(days[1:], 14, 1)
+        self.expect_refusal(days[:59] + [["2023-02-29", "1", "0"]] + days[59:], 14, 60)
+        self.expect_refusal(self.days(1900)[:59] + [["1900-02-29", "1", "0"]], 14, 60)
+        self.expect_refusal(self.days(2000)[:59] + [["2000-02-30", "1", "0"]], 14, 60)
+        self.expect_refusal(days[:9] + days[10:], 14, 10)
+        self.expect_refusal(days[:9] + days[8:], 14, 10)
+        for hours, number in ((("24.0", "0"), 14), (("24", "0.1"), 7), (("12.5", "11.5"), 14), (("12.5", "11.6"), 7), (("24.1", "0"), 7), (("1.05", "0"), 7)):
+            self.expect_refusal([["2023-01-01", *hours]], number, 0 if number == 14 else 1)
+        for fields, number in ((["x", "25"], 3), (["x", "25", "0"], 7), (["x", "24", "0"], 14), (["2023-01-01", "1", "0", ""], 3), (['x"', "25"], 2)):
+            self.expect_refusal(days[:4] + [fields], number, 5)
+        self.assertEqual(gatelog.answer(b"x" * MOST_BYTES), b"refused,3,1\r\n")
+        self.assertEqual(gatelog.answer(b"x" * (MOST_BYTES + 1)), b"refused,1,0\r\n")
+
+    def test_ranges(self):
+        """What comes out is a value that a farm file takes."""
+        taken = {listed.name: listed.values for listed in CATTLE.inputs}
+        for log in gate_cases.every_log():
+            out = gatelog.answer(log).decode()
+            if not out.startswith("refused"):
+                for line in out.splitlines():
+                    name, text = line.split(",")
+                    self.assertIsNotNone(taken[name].read(text), log)
 
 
 @unittest.skipUnless(DOCUMENT in os.environ, f"{DOCUMENT} does not name the text of 001")
