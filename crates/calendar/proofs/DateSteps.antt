@@ -1,4 +1,5 @@
--- A date's digits, from the calls that look at its bytes: each law in the form that a place of src/lib.rt wants. Assumes nothing.
+-- A date's digits, from the calls that look at its bytes: each law in the form that a place of src/lib.rt wants.
+-- Assumes nothing.
 use Prim.Native.Nat.{ℕ, _+_, _*_, _≤_}
 use mathlib.Core.Path.{_≡_, refl, sym, ap, _∙_}
 use mathlib.Core.Bool.{Bool, true, false}
@@ -17,7 +18,8 @@ use Rattle.calendar.specs.Calendar.{date}
 use Rattle.calendar.specs.Reading.{ifDigit, pairOf, dateIn, dateOf}
 
 -- what is spelled was behind a digit
-pub digit-spelled : {R : Type 0} (b : ℕ) (x : Spelled) (v : ℕ) → ifDigit b x ≡ Value v → (48 ≤ b → b ≤ 57 → x ≡ Value v → R) → R
+pub digit-spelled : {R : Type 0} (b : ℕ) (x : Spelled) (v : ℕ) → ifDigit b x ≡ Value v
+    → (48 ≤ b → b ≤ 57 → x ≡ Value v → R) → R
 digit-spelled {R} b x v e k = go (ltb b 48) (ltb 57 b) refl refl e
   where
     go : (s t : Bool) → ltb b 48 ≡ s → ltb 57 b ≡ t → pick s NoDigits (pick t NoDigits x) ≡ Value v → R
@@ -40,7 +42,8 @@ module _ (s : List ℕ) where
     module _ (one : getD s 4 0 ≡ 45) where
       pub no-second-hyphen : (getD s 7 0 ≡ 45 → ⊥) → Unreadable ≡ dateOf s
       unfolding dateOf
-      no-second-hyphen n = simp (dateOf, eq-eqb (length s) 10 long, eq-eqb (getD s 4 0) 45 one, ne-eqb (getD s 7 0) 45 n)
+      no-second-hyphen n =
+          simp (dateOf, eq-eqb (length s) 10 long, eq-eqb (getD s 4 0) 45 one, ne-eqb (getD s 7 0) 45 n)
 
       module _ (two : getD s 7 0 ≡ 45) where
         pub by-digits : dateIn s ≡ dateOf s
@@ -66,4 +69,5 @@ module _ (s : List ℕ) where
                 pub date-is : {k : ℕ} → d ≡ Value k → Is (date (h * 100 + y) m k) ≡ dateOf s
                 date-is e = rw (sym qa ∙ ea, sym qb ∙ eb, sym qc ∙ ec, sym qd ∙ e) at by-digits
 
-pub ruleset date-steps = (wrong-length, no-first-hyphen, no-second-hyphen, no-hundreds, no-years, no-month, no-day, date-is)
+pub ruleset date-steps =
+    (wrong-length, no-first-hyphen, no-second-hyphen, no-hundreds, no-years, no-month, no-day, date-is)

@@ -41,7 +41,8 @@ four-digits (Digits.more a Digits.none) e = absurd (omega arith)
 four-digits (Digits.more a (Digits.more b Digits.none)) e = absurd (omega arith)
 four-digits (Digits.more a (Digits.more b (Digits.more c Digits.none))) e = absurd (omega arith)
 four-digits (Digits.more a (Digits.more b (Digits.more c (Digits.more d Digits.none)))) e = four a b c d
-four-digits (Digits.more a (Digits.more b (Digits.more c (Digits.more d (Digits.more f ds))))) e = absurd (omega arith)
+four-digits (Digits.more a (Digits.more b (Digits.more c (Digits.more d (Digits.more f ds))))) e =
+    absurd (omega arith)
 
 data Ten : List ℕ → Type 0 where
   ten : {a b c e u f g v h i : ℕ} → Ten (a ∷ b ∷ c ∷ e ∷ u ∷ f ∷ g ∷ v ∷ h ∷ i ∷ [])
@@ -70,7 +71,8 @@ module _ {a b : ℕ} where
   unfolding pairOf
   pair-complete x y =
       let v : (a - 48) * 10 + (b - 48) ≡ value (a ∷ b ∷ []) = omega arith in
-      digit-is x (ifDigit b (Value ((a - 48) * 10 + (b - 48)))) ∙ digit-is y (Value ((a - 48) * 10 + (b - 48))) ∙ ap Value v
+      digit-is x (ifDigit b (Value ((a - 48) * 10 + (b - 48)))) ∙ digit-is y (Value ((a - 48) * 10 + (b - 48)))
+      ∙ ap Value v
 
 -- what a pair spells
 record Spells (a b v : ℕ) : Type 0 where
@@ -86,12 +88,14 @@ pair-sound a b v q =
     let w : (a - 48) * 10 + (b - 48) ≡ v = cc in
     record { one = record { low = la; high = ha }; other = record { low = lb; high = hb }; is = omega arith }))
 
-four-value : (a b c d x y : ℕ) → value (a ∷ b ∷ []) ≡ x → value (c ∷ d ∷ []) ≡ y → value (a ∷ b ∷ c ∷ d ∷ []) ≡ x * 100 + y
+four-value : (a b c d x y : ℕ) → value (a ∷ b ∷ []) ≡ x → value (c ∷ d ∷ []) ≡ y
+    → value (a ∷ b ∷ c ∷ d ∷ []) ≡ x * 100 + y
 four-value a b c d x y p q = omega arith
 
 -- ---- dates
 
-ten-complete : {y m d : List ℕ} → Four y → Two m → Two d → dateOf (y ++ (45 ∷ []) ++ m ++ (45 ∷ []) ++ d) ≡ Is (date (value y) (value m) (value d))
+ten-complete : {y m d : List ℕ} → Four y → Two m → Two d
+    → dateOf (y ++ (45 ∷ []) ++ m ++ (45 ∷ []) ++ d) ≡ Is (date (value y) (value m) (value d))
 unfolding dateOf
 ten-complete (four {a} {b} {c} {e} a′ b′ c′ e′) (two {a = f} {b = g} f′ g′) (two {a = h} {b = i} h′ i′) =
     rw (pair-complete a′ b′, pair-complete c′ e′, pair-complete f′ g′, pair-complete h′ i′)
@@ -101,7 +105,8 @@ date-complete : {s : List ℕ} {d : Date} → IsDate s d → dateOf s ≡ Is d
 date-complete (is y yl m ml d dl) = ten-complete (four-digits y yl) (two-digits m ml) (two-digits d dl)
 
 module _ (d : Date) where
-  digits-sound : {a b c e f g h i : ℕ} (w x y z : Spelled) → pairOf a b ≡ w → pairOf c e ≡ x → pairOf f g ≡ y → pairOf h i ≡ z → dateBy w x y z ≡ Is d
+  digits-sound : {a b c e f g h i : ℕ} (w x y z : Spelled) → pairOf a b ≡ w → pairOf c e ≡ x → pairOf f g ≡ y
+      → pairOf h i ≡ z → dateBy w x y z ≡ Is d
       → IsDate (a ∷ b ∷ c ∷ e ∷ 45 ∷ f ∷ g ∷ 45 ∷ h ∷ i ∷ []) d
   digits-sound {a} {b} {c} {e} {f} {g} {h} {i} (Value n) (Value y) (Value m) (Value k) pn py pm pk w =
       let nn = pair-sound a b n pn in
@@ -114,7 +119,8 @@ module _ (d : Date) where
       ∙ ap (λ (j : ℕ). date (n * 100 + y) j (value (h ∷ i ∷ []))) (mm .is)
       ∙ ap (λ (j : ℕ). date (n * 100 + y) m j) (kk .is)
       ∙ v)
-      (is (Digits.more (nn .one) (Digits.more (nn .other) (Digits.more (yy .one) (Digits.more (yy .other) Digits.none)))) refl
+      (is
+      (Digits.more (nn .one) (Digits.more (nn .other) (Digits.more (yy .one) (Digits.more (yy .other) Digits.none)))) refl
       (Digits.more (mm .one) (Digits.more (mm .other) Digits.none)) refl
       (Digits.more (kk .one) (Digits.more (kk .other) Digits.none)) refl)
   digits-sound (Value n) (Value y) (Value m) NoDigits pn py pm pk w = clash cc
@@ -126,7 +132,8 @@ module _ (d : Date) where
       → pick s (pick t (dateBy (pairOf a b) (pairOf c e) (pairOf f g) (pairOf h i)) Unreadable) Unreadable ≡ Is d
       → IsDate (a ∷ b ∷ c ∷ e ∷ u ∷ f ∷ g ∷ v ∷ h ∷ i ∷ []) d
   hyphens-sound {a} {b} {c} {e} {u} {f} {g} {v} {h} {i} true true p q w =
-      rw (eqb-true u 45 p, eqb-true v 45 q) (digits-sound (pairOf a b) (pairOf c e) (pairOf f g) (pairOf h i) refl refl refl refl w)
+      rw (eqb-true u 45 p, eqb-true v 45 q)
+      (digits-sound (pairOf a b) (pairOf c e) (pairOf f g) (pairOf h i) refl refl refl refl w)
   hyphens-sound true false p q w = clash cc
   hyphens-sound false t p q w = clash cc
 

@@ -1,5 +1,5 @@
--- The days of a month and the date that is due, from the calls that look at the year and the month: each law in the form that a place of
--- src/lib.rt wants. Assumes nothing.
+-- The days of a month and the date that is due, from the calls that look at the year and the month: each law in the
+-- form that a place of src/lib.rt wants. Assumes nothing.
 use Prim.Native.Nat.{ℕ, zero, suc, _+_, _<_, _≤_}
 use mathlib.Core.Path.{_≡_, refl, sym, ap, _∙_}
 use mathlib.Core.Bool.{Bool, true, false}

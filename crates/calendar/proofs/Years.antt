@@ -1,5 +1,5 @@
--- What follows of the calendar: a year has 365 or 366 days, and from 1 January on its last date and no other is 31 December. And what is due
--- in a year's dates is the next date, to 31 December. Assumes nothing.
+-- What follows of the calendar: a year has 365 or 366 days, and from 1 January on its last date and no other is 31
+-- December. And what is due in a year's dates is the next date, to 31 December. Assumes nothing.
 use Prim.Native.Nat.{ℕ, zero, suc, _+_, _-_, _<_, _≤_}
 use mathlib.Core.Path.{_≡_, refl, sym, ap, subst, _∙_}
 use mathlib.Core.Logic.{_↔_}
@@ -15,7 +15,8 @@ use Rattle.base.proofs.Each.{each-passed, each-getD}
 use Rattle.calendar.specs.declared.Date.{Date}
 use Rattle.calendar.specs.declared.Due.{Due}
 use Rattle.calendar.specs.declared.Due.the-variants.{On, Nothing}
-use Rattle.calendar.specs.Calendar.{date, isLeap, monthsOf, daysIn, yearLength, sum, Exists, newYear, newYearsEve, nextDate, after, datesFrom, IsEve}
+use Rattle.calendar.specs.Calendar.{date, isLeap, monthsOf, daysIn, yearLength, sum, Exists, newYear}
+use Rattle.calendar.specs.Calendar.{newYearsEve, nextDate, after, datesFrom, IsEve}
 use Rattle.calendar.specs.Following.{dueAfter}
 use Rattle.calendar.proofs.MonthSteps.{due-in-month, due-in-next, due-nothing}
 
@@ -117,7 +118,8 @@ goes {y} {n} {d} x = go (ltb (d .day) (daysIn y (d .month))) (ltb (d .month) 12)
     go false true p q = in-next (ltb-false (d .day) (daysIn y (d .month)) p) (ltb-true (d .month) 12 q)
     go false false p q =
         let full = ltb-false (d .day) (daysIn y (d .month)) p in
-        let m : d .month ≡ 12 = omega (arith, month-most y (d .month) (omega (arith, x .first, x .last)), ltb-false (d .month) 12 q) in
+        let m : d .month ≡ 12 =
+        omega (arith, month-most y (d .month) (omega (arith, x .first, x .last)), ltb-false (d .month) 12 q) in
         ends (omega (arith, x .last, full, ap (daysIn y) m, december y)) m
 
 -- the year's last date is its 31 December, and no other date is
@@ -217,7 +219,8 @@ last-at {y} {n} {d} x h =
 pub after-at : {y n : ℕ} {d : Date} (k : ℕ) → At y n d → n + k ≤ yearLength y → At y (n + k) (after k d)
 after-at {y} {n} {d} zero x h = subst (λ (i : ℕ). At y i d) (omega arith) x
 after-at {y} {n} {d} (suc k) x h =
-    subst (λ (i : ℕ). At y i (after k (nextDate d))) (omega arith) (after-at k (next-at x (omega arith) .next) (omega arith))
+    subst (λ (i : ℕ). At y i (after k (nextDate d))) (omega arith)
+    (after-at k (next-at x (omega arith) .next) (omega arith))
 
 pub after-plus : (a b : ℕ) (d : Date) → after (a + b) d ≡ after b (after a d)
 after-plus zero b d = let s : 0 + b ≡ b = omega arith in ap (λ (i : ℕ). after i d) s
@@ -230,7 +233,9 @@ next-later : (d : Date) → d .year ≤ nextDate d .year
 unfolding nextDate
 next-later d = go (ltb (d .day) (daysIn (d .year) (d .month))) (ltb (d .month) 12)
   where
-    go : (s t : Bool) → d .year ≤ pick s (date (d .year) (d .month) (d .day + 1)) (pick t (date (d .year) (d .month + 1) 1) (newYear (d .year + 1))) .year
+    go : (s t : Bool)
+        → d .year ≤ pick s (date (d .year) (d .month) (d .day + 1))
+        (pick t (date (d .year) (d .month + 1) 1) (newYear (d .year + 1))) .year
     go true t = omega arith
     go false true = omega arith
     go false false = omega arith
@@ -239,7 +244,8 @@ later : (n : ℕ) (d : Date) → d .year ≤ after n d .year
 later zero d = omega arith
 later (suc n) d = omega (arith, next-later d, later n (nextDate d))
 
--- from 1 January on, the date of the year's last day is 31 December, and no other date is that, however long one counts
+-- from 1 January on, the date of the year's last day is 31 December, and no other date is that, however long one
+-- counts
 pub eve-exactly : (y n : ℕ) → (after n (newYear y) ≡ newYearsEve y) ↔ (n + 1 ≡ yearLength y)
 eve-exactly y n = (λ e. to e, λ e. from e)
   where
@@ -257,7 +263,8 @@ eve-exactly y n = (λ e. to e, λ e. from e)
         let year = last-at last (omega (arith, long y)) .next in
         let split : n ≡ (yearLength y - 1) + suc k = omega (arith, long y) in
         let far : after n (newYear y) ≡ after k (newYear (y + 1)) =
-        ap (λ (i : ℕ). after i (newYear y)) split ∙ after-plus (yearLength y - 1) (suc k) (newYear y) ∙ ap (after k) year in
+        ap (λ (i : ℕ). after i (newYear y)) split ∙ after-plus (yearLength y - 1) (suc k) (newYear y)
+        ∙ ap (after k) year in
         omega (arith, later k (newYear (y + 1)), ap (λ (x : Date). x .year) (sym far ∙ e))
       where
         long : (y : ℕ) → 1 ≤ yearLength y
@@ -278,7 +285,8 @@ eve-exactly y n = (λ e. to e, λ e. from e)
       where
         one : (d : Date) → d .year ≡ y → IsEve d → d ≡ newYearsEve y
         one d p v =
-            ap (λ (n : ℕ). date n (d .month) (d .day)) p ∙ ap (λ (n : ℕ). date y n (d .day)) (v .december) ∙ ap (λ (n : ℕ). date y 12 n) (v .last)
+            ap (λ (n : ℕ). date n (d .month) (d .day)) p ∙ ap (λ (n : ℕ). date y n (d .day)) (v .december)
+            ∙ ap (λ (n : ℕ). date y 12 n) (v .last)
 
 -- ---- 29 February
 
@@ -291,7 +299,8 @@ module _ (y : ℕ) (leap : isLeap y ≡ true) where
   in-february zero k h = let s : k ≡ k + 0 = omega arith in ap (date y 2) s
   in-february (suc n) k h =
       let s : k + 1 + n ≡ k + suc n = omega arith in
-      ap (after n) (next-in-month (date y 2 k) (omega (arith, february))) ∙ in-february n (k + 1) (omega arith) ∙ ap (date y 2) s
+      ap (after n) (next-in-month (date y 2 k) (omega (arith, february))) ∙ in-february n (k + 1) (omega arith)
+      ∙ ap (date y 2) s
 
   january : after 31 (newYear y) ≡ date y 2 1
   unfolding nextDate daysIn

@@ -1,5 +1,5 @@
--- The Gregorian calendar, as one knows it by heart (02, W10: "Dates run from 1 January without gaps to 31 December, Gregorian leap years
--- included"). To be believed; proofs/Years.antt has what follows of it.
+-- The Gregorian calendar, as one knows it by heart (02, W10: "Dates run from 1 January without gaps to 31 December,
+-- Gregorian leap years included"). To be believed; proofs/Years.antt has what follows of it.
 use Prim.Native.Nat.{ℕ, zero, suc, _+_, _%_, _≤_}
 use mathlib.Core.Path.{_≡_}
 use mathlib.Core.Bool.{Bool, true, false}

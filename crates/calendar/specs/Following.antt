@@ -1,4 +1,5 @@
--- Which date may come next in one year's dates. It mirrors the code for its contracts; proofs/Years.antt shows that it follows the calendar.
+-- Which date may come next in one year's dates. It mirrors the code for its contracts; proofs/Years.antt shows that
+-- it follows the calendar.
 use Prim.Native.Nat.{_+_}
 use mathlib.Core.Bool.{Bool, false}
 use lib.Dec.{ltb}

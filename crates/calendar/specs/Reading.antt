@@ -1,4 +1,5 @@
--- How a date is read, by its ten bytes. It mirrors the code for its contracts; what a date's text is, is said in `Texts`.
+-- How a date is read, by its ten bytes. It mirrors the code for its contracts; what a date's text is, is said in
+-- `Texts`.
 use Prim.Native.Nat.{ℕ, _+_, _-_, _*_}
 use mathlib.Core.List.{List}
 use lib.Dec.{ltb}
@@ -32,7 +33,8 @@ dateBy NoDigits y m d = Unreadable
 -- of the ten bytes of a text
 abbrev pub dateIn : List ℕ → DateRead
 dateIn s =
-    dateBy (pairOf (getD s 0 0) (getD s 1 0)) (pairOf (getD s 2 0) (getD s 3 0)) (pairOf (getD s 5 0) (getD s 6 0)) (pairOf (getD s 8 0) (getD s 9 0))
+    dateBy (pairOf (getD s 0 0) (getD s 1 0)) (pairOf (getD s 2 0) (getD s 3 0)) (pairOf (getD s 5 0) (getD s 6 0))
+    (pairOf (getD s 8 0) (getD s 9 0))
 
 unfoldable pub dateOf : List ℕ → DateRead
 dateOf s =

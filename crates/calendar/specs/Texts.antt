@@ -1,4 +1,5 @@
--- 02, W10: "date as YYYY-MM-DD". Any four digits are a year. To be believed; proofs/DateTexts.antt shows that just these texts are read.
+-- 02, W10: "date as YYYY-MM-DD". Any four digits are a year. To be believed; proofs/DateTexts.antt shows that just
+-- these texts are read.
 use Prim.Native.Nat.{ℕ}
 use mathlib.Core.Path.{_≡_}
 use mathlib.Core.List.{List, _++_}

@@ -1,5 +1,5 @@
-// Dates of the Gregorian calendar: leap years, the days of a month, a date read from its text, and the dates of one year as they come, from
-// 1 January to 31 December.
+// Dates of the Gregorian calendar: leap years, the days of a month, a date read from its text, and the dates of one
+// year as they come, from 1 January to 31 December.
 ghost use mathlib.Core.Path.{_≡_};
 ghost use Rattle.calendar.specs.Calendar.{isLeap, daysIn, sameDay, sameDate, isLeapDay};
 ghost use Rattle.calendar.specs.Following.{isDue, dueAfter};

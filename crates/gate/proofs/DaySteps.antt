@@ -1,4 +1,5 @@
--- What a record says of its day, from the calls that read its fields: each law in the form that a place of src/days.rt wants. Assumes nothing.
+-- What a record says of its day, from the calls that read its fields: each law in the form that a place of
+-- src/days.rt wants. Assumes nothing.
 use Prim.Native.Nat.{ℕ, _+_, _<_, _≤_}
 use mathlib.Core.Path.{_≡_, refl, sym, ap, _∙_}
 use mathlib.Core.Bool.{Bool, true, false}
@@ -33,7 +34,8 @@ number-small a d m q {v} e = number-iff a d m v .0 (sym q ∙ e) .1
 
 -- ---- hours
 
-module _ (s : List ℕ) (f : Fields) {a : List ℕ} (qa : a ≡ held s (f .second)) {x : Number} (qx : x ≡ numberOf a 1 240) where
+module _ (s : List ℕ) (f : Fields) {a : List ℕ} (qa : a ≡ held s (f .second)) {x : Number}
+    (qx : x ≡ numberOf a 1 240) where
   pasture-at : numberOf (held s (f .second)) 1 240 ≡ x
   pasture-at = rw qa at (sym qx)
 
@@ -41,7 +43,8 @@ module _ (s : List ℕ) (f : Fields) {a : List ℕ} (qa : a ≡ held s (f .secon
   unfolding hoursOf
   no-pasture e = simp (hoursOf, pasture-at ∙ e)
 
-  module _ {p : ℕ} (e : x ≡ Value p) {b : List ℕ} (qb : b ≡ held s (f .third)) {y : Number} (qy : y ≡ numberOf b 1 240) where
+  module _ {p : ℕ} (e : x ≡ Value p) {b : List ℕ} (qb : b ≡ held s (f .third)) {y : Number}
+      (qy : y ≡ numberOf b 1 240) where
     yard-at : numberOf (held s (f .third)) 1 240 ≡ y
     yard-at = rw qb at (sym qy)
 
@@ -72,7 +75,8 @@ module _ (s : List ℕ) (f : Fields) where
     unfolding dayOf
     bad-hours e = simp (dayOf, eq-eqb (f .count) 3 three, sym qx ∙ e)
 
-    module _ {p q : ℕ} (e : x ≡ Are p q) {a : List ℕ} (qa : a ≡ held s (f .first)) {y : DateRead} (qy : y ≡ dateOf a) where
+    module _ {p q : ℕ} (e : x ≡ Are p q) {a : List ℕ} (qa : a ≡ held s (f .first)) {y : DateRead}
+        (qy : y ≡ dateOf a) where
       date-at : dateOf (held s (f .first)) ≡ y
       date-at = rw qa at (sym qy)
 
@@ -113,6 +117,7 @@ day-small x d e = three (eqb (x .count) 3) e
     by (Are p q) dates.Unreadable w e = clash cc
     by Unfit r w e = clash cc
 
-    three : (t : Bool) → pick t (dayBy (hoursOf x) (dateOf (x .first))) (Wrong NotThreeFields) ≡ Says d → d .pasture + d .yard ≤ 240
+    three : (t : Bool) → pick t (dayBy (hoursOf x) (dateOf (x .first))) (Wrong NotThreeFields) ≡ Says d
+        → d .pasture + d .yard ≤ 240
     three true e = by (hoursOf x) (dateOf (x .first)) refl e
     three false e = clash cc

@@ -1,4 +1,5 @@
--- How far a log is read, from the calls that go on with it: each law in the form that a place of src/logs.rt wants. Assumes nothing.
+-- How far a log is read, from the calls that go on with it: each law in the form that a place of src/logs.rt wants.
+-- Assumes nothing.
 use Prim.Native.Nat.{ℕ, _+_, _-_, _*_, _<_, _≤_}
 use mathlib.Core.Path.{_≡_, refl, sym, ap, subst, _∙_}
 use mathlib.Core.Bool.{Bool, true, false, not}
@@ -48,7 +49,8 @@ module _ (p : Progress) {x : DayRead} where
     pub taken-not-due : not b ≡ true → Wrong WrongDate ≡ takenBy p x
     taken-not-due h = simp (e, sym q ∙ not-true b h)
 
-    pub taken-further : not b ≡ false → {due : Due} → due ≡ dueAfter (d .date) → {t : Tally} → t ≡ withDay (p .tally) d
+    pub taken-further : not b ≡ false → {due : Due} → due ≡ dueAfter (d .date) → {t : Tally}
+        → t ≡ withDay (p .tally) d
         → Further (progress due t) ≡ takenBy p x
     taken-further h u v = simp (e, sym q ∙ not-false b h, u, v)
 
@@ -77,8 +79,8 @@ pub ruleset finished-steps = (ends-at-once, ends-early, ends-in-time)
 abbrev onFrom : List ℕ → ReaderPlace → ℕ → Progress → LogAnswer
 onFrom s place n p = readFrom n p (readingOf (drop (place .at) s))
 
--- at a place where the n-th record comes: no more days are counted than records were read, and what is read from here on is what is read from
--- the front
+-- at a place where the n-th record comes: no more days are counted than records were read, and what is read from here
+-- on is what is read from the front
 pub record Reached (s : List ℕ) (place : ReaderPlace) (p : Progress) (n : ℕ) : Type 0 where
   pub inside : place .at ≤ length s
   pub numbered : (0 < n) × (n ≤ place .at + 1)
@@ -87,7 +89,8 @@ pub record Reached (s : List ℕ) (place : ReaderPlace) (p : Progress) (n : ℕ)
   pub hours : p .tally .pasture ≤ n * 240
   pub reads : onFrom s place n p ≡ readFrom 1 nothingRead (readingOf s)
 
-pub reached-front : (s : List ℕ) {place : ReaderPlace} → place .at ≡ 0 → {p : Progress} → p ≡ nothingRead → Reached s place p 1
+pub reached-front : (s : List ℕ) {place : ReaderPlace} → place .at ≡ 0 → {p : Progress} → p ≡ nothingRead
+    → Reached s place p 1
 reached-front s e q =
     record {
       inside = omega arith;
@@ -98,7 +101,8 @@ reached-front s e q =
       reads = rw (e, q);
     }
 
-module _ (s : List ℕ) (short : length s ≤ logMost) (place : ReaderPlace) (p : Progress) (n : ℕ) (x : Reached s place p n) where
+module _ (s : List ℕ) (short : length s ≤ logMost) (place : ReaderPlace) (p : Progress) (n : ℕ)
+    (x : Reached s place p n) where
   pub reached-roomy : Roomy (p .tally)
   reached-roomy =
       record {
@@ -110,7 +114,8 @@ module _ (s : List ℕ) (short : length s ≤ logMost) (place : ReaderPlace) (p 
   pub reached-few : n ≤ 65537
   reached-few = omega (arith, x .inside, x .numbered)
 
-module _ (s : List ℕ) (place : ReaderPlace) (p : Progress) (n : ℕ) (x : Reached s place p n) {o : Step} (w : o ≡ stepOf s (place .at)) where
+module _ (s : List ℕ) (place : ReaderPlace) (p : Progress) (n : ℕ) (x : Reached s place p n) {o : Step}
+    (w : o ≡ stepOf s (place .at)) where
   abbrev X : LogAnswer
   X = readFrom 1 nothingRead (readingOf s)
 
@@ -162,7 +167,8 @@ module _ (s : List ℕ) (place : ReaderPlace) (p : Progress) (n : ℕ) (x : Reac
           r : ReadAs s (place .at) f next
           r = next-reads s (place .at) (sym w ∙ z)
 
-          more : (d : Day) → y ≡ reads.Says d → q ≡ progress (dueAfter (d .date)) (withDay (p .tally) d) → Reached s next q (n + 1)
+          more : (d : Day) → y ≡ reads.Says d → q ≡ progress (dueAfter (d .date)) (withDay (p .tally) d)
+              → Reached s next q (n + 1)
           more d h k =
               let g = grown (p .tally) d in
               let m = day-small (partsAt s f) d (sym qy ∙ h) in
@@ -176,7 +182,8 @@ module _ (s : List ℕ) (place : ReaderPlace) (p : Progress) (n : ℕ) (x : Reac
               }
 
           due : (d : Day) (b : Bool) → y ≡ reads.Says d
-              → pick b (Further (progress (dueAfter (d .date)) (withDay (p .tally) d))) (Wrong WrongDate) ≡ Further q → Reached s next q (n + 1)
+              → pick b (Further (progress (dueAfter (d .date)) (withDay (p .tally) d))) (Wrong WrongDate) ≡ Further q
+              → Reached s next q (n + 1)
           due d true h k = more d h (cc)
           due d false h k = clash cc
 

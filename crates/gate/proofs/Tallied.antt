@@ -24,7 +24,8 @@ tally-outdoors days = refl
 
 -- ---- one day more
 
-those-last : (f : Day → Bool) (ds : List Day) (d : Day) → those f (ds ++ (d ∷ [])) ≡ those f ds ++ pick (f d) (d ∷ []) []
+those-last : (f : Day → Bool) (ds : List Day) (d : Day)
+    → those f (ds ++ (d ∷ [])) ≡ those f ds ++ pick (f d) (d ∷ []) []
 those-last f [] d = go (f d)
   where
     go : (t : Bool) → pick t (d ∷ []) [] ≡ pick t (d ∷ []) []
@@ -32,7 +33,8 @@ those-last f [] d = go (f d)
 those-last f (x ∷ ds) d = go (f x) (those-last f ds d)
   where
     go : (t : Bool) → those f (ds ++ (d ∷ [])) ≡ those f ds ++ pick (f d) (d ∷ []) []
-        → pick t (x ∷ those f (ds ++ (d ∷ []))) (those f (ds ++ (d ∷ []))) ≡ pick t (x ∷ those f ds) (those f ds) ++ pick (f d) (d ∷ []) []
+        → pick t (x ∷ those f (ds ++ (d ∷ []))) (those f (ds ++ (d ∷ [])))
+        ≡ pick t (x ∷ those f ds) (those f ds) ++ pick (f d) (d ∷ []) []
     go true e = ap (λ (l : List Day). x ∷ l) e
     go false e = e
 
@@ -55,7 +57,9 @@ module _ (f : Day → ℕ) (ds : List Day) (d : Day) where
       go true = length-last (some ds) d
       go false = ap length (append-nil (some ds)) ∙ omega arith
 
-some-hours : (ds : List Day) (d : Day) → pastureHours (those (λ x. ltb 0 (x .pasture)) (ds ++ (d ∷ []))) ≡ pastureHours (those (λ x. ltb 0 (x .pasture)) ds) + d .pasture
+some-hours : (ds : List Day) (d : Day)
+    → pastureHours (those (λ x. ltb 0 (x .pasture)) (ds ++ (d ∷ [])))
+    ≡ pastureHours (those (λ x. ltb 0 (x .pasture)) ds) + d .pasture
 some-hours ds d = ap pastureHours (those-last (λ x. ltb 0 (x .pasture)) ds d) ∙ go (ltb 0 (d .pasture)) refl
   where
     l : List Day
@@ -70,7 +74,9 @@ unfolding withDay
 tally-last ds d = go (isLeapDay (d .date)) refl
   where
     is : (l : List Day) → counted (ds ++ (d ∷ [])) ≡ l
-        → tallyOf (ds ++ (d ∷ [])) ≡ tally (length (those (λ x. ltb 0 (x .pasture)) l)) (length (those (λ x. ltb 0 (x .yard)) l)) (pastureHours (those (λ x. ltb 0 (x .pasture)) l))
+        → tallyOf (ds ++ (d ∷ []))
+        ≡ tally (length (those (λ x. ltb 0 (x .pasture)) l)) (length (those (λ x. ltb 0 (x .yard)) l))
+        (pastureHours (those (λ x. ltb 0 (x .pasture)) l))
     is l e = rw e
 
     rest : counted (ds ++ (d ∷ [])) ≡ counted ds ++ pick (not (isLeapDay (d .date))) (d ∷ []) []
@@ -80,5 +86,9 @@ tally-last ds d = go (isLeapDay (d .date)) refl
     go true e = is (counted ds) (rest ∙ rw e (append-nil (counted ds))) ∙ simp (withDay, e)
     go false e =
         is (counted ds ++ (d ∷ [])) (rest ∙ rw e refl)
-        ∙ rw (some-count (λ x. x .pasture) (counted ds) d, some-count (λ x. x .yard) (counted ds) d, some-hours (counted ds) d)
+        ∙ rw (
+          some-count (λ x. x .pasture) (counted ds) d,
+          some-count (λ x. x .yard) (counted ds) d,
+          some-hours (counted ds) d,
+        )
         (simp (withDay, e))

@@ -1,4 +1,5 @@
--- Days counted, from the calls that look at them: each law in the form that a place of src/tallies.rt wants. Assumes nothing.
+-- Days counted, from the calls that look at them: each law in the form that a place of src/tallies.rt wants. Assumes
+-- nothing.
 use Prim.Native.Nat.{ℕ, _+_, _*_, _≤_}
 use mathlib.Core.Path.{_≡_, refl, sym, ap, _∙_}
 use mathlib.Core.Bool.{Bool, true, false}
@@ -47,7 +48,14 @@ pub grown : (t : Tally) (d : Day) → Grown t d (withDay t d)
 unfolding withDay
 grown t d = go (isLeapDay (d .date))
   where
-    go : (b : Bool) → Grown t d (pick b t (tally (t .«grazing_days» + oneIf (d .pasture)) (t .«yard_days» + oneIf (d .yard)) (t .pasture + d .pasture)))
+    more : Tally
+    more = tally (t .«grazing_days» + oneIf (d .pasture)) (t .«yard_days» + oneIf (d .yard)) (t .pasture + d .pasture)
+
+    go : (b : Bool) → Grown t d (pick b t more)
     go true = record { grazing = omega arith; yard = omega arith; hours = omega arith }
     go false =
-        record { grazing = omega (arith, one-small (d .pasture) refl); yard = omega (arith, one-small (d .yard) refl); hours = omega arith }
+        record {
+          grazing = omega (arith, one-small (d .pasture) refl);
+          yard = omega (arith, one-small (d .yard) refl);
+          hours = omega arith;
+        }

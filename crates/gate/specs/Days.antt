@@ -1,5 +1,5 @@
--- What a record says of its day by itself: 3 and 7, and 14 where the date can't be read. It mirrors the code for its contracts; what these mean is
--- said of the records in `gate_rules/specs`, and proved to be the same there.
+-- What a record says of its day by itself: 3 and 7, and 14 where the date can't be read. It mirrors the code for its
+-- contracts; what these mean is said of the records in `gate_rules/specs`, and proved to be the same there.
 use Prim.Native.Nat.{ℕ, _+_}
 use lib.Dec.{ltb}
 use Rattle.base.specs.Pick.{pick, if_is_then_else_}

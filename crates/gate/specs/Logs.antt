@@ -1,5 +1,5 @@
--- A log read through, record by record. It mirrors the code for its contracts; what it means is said of the records in `gate_rules/specs`, and
--- proved to be the same there.
+-- A log read through, record by record. It mirrors the code for its contracts; what it means is said of the records
+-- in `gate_rules/specs`, and proved to be the same there.
 use Prim.Native.Nat.{ℕ, _+_}
 use mathlib.Core.List.{List}
 use lib.Dec.{ltb}
@@ -33,7 +33,8 @@ nothingRead = progress NewYear (tally 0 0 0)
 -- what a record does: its date has to be the one that is due
 abbrev pub takenBy : Progress → DayRead → Taken
 takenBy p (reads.Wrong fault) = Wrong fault
-takenBy p (reads.Says d) = pick (isDue (p .due) (d .date)) (Further (progress (dueAfter (d .date)) (withDay (p .tally) d))) (Wrong WrongDate)
+takenBy p (reads.Says d) =
+    pick (isDue (p .due) (d .date)) (Further (progress (dueAfter (d .date)) (withDay (p .tally) d))) (Wrong WrongDate)
 
 abbrev pub finishedBy : Due → Tally → LogAnswer
 finishedBy NewYear t = Refused WrongDate 0

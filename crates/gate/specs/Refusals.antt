@@ -1,7 +1,9 @@
--- 02, W10: "Refusals: 1, 2, 3 (not three fields), 7 (bad number or sum), then 14". The number of each; 1 to 3 and 7 are 01's. To be believed.
+-- 02, W10: "Refusals: 1, 2, 3 (not three fields), 7 (bad number or sum), then 14". The number of each; 1 to 3 and 7
+-- are 01's. To be believed.
 use Prim.Native.Nat.{ℕ}
 use Rattle.gate.specs.declared.LogFault.{LogFault}
-use Rattle.gate.specs.declared.LogFault.the-variants.{LogTooLong, RecordBroken, NotThreeFields, BadHours, WrongDate}
+use Rattle.gate.specs.declared.LogFault.the-variants.{LogTooLong, RecordBroken, NotThreeFields, BadHours}
+use Rattle.gate.specs.declared.LogFault.the-variants.{WrongDate}
 use Rattle.gate.specs.declared.Outdoors.{Outdoors}
 use Rattle.gate.specs.declared.LogAnswer.{LogAnswer}
 use Rattle.gate.specs.declared.LogAnswer.the-variants.{Gives, Refused}

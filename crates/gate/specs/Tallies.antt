@@ -1,4 +1,5 @@
--- Days counted one after the other. It mirrors the code for its contracts; proofs/Tallied.antt shows that it comes to `outdoorsOf`.
+-- Days counted one after the other. It mirrors the code for its contracts; proofs/Tallied.antt shows that it comes to
+-- `outdoorsOf`.
 use Prim.Native.Nat.{ℕ, _+_, _^_, _<_}
 use lib.Dec.{ltb}
 use Rattle.base.specs.Pick.{pick}
@@ -22,7 +23,11 @@ withDay t d =
 
 abbrev pub outdoorsBy : Tally → Outdoors
 outdoorsBy t =
-    record { «grazing_days» = t .«grazing_days»; «yard_days» = t .«yard_days»; «grazing_hours» = meanOf (t .pasture) (t .«grazing_days») }
+    record {
+      «grazing_days» = t .«grazing_days»;
+      «yard_days» = t .«yard_days»;
+      «grazing_hours» = meanOf (t .pasture) (t .«grazing_days»);
+    }
 
 -- a day more does not pass what the numbers hold
 pub record Roomy (t : Tally) : Type 0 where

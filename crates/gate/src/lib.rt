@@ -1,5 +1,5 @@
-// The log of a pasture gate, a record a day, through one calendar year, becomes a farm file's grazing days, yard days and grazing hours; or
-// exactly one refusal with its record number, the first that applies in the order of 02's W10.
+// The log of a pasture gate, a record a day, through one calendar year, becomes a farm file's grazing days, yard days
+// and grazing hours; or exactly one refusal with its record number, the first that applies in the order of 02's W10.
 pub mod days; // what a record says of its day
 pub mod tallies; // days counted, and what comes of them
 pub mod logs; // the whole log
@@ -29,7 +29,8 @@ pub struct Day {
     pub yard: u8,
 }
 
-// What the days so far come to: those with hours on pasture, those with hours on the yard, and the tenths of an hour on pasture.
+// What the days so far come to: those with hours on pasture, those with hours on the yard, and the tenths of an hour
+// on pasture.
 pub struct Tally {
     pub grazing_days: u32,
     pub yard_days: u32,

@@ -1,5 +1,5 @@
--- What a gate's log is answered with, byte by byte: three lines, as `name,value` with CRLF, hours with exactly one decimal; or 01's
--- "`refused,NUMBER,RECORD` and CRLF". To be believed.
+-- What a gate's log is answered with, byte by byte: three lines, as `name,value` with CRLF, hours with exactly one
+-- decimal; or 01's "`refused,NUMBER,RECORD` and CRLF". To be believed.
 use Prim.Native.Nat.{ℕ, _/_, _%_}
 use Prim.Native.String.{String}
 use mathlib.Core.List.{List, [], _++_}
@@ -26,7 +26,8 @@ outdoorsLines o =
     (line "grazing_hours" (tenthsOf (o .«grazing_hours»)) []))
 
 unfoldable pub refusalLine : LogFault → ℕ → List ℕ
-refusalLine fault record′ = bytes "refused," ++ wholeOf (number fault) ++ (bytes "," ++ wholeOf record′) ++ bytes "\r\n"
+refusalLine fault record′ =
+    bytes "refused," ++ wholeOf (number fault) ++ (bytes "," ++ wholeOf record′) ++ bytes "\r\n"
 
 abbrev pub answerLines : LogAnswer → List ℕ
 answerLines (Gives o) = outdoorsLines o

@@ -4,14 +4,12 @@ use gate::LogFault;
 use gate::Outdoors;
 use gate::logs;
 ghost use mathlib.Core.Path.{_≡_};
-ghost use mathlib.Core.List.{_++_};
 ghost use Prim.Native.Nat.{_+_, _≤_};
 ghost use lib.ListN.{length};
 ghost use Rattle.base.specs.Wrote.{Wrote};
-ghost use Rattle.decimal.specs.Writing.{wholeOf};
 ghost use Rattle.gate.specs.Refusals.{number};
 ghost use Rattle.gate_answer.specs.Lines.{outdoorsLines, refusalLine, answerLines};
-ghost use Rattle.gate_answer.specs.Program.{digitsMost, answerRoom, answerOf};
+ghost use Rattle.gate_answer.specs.Program.{digitsMost, PutNumber, answerRoom, answerOf};
 
 // Longer than any answer.
 pub const ANSWER_ROOM: usize = 192;
@@ -39,7 +37,7 @@ fn number_of(fault: LogFault) -> u64
 // A text, and a whole number behind it.
 fn put_number(out: &mut [u8], at: usize, text: &[u8], n: u64) -> usize
     requires { ⌜ at + length (now text) + digitsMost ≤ length (now out) ⌝ }
-    ensures { λ r. ⌜ Wrote (now (out .entry)) at (now (text .entry) ++ wholeOf n) (now (out .exit)) r × (r ≤ at + length (now (text .entry)) + digitsMost) ⌝ }
+    ensures { λ r. ⌜ PutNumber (now (out .entry)) at (now (text .entry)) n (now (out .exit)) r ⌝ }
 {
     let a = base::put(out, at, text);
     decimal::put_whole(out, a, n)

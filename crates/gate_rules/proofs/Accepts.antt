@@ -1,4 +1,5 @@
--- Exact acceptance: a log comes to something exactly where it keeps the rules and its days come to that. Assumes nothing.
+-- Exact acceptance: a log comes to something exactly where it keeps the rules and its days come to that. Assumes
+-- nothing.
 use Prim.Native.Nat.{ℕ, zero, suc, _+_, _-_}
 use mathlib.Core.Path.{_≡_, refl, sym, ap, _∙_}
 use mathlib.Core.Logic.{_↔_}
@@ -40,7 +41,14 @@ keeps {s} {x} {o} (read short r) e = go r e
     go : {x : LogAnswer} → Ran (readingOf s) x → x ≡ Gives o → KeepsLog s o
     go (accepts rs {days} w _ log _) e =
         let is : outdoorsOf days ≡ o = cc in
-        record { short = short; records = rs; reads = read-file rs s (w ∙ sym (whole-thens rs)); days = days; log = log; is = sym is }
+        record {
+          short = short;
+          records = rs;
+          reads = read-file rs s (w ∙ sym (whole-thens rs));
+          days = days;
+          log = log;
+          is = sym is;
+        }
     go (breaks _ _ _) e = clash cc
     go (wrong _ _ _ _ _ _ _) e = clash cc
     go (ends _ _ _ _) e = clash cc
@@ -49,13 +57,15 @@ keeps (too-long _) e = clash cc
 -- ---- what keeps the rules is accepted
 
 -- a record of a day that is due takes reading further
-taken : (n : ℕ) (due : Due) (t : Tally) {cs : Record} {d : Day} → RecordSays cs d → isDue due (d .date) ≡ true → (r : Reading)
+taken : (n : ℕ) (due : Due) (t : Tally) {cs : Record} {d : Day} → RecordSays cs d → isDue due (d .date) ≡ true
+    → (r : Reading)
     → readFrom n (progress due t) (cs then r) ≡ readFrom (n + 1) (progress (dueAfter (d .date)) (withDay t d)) r
 unfolding readFrom
 taken n due t x e r = rw (readFrom, said x, e)
 
 -- the year's days from the day k on, behind those of a
-along : (y k m n : ℕ) (a : List Day) {rs : List Record} {ds : List Day} → Pairs RecordSays rs ds → datesOf ds ≡ datesFrom m (dateAt y (suc k)) → suc k + m ≡ yearLength y
+along : (y k m n : ℕ) (a : List Day) {rs : List Record} {ds : List Day} → Pairs RecordSays rs ds
+    → datesOf ds ≡ datesFrom m (dateAt y (suc k)) → suc k + m ≡ yearLength y
     → readFrom n (progress (dueAfter (dateAt y k)) (tallyOf a)) (thens rs end) ≡ Gives (outdoorsOf (a ++ ds))
 unfolding readFrom finished
 along y k zero n a Pairs.none e l =
@@ -67,14 +77,18 @@ along y k (suc m) n a (Pairs.more {b = d} {l = rs} {m = ds} x p) e l =
     let is : d .date ≡ dateAt y (suc k) = cc in
     let rest : datesOf ds ≡ datesFrom m (nextDate (dateAt y (suc k))) = cc in
     let due : isDue (dueAfter (dateAt y k)) (d .date) ≡ true =
-    ap (λ (u : Due). isDue u (d .date)) (due-next y k (omega arith)) ∙ ap (sameDate (dateAt y (suc k))) is ∙ one-same (dateAt y (suc k)) in
+    ap (λ (u : Due). isDue u (d .date)) (due-next y k (omega arith)) ∙ ap (sameDate (dateAt y (suc k))) is
+    ∙ one-same (dateAt y (suc k)) in
     taken n (dueAfter (dateAt y k)) (tallyOf a) x due (thens rs end)
     ∙ ap (λ (z : Date). readFrom (n + 1) (progress (dueAfter z) (withDay (tallyOf a) d)) (thens rs end)) is
-    ∙ ap (λ (t : Tally). readFrom (n + 1) (progress (dueAfter (dateAt y (suc k))) t) (thens rs end)) (sym (tally-last a d))
-    ∙ along y (suc k) m (n + 1) (a ++ (d ∷ [])) p (rest ∙ ap (datesFrom m) (after-next (suc k) (newYear y))) (omega arith)
+    ∙ ap (λ (t : Tally). readFrom (n + 1) (progress (dueAfter (dateAt y (suc k))) t) (thens rs end))
+    (sym (tally-last a d))
+    ∙ along y (suc k) m (n + 1) (a ++ (d ∷ [])) p (rest ∙ ap (datesFrom m) (after-next (suc k) (newYear y)))
+    (omega arith)
     ∙ ap (λ (days : List Day). Gives (outdoorsOf days)) (append-assoc a (d ∷ []) ds)
 
-from-front : (y m : ℕ) {rs : List Record} {ds : List Day} → Pairs RecordSays rs ds → datesOf ds ≡ datesFrom (suc m) (newYear y) → yearLength y ≡ suc m
+from-front : (y m : ℕ) {rs : List Record} {ds : List Day} → Pairs RecordSays rs ds
+    → datesOf ds ≡ datesFrom (suc m) (newYear y) → yearLength y ≡ suc m
     → readFrom 1 nothingRead (thens rs end) ≡ Gives (outdoorsOf ds)
 from-front y m Pairs.none e l = clash cc
 from-front y m (Pairs.more {b = d} {l = rs} {m = ds} x p) e l =

@@ -29,12 +29,14 @@ use Rattle.gate.specs.Outdoors.{outdoorsOf}
 use Rattle.gate.specs.Logs.{nothingRead, takenBy, readFrom, readLog}
 use Rattle.gate_rules.specs.Rules.{dateText, LogOf, logMost}
 use Rattle.gate_rules.specs.Refusals.{Applies}
-use Rattle.gate_rules.proofs.Steps.{Inv, start, NoneBelow, Verdict, refuses, goes-on, verdict, OnEve, Ended, whole, early, finish}
+use Rattle.gate_rules.proofs.Steps.{Inv, start, NoneBelow, Verdict, refuses, goes-on, verdict, OnEve, Ended}
+use Rattle.gate_rules.proofs.Steps.{whole, early, finish}
 
 -- ---- records for which none of 3, 7 and 14 applies
 
 abbrev pub Clean : List Record → Type 0
-Clean rs = (a : List Record) (cs : Record) (b : List Record) → rs ≡ a ++ (cs ∷ b) → (f : LogFault) → Applies a cs f → ⊥
+Clean rs =
+    (a : List Record) (cs : Record) (b : List Record) → rs ≡ a ++ (cs ∷ b) → (f : LogFault) → Applies a cs f → ⊥
 
 -- where a record stands in a list with one more at its end
 data Splits (rs : List Record) (cs : Record) (a : List Record) (c : Record) : Type 0 where
@@ -44,7 +46,8 @@ data Splits (rs : List Record) (cs : Record) (a : List Record) (c : Record) : Ty
 not-nil : {R : Type 0} (a : List Record) (c : Record) (b : List Record) → [] ≡ a ++ (c ∷ b) → R
 not-nil a c b e = absurd (omega (arith, ap length e, length-append a (c ∷ b)))
 
-splits : (rs : List Record) (cs : Record) (a : List Record) (c : Record) (b : List Record) → rs ++ (cs ∷ []) ≡ a ++ (c ∷ b) → Splits rs cs a c
+splits : (rs : List Record) (cs : Record) (a : List Record) (c : Record) (b : List Record)
+    → rs ++ (cs ∷ []) ≡ a ++ (c ∷ b) → Splits rs cs a c
 splits [] cs [] c b e = at-end refl (cc)
 splits [] cs (x ∷ a) c b e = let d : [] ≡ a ++ (c ∷ b) = cc in not-nil a c b d
 splits (y ∷ rs) cs [] c b e = let d : y ≡ c = cc in within rs (ap (λ (x : Record). x ∷ rs) d)
@@ -57,7 +60,8 @@ splits (y ∷ rs) cs (x ∷ a) c b e = go (splits rs cs a c b (cc))
 clean-none : Clean []
 clean-none a cs b e = not-nil a cs b e
 
-clean-last : (rs : List Record) (cs : Record) → Clean rs → ((f : LogFault) → Applies rs cs f → ⊥) → Clean (rs ++ (cs ∷ []))
+clean-last : (rs : List Record) (cs : Record) → Clean rs → ((f : LogFault) → Applies rs cs f → ⊥)
+    → Clean (rs ++ (cs ∷ []))
 clean-last rs cs clean here a c b e f x = go (splits rs cs a c b e)
   where
     go : Splits rs cs a c → ⊥
@@ -67,11 +71,14 @@ clean-last rs cs clean here a c b e f x = go (splits rs cs a c b e)
 -- ---- the answer to a reading
 
 pub data Ran (w : Reading) : LogAnswer → Type 0 where
-  accepts : (rs : List Record) {days : List Day} → w ≡ thens rs end → Clean rs → LogOf rs days → OnEve rs → Ran w (Gives (outdoorsOf days))
+  accepts : (rs : List Record) {days : List Day} → w ≡ thens rs end → Clean rs → LogOf rs days → OnEve rs
+      → Ran w (Gives (outdoorsOf days))
   breaks : (rs : List Record) → w ≡ thens rs broken → Clean rs → Ran w (Refused RecordBroken (length rs + 1))
-  wrong : (before : List Record) (cs : Record) (rest : Reading) {fault : LogFault} → w ≡ thens before (cs then rest) → Clean before → Applies before cs fault
+  wrong : (before : List Record) (cs : Record) (rest : Reading) {fault : LogFault} → w ≡ thens before (cs then rest)
+      → Clean before → Applies before cs fault
       → NoneBelow before cs (number fault) → Ran w (Refused fault (length before + 1))
-  ends : (rs : List Record) → w ≡ thens rs end → Clean rs → ((r : Record) (d : Date) → Last rs r → IsDate (dateText r) d → IsEve d → ⊥)
+  ends : (rs : List Record) → w ≡ thens rs end → Clean rs
+      → ((r : Record) (d : Date) → Last rs r → IsDate (dateText r) d → IsEve d → ⊥)
       → Ran w (Refused WrongDate 0)
 
 through : {w : Reading} {rs : List Record} {x : LogAnswer} → w ≡ thens rs end → Clean rs → Ended rs x → Ran w x
@@ -79,19 +86,27 @@ through {rs = rs} e clean (whole log eve) = accepts rs e clean log eve
 through {rs = rs} e clean (early none) = ends rs e clean none
 
 module _ (w : Reading) where
-  run : (before : List Record) (p : Progress) → Inv before p → Clean before → (r : Reading) → w ≡ thens before r → Ran w (readFrom (length before + 1) p r)
+  run : (before : List Record) (p : Progress) → Inv before p → Clean before → (r : Reading) → w ≡ thens before r
+      → Ran w (readFrom (length before + 1) p r)
   unfolding readFrom
   run before p inv clean end e = through e clean (finish inv)
   run before p inv clean broken e = breaks before e clean
   run before p inv clean (cs then r) e = go (verdict inv cs) (λ b q i c d. run b q i c r d)
     where
-      go : {t : Taken} → Verdict before cs p t → ((b : List Record) (q : Progress) → Inv b q → Clean b → w ≡ thens b r → Ran w (readFrom (length b + 1) q r))
-          → Ran w (elim t [ | Further q ↦ readFrom (length before + 1 + 1) q r | Wrong fault ↦ Refused fault (length before + 1) ])
+      go : {t : Taken} → Verdict before cs p t
+          → ((b : List Record) (q : Progress) → Inv b q → Clean b → w ≡ thens b r → Ran w (readFrom (length b + 1) q r))
+          → Ran w
+          (elim t [
+            | Further q ↦ readFrom (length before + 1 + 1) q r
+            | Wrong fault ↦ Refused fault (length before + 1)
+          ])
       go (refuses x below) again = wrong before cs r e clean x below
       go (goes-on {q} none on) again =
-          let n : length (before ++ (cs ∷ [])) + 1 ≡ length before + 1 + 1 = omega (arith, length-append before (cs ∷ [])) in
+          let n : length (before ++ (cs ∷ [])) + 1 ≡ length before + 1 + 1 =
+          omega (arith, length-append before (cs ∷ [])) in
           subst (λ (k : ℕ). Ran w (readFrom k q r)) n
-          (again (before ++ (cs ∷ [])) q on (clean-last before cs clean none) (e ∙ sym (thens-append before (cs ∷ []) r)))
+          (again (before ++ (cs ∷ [])) q on (clean-last before cs clean none)
+          (e ∙ sym (thens-append before (cs ∷ []) r)))
 
 -- ---- the answer to a log
 
@@ -103,6 +118,8 @@ pub answered : (s : List ℕ) → Answered s (readLog s)
 unfolding readLog
 answered s = go (ltb logMost (length s)) refl
   where
-    go : (t : Bool) → ltb logMost (length s) ≡ t → Answered s (pick t (Refused LogTooLong 0) (readFrom 1 nothingRead (readingOf s)))
+    go : (t : Bool) → ltb logMost (length s) ≡ t
+        → Answered s (pick t (Refused LogTooLong 0) (readFrom 1 nothingRead (readingOf s)))
     go true e = too-long (ltb-true logMost (length s) e)
-    go false e = read (ltb-false logMost (length s) e) (run (readingOf s) [] nothingRead start clean-none (readingOf s) refl)
+    go false e =
+        read (ltb-false logMost (length s) e) (run (readingOf s) [] nothingRead start clean-none (readingOf s) refl)

@@ -46,15 +46,24 @@ read-hours : (cs : Record) → ReadHours cs (hoursOf (partsOf cs))
 unfolding hoursOf
 read-hours cs = go (numberOf (pastureText cs) 1 240) (numberOf (yardText cs) 1 240) refl refl
   where
-    both : (a b : ℕ) → IsNumber (pastureText cs) 1 a → IsNumber (yardText cs) 1 b → (t : Bool) → ltb 240 (a + b) ≡ t → ReadHours cs (pick t Unfit (Are a b))
+    both : (a b : ℕ) → IsNumber (pastureText cs) 1 a → IsNumber (yardText cs) 1 b → (t : Bool) → ltb 240 (a + b) ≡ t
+        → ReadHours cs (pick t Unfit (Are a b))
     both a b x y true e =
-        unfit (λ p q h. let m = one-value x (h .pasture-hours) in let n = one-value y (h .yard-hours) in omega (arith, h .most, ltb-true 240 (a + b) e))
+        unfit (λ p q h.
+        let m = one-value x (h .pasture-hours) in
+        let n = one-value y (h .yard-hours) in
+        omega (arith, h .most, ltb-true 240 (a + b) e))
     both a b x y false e = are (record { pasture-hours = x; yard-hours = y; most = ltb-false 240 (a + b) e })
 
-    go : (x y : Number) → numberOf (pastureText cs) 1 240 ≡ x → numberOf (yardText cs) 1 240 ≡ y → ReadHours cs (hoursBy x y)
-    go (Value a) (Value b) p q = both a b (number-iff (pastureText cs) 1 240 a .0 p .0) (number-iff (yardText cs) 1 240 b .0 q .0) (ltb 240 (a + b)) refl
-    go (Value a) Unreadable p q = unfit (λ m n h. unreadable-iff (yardText cs) 1 240 .0 q n (h .yard-hours) (omega (arith, h .most)))
-    go Unreadable y p q = unfit (λ m n h. unreadable-iff (pastureText cs) 1 240 .0 p m (h .pasture-hours) (omega (arith, h .most)))
+    go : (x y : Number) → numberOf (pastureText cs) 1 240 ≡ x → numberOf (yardText cs) 1 240 ≡ y
+        → ReadHours cs (hoursBy x y)
+    go (Value a) (Value b) p q =
+        both a b (number-iff (pastureText cs) 1 240 a .0 p .0) (number-iff (yardText cs) 1 240 b .0 q .0)
+        (ltb 240 (a + b)) refl
+    go (Value a) Unreadable p q =
+        unfit (λ m n h. unreadable-iff (yardText cs) 1 240 .0 q n (h .yard-hours) (omega (arith, h .most)))
+    go Unreadable y p q =
+        unfit (λ m n h. unreadable-iff (pastureText cs) 1 240 .0 p m (h .pasture-hours) (omega (arith, h .most)))
 
 -- ---- a day
 
@@ -63,13 +72,15 @@ pub data Alone (cs : Record) : DayRead → Type 0 where
   says : {d : Day} → RecordSays cs d → Alone cs (reads.Says d)
   not-three : (length cs ≡ 3 → ⊥) → Alone cs (reads.Wrong NotThreeFields)
   no-hours : length cs ≡ 3 → ((p q : ℕ) → HoursAre cs p q → ⊥) → Alone cs (reads.Wrong BadHours)
-  no-date : {p q : ℕ} → length cs ≡ 3 → HoursAre cs p q → ((d : Date) → IsDate (dateText cs) d → ⊥) → Alone cs (reads.Wrong WrongDate)
+  no-date : {p q : ℕ} → length cs ≡ 3 → HoursAre cs p q → ((d : Date) → IsDate (dateText cs) d → ⊥)
+      → Alone cs (reads.Wrong WrongDate)
 
 pub alone : (cs : Record) → Alone cs (dayOf (partsOf cs))
 unfolding dayOf
 alone cs = three (eqb (length cs) 3) refl
   where
-    date : length cs ≡ 3 → {p q : ℕ} → HoursAre cs p q → (r : DateRead) → dateOf (dateText cs) ≡ r → Alone cs (dayBy (Are p q) r)
+    date : length cs ≡ 3 → {p q : ℕ} → HoursAre cs p q → (r : DateRead) → dateOf (dateText cs) ≡ r
+        → Alone cs (dayBy (Are p q) r)
     date n h (dates.Is d) e = says (record { three = n; hours = h; date = date-iff (dateText cs) d .0 e })
     date n h dates.Unreadable e =
         no-date n h (λ d x. let c : dates.Unreadable ≡ dates.Is d = sym e ∙ date-iff (dateText cs) d .1 x in clash cc)
@@ -78,7 +89,8 @@ alone cs = three (eqb (length cs) 3) refl
     hours n (are h) = date n h (dateOf (dateText cs)) refl
     hours n (unfit none) = no-hours n none
 
-    three : (t : Bool) → eqb (length cs) 3 ≡ t → Alone cs (pick t (dayBy (hoursOf (partsOf cs)) (dateOf (dateText cs))) (reads.Wrong NotThreeFields))
+    three : (t : Bool) → eqb (length cs) 3 ≡ t
+        → Alone cs (pick t (dayBy (hoursOf (partsOf cs)) (dateOf (dateText cs))) (reads.Wrong NotThreeFields))
     three true e = hours (eqb-true (length cs) 3 e) (read-hours cs)
     three false e = not-three (eqb-false (length cs) 3 e)
 

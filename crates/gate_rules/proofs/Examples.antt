@@ -20,7 +20,8 @@ use Rattle.gate.specs.Logs.{finished, readFrom, readLog}
 abbrev answer : String → LogAnswer
 answer text = readLog (bytes text)
 
--- an empty log and one that ends on 1 January; 24 hours and a tenth; a first date that is not 1 January; 7 before 14, and 3 before both
+-- an empty log and one that ends on 1 January; 24 hours and a tenth; a first date that is not 1 January; 7 before 14,
+-- and 3 before both
 pub refused-rows :
     map answer (
     ""
@@ -41,12 +42,14 @@ pub refused-rows :
     ∷ Refused RecordBroken 2
     ∷ Refused WrongDate 2
     ∷ []
-unfolding readLog readFrom finished dayOf hoursOf withDay dueAfter daysIn isLeap dateOf pairOf numberOf anyNumberOf zeroFrom wholeFrom pointFrom fractionFrom readingOf readingFrom atStart inPlain inQuotes pastQuote pastCR
+unfolding readLog readFrom finished dayOf hoursOf withDay dueAfter daysIn isLeap dateOf pairOf numberOf anyNumberOf
+    zeroFrom wholeFrom pointFrom fractionFrom readingOf readingFrom atStart inPlain inQuotes pastQuote pastCR
 refused-rows = refl
 
 -- 29 February is not counted, and of 10.0 and 0.5 hours the mean is cut to 5.2
 pub outdoors-row :
-    outdoorsOf (day (date 2024 2 28) 100 0 ∷ day (date 2024 2 29) 240 0 ∷ day (date 2024 3 1) 5 20 ∷ day (date 2024 3 2) 0 0 ∷ [])
+    outdoorsOf
+    (day (date 2024 2 28) 100 0 ∷ day (date 2024 2 29) 240 0 ∷ day (date 2024 3 1) 5 20 ∷ day (date 2024 3 2) 0 0 ∷ [])
     ≡ record { «grazing_days» = 2; «yard_days» = 1; «grazing_hours» = 52 }
 unfolding outdoorsOf
 outdoors-row = refl

@@ -52,8 +52,10 @@ tenths-number n =
     let w = whole-text (whole-number (n / 10)) refl in
     let f = whole-text (whole-number (n % 10)) refl in
     let one : length (wholeOf (n % 10)) ≡ 1 = whole-length (n % 10) ∙ width-small (n % 10) (omega arith) in
-    let is : value (wholeOf (n / 10) ++ wholeOf (n % 10)) ≡ n = one-behind (wholeOf (n / 10)) (wholeOf (n % 10)) (n / 10) (n % 10) one (w .is) (f .is) ∙ omega arith in
-    same-number (append-assoc (wholeOf (n / 10)) (bytes ".") (wholeOf (n % 10))) (rw one (mul-one (value (wholeOf (n / 10) ++ wholeOf (n % 10))) ∙ is))
+    let is : value (wholeOf (n / 10) ++ wholeOf (n % 10)) ≡ n =
+    one-behind (wholeOf (n / 10)) (wholeOf (n % 10)) (n / 10) (n % 10) one (w .is) (f .is) ∙ omega arith in
+    same-number (append-assoc (wholeOf (n / 10)) (bytes ".") (wholeOf (n % 10)))
+    (rw one (mul-one (value (wholeOf (n / 10) ++ wholeOf (n % 10))) ∙ is))
     (IsNumber.pointed {d = 1} (w .whole) (digits (f .whole)) (omega arith) (omega arith))
 
 -- ---- the entries
@@ -65,13 +67,19 @@ module _ (o : Outdoors) (fits : Fits o) (label : List ℕ) (good : GoodLabel lab
       let grazing = ValueIs.number (whole-number (o .«grazing_days»)) (fits .grazing) in
       let yard = ValueIs.number (whole-number (o .«yard_days»)) (fits .yard) in
       let hours = ValueIs.number (tenths-number (o .«grazing_hours»)) (fits .hours) in
-      more (record { slot = 5; says = RecordSays.says good (record { inside = lit< tt; path = refl; name = refl }) grazing })
-      (more (record { slot = 6; says = RecordSays.says good (record { inside = lit< tt; path = refl; name = refl }) hours })
-      (more (record { slot = 3; says = RecordSays.says good (record { inside = lit< tt; path = refl; name = refl }) yard })
-      (more (record { slot = 7; says = RecordSays.says good (record { inside = lit< tt; path = refl; name = refl }) grazing })
-      (more (record { slot = 8; says = RecordSays.says good (record { inside = lit< tt; path = refl; name = refl }) hours })
+      more
+      (record { slot = 5; says = RecordSays.says good (record { inside = lit< tt; path = refl; name = refl }) grazing })
+      (more
+      (record { slot = 6; says = RecordSays.says good (record { inside = lit< tt; path = refl; name = refl }) hours })
+      (more
+      (record { slot = 3; says = RecordSays.says good (record { inside = lit< tt; path = refl; name = refl }) yard })
+      (more
+      (record { slot = 7; says = RecordSays.says good (record { inside = lit< tt; path = refl; name = refl }) grazing })
+      (more
+      (record { slot = 8; says = RecordSays.says good (record { inside = lit< tt; path = refl; name = refl }) hours })
       none))))
 
 -- whatever a log comes to, a farm file takes it, for a herd of any good label
-pub farm-file-takes : (s : List ℕ) (o : Outdoors) → readLog s ≡ Gives o → (label : List ℕ) → GoodLabel label → Each (Takes label) (entriesOf o)
+pub farm-file-takes : (s : List ℕ) (o : Outdoors) → readLog s ≡ Gives o → (label : List ℕ) → GoodLabel label
+    → Each (Takes label) (entriesOf o)
 farm-file-takes s o e label good = entries-taken o (log-fits s o (accepts-exactly s o .0 e)) label good

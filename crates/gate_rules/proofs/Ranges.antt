@@ -1,5 +1,5 @@
--- What a log comes to lies in the ranges of a farm file's inputs: no more than 365 days are counted, and no day has more than 24 hours.
--- Assumes nothing.
+-- What a log comes to lies in the ranges of a farm file's inputs: no more than 365 days are counted, and no day has
+-- more than 24 hours. Assumes nothing.
 use Prim.Native.Nat.{ℕ, zero, suc, _+_, _*_, _/_, _<_, _≤_}
 use mathlib.Core.Path.{_≡_, refl, sym, ap, subst, _∙_}
 use mathlib.Core.Bool.{Bool, true, false, not}
@@ -55,7 +55,8 @@ plain-all n d = omega (arith, plain-most (datesFrom n d), dates-length n d)
 -- where a 29 February is among them, it does not
 plain-leap : (a b n : ℕ) (d : Date) → isLeapDay (after a d) ≡ true → n ≡ a + suc b → plain (datesFrom n d) ≤ a + b
 plain-leap a b n d leap e =
-    let rest : plain (datesFrom (suc b) (after a d)) ≡ plain (datesFrom b (nextDate (after a d))) = rw leap (omega arith) in
+    let rest : plain (datesFrom (suc b) (after a d)) ≡ plain (datesFrom b (nextDate (after a d))) =
+    rw leap (omega arith) in
     rw e (omega (arith, plain-from a (suc b) d, rest, plain-all b (nextDate (after a d))))
 
 plain-year : (y : ℕ) → plain (yearDates y) ≤ 365
@@ -69,7 +70,8 @@ counted-plain : (days : List Day) → length (counted days) ≡ plain (datesOf d
 counted-plain [] = refl
 counted-plain (d ∷ ds) = go (isLeapDay (d .date)) (counted-plain ds)
   where
-    go : (t : Bool) → length (counted ds) ≡ plain (datesOf ds) → length (pick (not t) (d ∷ counted ds) (counted ds)) ≡ pick t 0 1 + plain (datesOf ds)
+    go : (t : Bool) → length (counted ds) ≡ plain (datesOf ds)
+        → length (pick (not t) (d ∷ counted ds) (counted ds)) ≡ pick t 0 1 + plain (datesOf ds)
     go true e = omega arith
     go false e = omega arith
 
@@ -80,7 +82,8 @@ those-most : (f : Day → Bool) (days : List Day) → length (those f days) ≤ 
 those-most f [] = omega arith
 those-most f (d ∷ ds) = go (f d) (those-most f ds)
   where
-    go : (t : Bool) → length (those f ds) ≤ length ds → length (pick t (d ∷ those f ds) (those f ds)) ≤ suc (length ds)
+    go : (t : Bool) → length (those f ds) ≤ length ds
+        → length (pick t (d ∷ those f ds) (those f ds)) ≤ suc (length ds)
     go true h = omega arith
     go false h = omega arith
 
@@ -88,7 +91,8 @@ those-most f (d ∷ ds) = go (f d) (those-most f ds)
 
 day-most : {rs : List Record} {days : List Day} → Pairs RecordSays rs days → Each (λ d. d .pasture ≤ 240) days
 day-most Pairs.none = none
-day-most (Pairs.more {b = d} x p) = let most : d .pasture ≤ 240 = omega (arith, x .hours .most) in more most (day-most p)
+day-most (Pairs.more {b = d} x p) =
+    let most : d .pasture ≤ 240 = omega (arith, x .hours .most) in more most (day-most p)
 
 those-each : {P : Day → Type 0} (f : Day → Bool) (days : List Day) → Each P days → Each P (those f days)
 those-each f [] none = none
@@ -116,7 +120,9 @@ outdoors-fit : {rs : List Record} {days : List Day} → LogOf rs days → Fits (
 unfolding outdoorsOf
 outdoors-fit {days = days} log =
     let most = counted-most log in
-    let each = those-each (λ d. ltb 0 (d .pasture)) (counted days) (those-each (λ d. not (isLeapDay (d .date))) days (day-most (log .says))) in
+    let each =
+    those-each (λ d. ltb 0 (d .pasture)) (counted days)
+    (those-each (λ d. not (isLeapDay (d .date))) days (day-most (log .says))) in
     record {
       grazing = omega (arith, most, those-most (λ d. ltb 0 (d .pasture)) (counted days));
       yard = omega (arith, most, those-most (λ d. ltb 0 (d .yard)) (counted days));

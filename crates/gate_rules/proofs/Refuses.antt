@@ -1,5 +1,5 @@
--- The first refusal: a log is refused with a number and a record exactly where that is the first refusal that applies, in 02's order; and a log is
--- accepted exactly where none applies. Assumes nothing.
+-- The first refusal: a log is refused with a number and a record exactly where that is the first refusal that
+-- applies, in 02's order; and a log is accepted exactly where none applies. Assumes nothing.
 use Prim.Native.Nat.{ℕ, suc, _+_, _<_, _≤_}
 use mathlib.Core.Path.{_≡_, refl, sym, ap, subst, _∙_}
 use mathlib.Core.Logic.{_↔_, _⊎_, inl, inr}
@@ -17,7 +17,8 @@ use Rattle.csv.proofs.Files.{file-read, read-file, breaks-read, read-breaks}
 use Rattle.rules.specs.Lists.{Last}
 use Rattle.rules.specs.Rules.{Record}
 use Rattle.rules.specs.Refusals.{RecordAt}
-use Rattle.rules.proofs.Readings.{thens, whole-thens, broken-thens, record-read, read-record, Stops, at-end, at-break, split-read, one-thens, end-not-broken, shorter, as-long}
+use Rattle.rules.proofs.Readings.{thens, whole-thens, broken-thens, record-read, read-record, Stops, at-end, at-break}
+use Rattle.rules.proofs.Readings.{split-read, one-thens, end-not-broken, shorter, as-long}
 use Rattle.calendar.specs.declared.Date.{Date}
 use Rattle.calendar.specs.Calendar.{IsEve}
 use Rattle.calendar.specs.Texts.{IsDate}
@@ -29,9 +30,11 @@ use Rattle.gate.specs.declared.LogAnswer.the-variants.{Gives, Refused}
 use Rattle.gate.specs.Refusals.{number}
 use Rattle.gate.specs.Logs.{readLog}
 use Rattle.gate_rules.specs.Rules.{dateText, logMost, KeepsLog}
-use Rattle.gate_rules.specs.Refusals.{Applies, AppliesAt, Sooner, too-long-first, from-the-front, in-that-order, then-the-end, First}
+use Rattle.gate_rules.specs.Refusals.{Applies, AppliesAt, Sooner, too-long-first, from-the-front, in-that-order}
+use Rattle.gate_rules.specs.Refusals.{then-the-end, First}
 use Rattle.gate_rules.proofs.Steps.{NoneBelow, OnEve}
-use Rattle.gate_rules.proofs.Answers.{Clean, Ran, accepts, breaks, wrong, ends, Answered, too-long, read, answered}
+use Rattle.gate_rules.proofs.Answers.{Clean, Ran, accepts, breaks, wrong, ends, Answered, too-long, read}
+use Rattle.gate_rules.proofs.Answers.{answered}
 use Rattle.gate_rules.proofs.Accepts.{accepts-exactly}
 
 -- ---- the order, by numbers
@@ -69,7 +72,8 @@ data Rank : ℕ → LogFault → Type 0 where
 rank : {s : List ℕ} {n : ℕ} {f : LogFault} → AppliesAt s n f → Rank n f
 rank (AppliesAt.too-long _) = before-all
 rank (AppliesAt.broken {rs = rs} _) = of-record {n = length rs + 1} {f = RecordBroken} (omega arith) (omega arith)
-rank (AppliesAt.wrong {before = before} {fault = f} _ a) = let w = of-a-record a in of-record {n = length before + 1} {f = f} (omega arith) (omega arith)
+rank (AppliesAt.wrong {before = before} {fault = f} _ a) =
+    let w = of-a-record a in of-record {n = length before + 1} {f = f} (omega arith) (omega arith)
 rank (AppliesAt.ends-early _ _) = after-all
 
 rank-some : {n : ℕ} {f : LogFault} → Rank n f → 1 ≤ number f
@@ -83,7 +87,8 @@ none-before (from-the-front _ h) e z k = omega arith
 none-before (in-that-order h _) e z k = omega arith
 none-before (then-the-end _) e z k = omega arith
 
-among-records : {m n : ℕ} {f g : LogFault} → Sooner m f n g → 2 ≤ number f → 1 ≤ n → (m < n) ⊎ ((m ≡ n) × (number f < number g))
+among-records : {m n : ℕ} {f g : LogFault} → Sooner m f n g → 2 ≤ number f → 1 ≤ n
+    → (m < n) ⊎ ((m ≡ n) × (number f < number g))
 among-records (too-long-first _) h k = absurd (omega arith)
 among-records (from-the-front _ d) h k = inl d
 among-records (in-that-order _ d) h k = inr (refl, d)
@@ -118,38 +123,49 @@ module _ (s : List ℕ) where
   not-long a b = absurd (omega arith)
 
   -- a log that is accepted
-  nothing-applies : (rs : List Record) → length s ≤ logMost → readingOf s ≡ thens rs end → Clean rs → OnEve rs → (m : ℕ) (f : LogFault) → AppliesAt s m f → ⊥
+  nothing-applies : (rs : List Record) → length s ≤ logMost → readingOf s ≡ thens rs end → Clean rs → OnEve rs
+      → (m : ℕ) (f : LogFault) → AppliesAt s m f → ⊥
   nothing-applies rs short w clean eve m f (AppliesAt.too-long h) = not-long short h
   nothing-applies rs short w clean eve m f (AppliesAt.broken b) = none-broken rs w b
   nothing-applies rs short w clean eve m f (AppliesAt.wrong at a) = none-wrong rs at-end w clean at a
   nothing-applies rs short w clean eve m f (AppliesAt.ends-early file none) =
-      none (eve .last) (eve .date) (subst (λ (l : List Record). Last l (eve .last)) (same-records rs w file) (eve .is-last)) (eve .says) (eve .eve)
+      none (eve .last) (eve .date)
+      (subst (λ (l : List Record). Last l (eve .last)) (same-records rs w file) (eve .is-last)) (eve .says) (eve .eve)
 
   -- one that is too long
   first-long : logMost < length s → First s 0 LogTooLong
-  first-long h = record { applies = AppliesAt.too-long h; none-sooner = λ m f a d. none-before d refl refl (rank-some (rank a)) }
+  first-long h =
+      record { applies = AppliesAt.too-long h; none-sooner = λ m f a d. none-before d refl refl (rank-some (rank a)) }
 
   -- one that breaks
-  module _ (rs : List Record) (short : length s ≤ logMost) (w : readingOf s ≡ thens rs broken) (clean : Clean rs) where
+  module _ (rs : List Record) (short : length s ≤ logMost) (w : readingOf s ≡ thens rs broken)
+      (clean : Clean rs) where
     none-sooner-break : (m : ℕ) (f : LogFault) → AppliesAt s m f → Sooner m f (length rs + 1) RecordBroken → ⊥
     none-sooner-break m f (AppliesAt.too-long h) d = not-long short h
     none-sooner-break m f (AppliesAt.broken {rs = rs′} b) d =
         let e = one-thens rs rs′ at-break (sym w ∙ breaks-read rs′ s b ∙ broken-thens rs′) in
         go (ap length e) (among-records d (omega arith) (omega arith))
       where
-        go : length rs ≡ length rs′ → (length rs′ + 1 < length rs + 1) ⊎ ((length rs′ + 1 ≡ length rs + 1) × (2 < 2)) → ⊥
+        go : length rs ≡ length rs′ → (length rs′ + 1 < length rs + 1) ⊎ ((length rs′ + 1 ≡ length rs + 1) × (2 < 2))
+            → ⊥
         go e (inl h) = omega arith
         go e (inr (_, h)) = omega arith
     none-sooner-break m f (AppliesAt.wrong at a) d = none-wrong rs at-break w clean at a
     none-sooner-break m f (AppliesAt.ends-early _ _) d = not-the-end d refl refl
 
     first-break : First s (length rs + 1) RecordBroken
-    first-break = record { applies = AppliesAt.broken (read-breaks rs s (w ∙ sym (broken-thens rs))); none-sooner = none-sooner-break }
+    first-break =
+        record {
+          applies = AppliesAt.broken (read-breaks rs s (w ∙ sym (broken-thens rs)));
+          none-sooner = none-sooner-break;
+        }
 
   -- one with a wrong record
-  module _ (before : List Record) (cs : Record) (rest : Reading) {fault : LogFault} (short : length s ≤ logMost) (w : readingOf s ≡ thens before (cs then rest)) (clean : Clean before)
+  module _ (before : List Record) (cs : Record) (rest : Reading) {fault : LogFault} (short : length s ≤ logMost)
+      (w : readingOf s ≡ thens before (cs then rest)) (clean : Clean before)
       (applies : Applies before cs fault) (below : NoneBelow before cs (number fault)) where
-    wrong-sooner : {before′ : List Record} {cs′ : Record} {f : LogFault} → RecordAt s before′ cs′ → Applies before′ cs′ f → Sooner (length before′ + 1) f (length before + 1) fault → ⊥
+    wrong-sooner : {before′ : List Record} {cs′ : Record} {f : LogFault} → RecordAt s before′ cs′
+        → Applies before′ cs′ f → Sooner (length before′ + 1) f (length before + 1) fault → ⊥
     wrong-sooner {before′} {cs′} {f} at a d =
         let o = of-a-record a in
         go (among-records d (omega arith) (omega arith))
@@ -157,24 +173,32 @@ module _ (s : List ℕ) where
         same : thens before (cs then rest) ≡ thens before′ (cs′ then record-read at .rest)
         same = sym w ∙ record-read at .is
 
-        go : (length before′ + 1 < length before + 1) ⊎ ((length before′ + 1 ≡ length before + 1) × (number f < number fault)) → ⊥
-        go (inl h) = let p = shorter rest (record-read at .rest) before before′ cs cs′ same (omega arith) in clean before′ cs′ (p .after) (p .is) f a
-        go (inr (e, h)) = let p = as-long rest (record-read at .rest) before before′ cs cs′ same (omega arith) in below f h (rw (p .0, p .1) a)
+        go : (length before′ + 1 < length before + 1) ⊎
+        ((length before′ + 1 ≡ length before + 1) × (number f < number fault)) → ⊥
+        go (inl h) =
+            let p = shorter rest (record-read at .rest) before before′ cs cs′ same (omega arith) in
+            clean before′ cs′ (p .after) (p .is) f a
+        go (inr (e, h)) =
+            let p = as-long rest (record-read at .rest) before before′ cs cs′ same (omega arith) in
+            below f h (rw (p .0, p .1) a)
 
     none-sooner-wrong : (m : ℕ) (f : LogFault) → AppliesAt s m f → Sooner m f (length before + 1) fault → ⊥
     none-sooner-wrong m f (AppliesAt.too-long h) d = not-long short h
     none-sooner-wrong m f (AppliesAt.broken {rs = rs′} b) d =
         let p = split-read rest rs′ before cs at-break (sym (breaks-read rs′ s b ∙ broken-thens rs′) ∙ w) in
-        go (length (p .after)) (ap length (p .is) ∙ length-append before (cs ∷ p .after)) (among-records d (omega arith) (omega arith))
+        go (length (p .after)) (ap length (p .is) ∙ length-append before (cs ∷ p .after))
+        (among-records d (omega arith) (omega arith))
       where
-        go : (k : ℕ) → length rs′ ≡ length before + suc k → (length rs′ + 1 < length before + 1) ⊎ ((length rs′ + 1 ≡ length before + 1) × (2 < number fault)) → ⊥
+        go : (k : ℕ) → length rs′ ≡ length before + suc k
+            → (length rs′ + 1 < length before + 1) ⊎ ((length rs′ + 1 ≡ length before + 1) × (2 < number fault)) → ⊥
         go k e (inl h) = omega arith
         go k e (inr (h, _)) = omega arith
     none-sooner-wrong m f (AppliesAt.wrong at a) d = wrong-sooner at a d
     none-sooner-wrong m f (AppliesAt.ends-early _ _) d = not-the-end d refl refl
 
     first-wrong : First s (length before + 1) fault
-    first-wrong = record { applies = AppliesAt.wrong (read-record s before cs rest w) applies; none-sooner = none-sooner-wrong }
+    first-wrong =
+        record { applies = AppliesAt.wrong (read-record s before cs rest w) applies; none-sooner = none-sooner-wrong }
 
   -- one that ends before 31 December
   module _ (rs : List Record) (short : length s ≤ logMost) (w : readingOf s ≡ thens rs end) (clean : Clean rs)
@@ -186,7 +210,11 @@ module _ (s : List ℕ) where
     none-sooner-end m f (AppliesAt.ends-early _ _) d = not-the-end d refl refl
 
     first-end : First s 0 WrongDate
-    first-end = record { applies = AppliesAt.ends-early (read-file rs s (w ∙ sym (whole-thens rs))) none; none-sooner = none-sooner-end }
+    first-end =
+        record {
+          applies = AppliesAt.ends-early (read-file rs s (w ∙ sym (whole-thens rs))) none;
+          none-sooner = none-sooner-end;
+        }
 
 -- ---- what is answered of a log
 
@@ -215,8 +243,12 @@ by-records : (m n : ℕ) (f g : LogFault) → 1 ≤ m → 1 ≤ n → Order m f 
 by-records m n f g h k = go (ltb m n) (ltb n m) refl refl
   where
     in-one : m ≡ n → (t u : Bool) → ltb (number f) (number g) ≡ t → ltb (number g) (number f) ≡ u → Order m f n g
-    in-one e true u et eu = sooner (subst (λ (i : ℕ). Sooner m f i g) e (in-that-order {fault = f} {other = g} h (ltb-true (number f) (number g) et)))
-    in-one e false true et eu = later (subst (λ (i : ℕ). Sooner i g m f) e (in-that-order {fault = g} {other = f} h (ltb-true (number g) (number f) eu)))
+    in-one e true u et eu =
+        sooner (subst (λ (i : ℕ). Sooner m f i g) e
+        (in-that-order {fault = f} {other = g} h (ltb-true (number f) (number g) et)))
+    in-one e false true et eu =
+        later (subst (λ (i : ℕ). Sooner i g m f) e
+        (in-that-order {fault = g} {other = f} h (ltb-true (number g) (number f) eu)))
     in-one e false false et eu =
         let a = ltb-false (number f) (number g) et in
         let b = ltb-false (number g) (number f) eu in
@@ -277,12 +309,17 @@ pub record Taken (s : List ℕ) : Type 0 where
 
 -- a log keeps the rules exactly where no refusal applies to it
 pub taken-exactly : (s : List ℕ) → Taken s ↔ ((m : ℕ) (other : LogFault) → AppliesAt s m other → ⊥)
-taken-exactly s = (λ t. clear (outcome (answered s)) (accepts-exactly s (t .outdoors) .1 (t .keeps)), λ none. keep none (readLog s) refl (outcome (answered s)))
+taken-exactly s = (
+  λ t. clear (outcome (answered s)) (accepts-exactly s (t .outdoors) .1 (t .keeps)),
+  λ none. keep none (readLog s) refl (outcome (answered s)),
+)
   where
-    clear : {x : LogAnswer} {o : Outdoors} → Outcome s x → x ≡ Gives o → (m : ℕ) (other : LogFault) → AppliesAt s m other → ⊥
+    clear : {x : LogAnswer} {o : Outdoors} → Outcome s x → x ≡ Gives o → (m : ℕ) (other : LogFault)
+        → AppliesAt s m other → ⊥
     clear (takes none) e = none
     clear (refuses-it _) e = clash cc
 
-    keep : ((m : ℕ) (other : LogFault) → AppliesAt s m other → ⊥) → (x : LogAnswer) → readLog s ≡ x → Outcome s x → Taken s
+    keep : ((m : ℕ) (other : LogFault) → AppliesAt s m other → ⊥) → (x : LogAnswer) → readLog s ≡ x → Outcome s x
+        → Taken s
     keep none x e (takes {o = o} _) = record { outdoors = o; keeps = accepts-exactly s o .0 e }
     keep none x e (refuses-it {n = n} {fault = f} y) = absurd (none n f (y .applies))

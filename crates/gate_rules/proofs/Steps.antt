@@ -1,5 +1,5 @@
--- A log that is being read: the records before this one said the first days of a year, and what is given for this one is the first refusal that
--- applies. Assumes nothing.
+-- A log that is being read: the records before this one said the first days of a year, and what is given for this one
+-- is the first refusal that applies. Assumes nothing.
 use Prim.Native.Nat.{ℕ, zero, suc, _+_, _<_, _≤_}
 use mathlib.Core.Path.{_≡_, refl, sym, ap, subst, _∙_}
 use mathlib.Core.Logic.{_↔_}
@@ -18,7 +18,8 @@ use Rattle.rules.proofs.Lists.{last-append, last-none, last-one, pairs-append}
 use Rattle.calendar.specs.declared.Date.{Date}
 use Rattle.calendar.specs.declared.Due.{Due}
 use Rattle.calendar.specs.declared.Due.the-variants.{NewYear, On, Nothing}
-use Rattle.calendar.specs.Calendar.{date, yearLength, newYear, nextDate, after, datesFrom, yearDates, sameDay, sameDate, IsEve}
+use Rattle.calendar.specs.Calendar.{date, yearLength, newYear, nextDate, after, datesFrom, yearDates, sameDay}
+use Rattle.calendar.specs.Calendar.{sameDate, IsEve}
 use Rattle.calendar.specs.Following.{isDue, dueAfter}
 use Rattle.calendar.specs.Texts.{IsDate}
 use Rattle.calendar.proofs.DateTexts.{one-date}
@@ -41,7 +42,8 @@ use Rattle.gate.specs.Outdoors.{outdoorsOf}
 use Rattle.gate.specs.Logs.{progress, nothingRead, takenBy, finished}
 use Rattle.gate.proofs.Tallied.{tallyOf, tally-last, tally-outdoors}
 use Rattle.gate_rules.specs.Rules.{dateText, HoursAre, RecordSays, datesOf, LogOf}
-use Rattle.gate_rules.specs.Refusals.{DueAfter, new-year, next, Applies, not-three-fields, bad-hours, wrong-date}
+use Rattle.gate_rules.specs.Refusals.{DueAfter, new-year, next, Applies, not-three-fields, bad-hours}
+use Rattle.gate_rules.specs.Refusals.{wrong-date}
 use Rattle.gate_rules.proofs.Days.{Alone, says, not-three, no-hours, no-date, alone}
 
 -- ---- dates that are one
@@ -54,7 +56,9 @@ same-day m k d e = go (eqb (d .month) m) refl e
     go false p q = clash cc
 
 new-year-date : (d : Date) → sameDay 1 1 d ≡ true → d ≡ newYear (d .year)
-new-year-date d e = let x = same-day 1 1 d e in ap (λ (n : ℕ). date (d .year) n (d .day)) (x .0) ∙ ap (λ (n : ℕ). date (d .year) 1 n) (x .1)
+new-year-date d e =
+    let x = same-day 1 1 d e in
+    ap (λ (n : ℕ). date (d .year) n (d .day)) (x .0) ∙ ap (λ (n : ℕ). date (d .year) 1 n) (x .1)
 
 same-date : (a b : Date) → sameDate a b ≡ true → b ≡ a
 same-date a b e = go (eqb (b .year) (a .year)) refl e
@@ -92,11 +96,14 @@ due-end y k h = last-at (at-place y k (omega arith)) h .due
 
 pub data Inv : List Record → Progress → Type 0 where
   start : Inv [] nothingRead
-  reading : {before : List Record} {days : List Day} {r : Record} (y k : ℕ) → Pairs RecordSays before days → datesOf days ≡ datesFrom (suc k) (newYear y) → k < yearLength y
-      → Last before r → IsDate (dateText r) (dateAt y k) → Inv before (progress (dueAfter (dateAt y k)) (tallyOf days))
+  reading : {before : List Record} {days : List Day} {r : Record} (y k : ℕ) → Pairs RecordSays before days
+      → datesOf days ≡ datesFrom (suc k) (newYear y) → k < yearLength y
+      → Last before r → IsDate (dateText r) (dateAt y k)
+      → Inv before (progress (dueAfter (dateAt y k)) (tallyOf days))
 
 -- what is due is what has to come behind the records
-due-rule : {before : List Record} {p : Progress} → Inv before p → (d : Date) → (isDue (p .due) d ≡ true) ↔ DueAfter before d
+due-rule : {before : List Record} {p : Progress} → Inv before p → (d : Date)
+    → (isDue (p .due) d ≡ true) ↔ DueAfter before d
 due-rule start d = (λ e. subst (DueAfter []) (sym (new-year-date d e)) (new-year refl), λ x. from x)
   where
     from : {d : Date} → DueAfter [] d → sameDay 1 1 d ≡ true
@@ -108,7 +115,8 @@ due-rule (reading {before} {days} {r} y k s q h l i) d = go (ltb (suc k) (yearLe
     back : {d : Date} → DueAfter before d → (d ≡ dateAt y (suc k)) × (IsEve (dateAt y k) → ⊥)
     back (new-year e) = last-none (subst (λ (b : List Record). Last b r) e l)
     back (next {r = r′} {d = d′} l′ i′ n) =
-        let same : d′ ≡ dateAt y k = one-date i′ (subst (λ (c : Record). IsDate (dateText c) (dateAt y k)) (last-one l l′) i) in
+        let same : d′ ≡ dateAt y k =
+        one-date i′ (subst (λ (c : Record). IsDate (dateText c) (dateAt y k)) (last-one l l′) i) in
         (ap nextDate same ∙ after-next k (newYear y), λ v. n (subst IsEve (sym same) v))
 
     go : (t : Bool) → ltb (suc k) (yearLength y) ≡ t → (isDue (dueAfter (dateAt y k)) d ≡ true) ↔ DueAfter before d
@@ -134,8 +142,10 @@ NoneBelow before cs n = (f : LogFault) → number f < n → Applies before cs f 
 
 -- what is to be shown of a record: it is refused, by the first that applies, or none applies and reading goes on
 pub data Verdict (before : List Record) (cs : Record) (p : Progress) : Taken → Type 0 where
-  refuses : {fault : LogFault} → Applies before cs fault → NoneBelow before cs (number fault) → Verdict before cs p (Wrong fault)
-  goes-on : {q : Progress} → ((f : LogFault) → Applies before cs f → ⊥) → Inv (before ++ (cs ∷ [])) q → Verdict before cs p (Further q)
+  refuses : {fault : LogFault} → Applies before cs fault → NoneBelow before cs (number fault)
+      → Verdict before cs p (Wrong fault)
+  goes-on : {q : Progress} → ((f : LogFault) → Applies before cs f → ⊥) → Inv (before ++ (cs ∷ [])) q
+      → Verdict before cs p (Further q)
 
 dates-append : (a b : List Day) → datesOf (a ++ b) ≡ datesOf a ++ datesOf b
 dates-append [] b = refl
@@ -160,25 +170,34 @@ module _ {before : List Record} {p : Progress} (inv : Inv before p) (cs : Record
     none-at-all due f (bad-hours n) = n (d .pasture) (d .yard) (x .hours)
     none-at-all due f (wrong-date n) = n (d .date) (x .date) due
 
-  further : {before : List Record} {p : Progress} → Inv before p → {d : Day} → RecordSays cs d → isDue (p .due) (d .date) ≡ true
+  further : {before : List Record} {p : Progress} → Inv before p → {d : Day} → RecordSays cs d
+      → isDue (p .due) (d .date) ≡ true
       → Inv (before ++ (cs ∷ [])) (progress (dueAfter (d .date)) (withDay (p .tally) d))
   further start {d} x e =
       let y : ℕ = d .date .year in
       let is : d .date ≡ newYear y = new-year-date (d .date) e in
       subst (λ (q : Progress). Inv (cs ∷ []) q)
-      (ap (λ (z : Date). progress (dueAfter z) (tallyOf (d ∷ []))) (sym is) ∙ ap (progress (dueAfter (d .date))) (tally-last [] d))
+      (ap (λ (z : Date). progress (dueAfter z) (tallyOf (d ∷ []))) (sym is)
+      ∙ ap (progress (dueAfter (d .date))) (tally-last [] d))
       (reading y 0 (Pairs.more x Pairs.none) (ap (λ (z : Date). z ∷ []) is) (omega (arith, at-most (at-front y))) only
       (subst (IsDate (dateText cs)) is (x .date)))
   further {before} (reading {days = days} y k s q h l i) {d} x e = go (ltb (suc k) (yearLength y)) refl
     where
-      go : (t : Bool) → ltb (suc k) (yearLength y) ≡ t → Inv (before ++ (cs ∷ [])) (progress (dueAfter (d .date)) (withDay (tallyOf days) d))
+      go : (t : Bool) → ltb (suc k) (yearLength y) ≡ t
+          → Inv (before ++ (cs ∷ [])) (progress (dueAfter (d .date)) (withDay (tallyOf days) d))
       go true t =
           let less : suc k < yearLength y = ltb-true (suc k) (yearLength y) t in
-          let is : d .date ≡ dateAt y (suc k) = same-date (dateAt y (suc k)) (d .date) (ap (λ (u : Due). isDue u (d .date)) (sym (due-next y k less)) ∙ e) in
+          let is : d .date ≡ dateAt y (suc k) =
+          same-date (dateAt y (suc k)) (d .date)
+          (ap (λ (u : Due). isDue u (d .date)) (sym (due-next y k less)) ∙ e) in
           subst (λ (z : Progress). Inv (before ++ (cs ∷ [])) z)
-          (ap (λ (z : Date). progress (dueAfter z) (tallyOf (days ++ (d ∷ [])))) (sym is) ∙ ap (progress (dueAfter (d .date))) (tally-last days d))
+          (ap (λ (z : Date). progress (dueAfter z) (tallyOf (days ++ (d ∷ [])))) (sym is)
+          ∙ ap (progress (dueAfter (d .date))) (tally-last days d))
           (reading y (suc k) (pairs-append s (Pairs.more x Pairs.none))
-          (dates-append days (d ∷ []) ∙ ap (λ (a : List Date). a ++ (d .date ∷ [])) q ∙ ap (λ (z : Date). datesFrom (suc k) (newYear y) ++ (z ∷ [])) is ∙ sym (dates-last (suc k) (newYear y)))
+          (dates-append days (d ∷ [])
+          ∙ ap (λ (a : List Date). a ++ (d .date ∷ [])) q
+          ∙ ap (λ (z : Date). datesFrom (suc k) (newYear y) ++ (z ∷ [])) is
+          ∙ sym (dates-last (suc k) (newYear y)))
           less
           (last-append before only)
           (subst (IsDate (dateText cs)) is (x .date)))
@@ -191,10 +210,14 @@ module _ {before : List Record} {p : Progress} (inv : Inv before p) (cs : Record
   verdict = go (alone cs)
     where
       due : {d : Day} → RecordSays cs d → (t : Bool) → isDue (p .due) (d .date) ≡ t
-          → Verdict before cs p (pick t (Further (progress (dueAfter (d .date)) (withDay (p .tally) d))) (Wrong WrongDate))
+          → Verdict before cs p
+          (pick t (Further (progress (dueAfter (d .date)) (withDay (p .tally) d))) (Wrong WrongDate))
       due {d} x true e = goes-on (none-at-all x (due-rule inv (d .date) .0 e)) (further inv x e)
       due {d} x false e =
-          refuses (wrong-date (λ z i k. let w : isDue (p .due) (d .date) ≡ true = ap (isDue (p .due)) (one-date (x .date) i) ∙ due-rule inv z .1 k in clash cc))
+          refuses
+          (wrong-date (λ z i k.
+          let w : isDue (p .due) (d .date) ≡ true = ap (isDue (p .due)) (one-date (x .date) i) ∙ due-rule inv z .1 k in
+          clash cc))
           (below-14 x)
 
       go : {r : DayRead} → Alone cs r → Verdict before cs p (takenBy p r)
@@ -237,12 +260,14 @@ unfolding finished
 finish start = early (λ r d l. last-none l)
 finish {rs} (reading {days = days} {r = r} y k s q h l i) = go (ltb (suc k) (yearLength y)) refl
   where
-    go : (t : Bool) → ltb (suc k) (yearLength y) ≡ t → Ended rs (finished (progress (dueAfter (dateAt y k)) (tallyOf days)))
+    go : (t : Bool) → ltb (suc k) (yearLength y) ≡ t
+        → Ended rs (finished (progress (dueAfter (dateAt y k)) (tallyOf days)))
     go true t =
         let less : suc k < yearLength y = ltb-true (suc k) (yearLength y) t in
         rw (due-next y k less)
         (early (λ r′ d l′ i′ v.
-        let same : d ≡ dateAt y k = one-date i′ (subst (λ (c : Record). IsDate (dateText c) (dateAt y k)) (last-one l l′) i) in
+        let same : d ≡ dateAt y k =
+        one-date i′ (subst (λ (c : Record). IsDate (dateText c) (dateAt y k)) (last-one l l′) i) in
         omega (arith, eve-at (at-place y k h) .1 (subst IsEve same v))))
     go false t =
         let full : suc k ≡ yearLength y = omega (arith, ltb-false (suc k) (yearLength y) t) in

@@ -1,4 +1,5 @@
--- 02, W10: what a log comes to is put into a farm file. Which records take it there: the inputs of these names in 01's list. To be believed.
+-- 02, W10: what a log comes to is put into a farm file. Which records take it there: the inputs of these names in
+-- 01's list. To be believed.
 use Prim.Native.Nat.{ℕ, _≤_}
 use Prim.Native.String.{String}
 use mathlib.Core.List.{List, [], _∷_}
@@ -32,14 +33,19 @@ abbrev pub _at_of_written_ : Kind → String → String → List ℕ → ℕ →
 -- the entries that a log gives, their values as the program prints them
 abbrev pub entriesOf : Outdoors → List Entry
 entriesOf o =
-    (Roughage at "Livestock::RoughageConsuming::Grazing" of "grazing_days" written wholeOf (o .«grazing_days»)) (o .«grazing_days»)
-    ∷ (Roughage at "Livestock::RoughageConsuming::Grazing" of "grazing_hours" written tenthsOf (o .«grazing_hours»)) (o .«grazing_hours»)
+    (Roughage at "Livestock::RoughageConsuming::Grazing" of "grazing_days" written wholeOf (o .«grazing_days»))
+    (o .«grazing_days»)
+    ∷ (Roughage at "Livestock::RoughageConsuming::Grazing" of "grazing_hours" written tenthsOf (o .«grazing_hours»))
+    (o .«grazing_hours»)
     ∷ (Cattle at "Livestock::OtherCattle::Outdoor" of "yard_days" written wholeOf (o .«yard_days»)) (o .«yard_days»)
-    ∷ (Cattle at "Livestock::OtherCattle::Outdoor" of "grazing_days" written wholeOf (o .«grazing_days»)) (o .«grazing_days»)
-    ∷ (Cattle at "Livestock::OtherCattle::Outdoor" of "grazing_hours" written tenthsOf (o .«grazing_hours»)) (o .«grazing_hours»)
+    ∷ (Cattle at "Livestock::OtherCattle::Outdoor" of "grazing_days" written wholeOf (o .«grazing_days»))
+    (o .«grazing_days»)
+    ∷ (Cattle at "Livestock::OtherCattle::Outdoor" of "grazing_hours" written tenthsOf (o .«grazing_hours»))
+    (o .«grazing_hours»)
     ∷ []
 
 -- a farm file takes the entry, for the herd of this label
 pub record Takes (label : List ℕ) (e : Entry) : Type 0 where
   pub slot : ℕ
-  pub says : RecordSays (label ∷ bytes (e .path) ∷ bytes (e .name) ∷ e .text ∷ []) label (e .kind) slot (Value (e .value))
+  pub says : RecordSays (label ∷ bytes (e .path) ∷ bytes (e .name) ∷ e .text ∷ []) label (e .kind) slot
+  (Value (e .value))

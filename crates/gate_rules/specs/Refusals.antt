@@ -1,5 +1,5 @@
--- 02, W10, Refusals: when each applies, said of a log's records and not of how they are read, and which is the first. proofs/Refuses.antt shows
--- that the reader gives exactly that one. To be believed.
+-- 02, W10, Refusals: when each applies, said of a log's records and not of how they are read, and which is the first.
+-- proofs/Refuses.antt shows that the reader gives exactly that one. To be believed.
 use Prim.Native.Nat.{ℕ, _+_, _<_, _≤_}
 use mathlib.Core.Path.{_≡_}
 use mathlib.Core.List.{List, []}
@@ -18,10 +18,12 @@ use Rattle.gate_rules.specs.Rules.{dateText, HoursAre, logMost}
 
 -- ---- 3, 7 and 14, of the record cs that stands behind these
 
--- the date that has to come behind these records: 1 January of any year at the front, else the day after that of the record before, to 31 December
+-- the date that has to come behind these records: 1 January of any year at the front, else the day after that of the
+-- record before, to 31 December
 pub data DueAfter (before : List Record) : Date → Type 0 where
   new-year : {y : ℕ} → before ≡ [] → DueAfter before (newYear y)
-  next : {r : Record} {d : Date} → Last before r → IsDate (dateText r) d → (IsEve d → ⊥) → DueAfter before (nextDate d)
+  next : {r : Record} {d : Date} → Last before r → IsDate (dateText r) d → (IsEve d → ⊥)
+      → DueAfter before (nextDate d)
 
 pub data Applies (before : List Record) (cs : Record) : LogFault → Type 0 where
   not-three-fields : (length cs ≡ 3 → ⊥) → Applies before cs NotThreeFields
@@ -30,12 +32,15 @@ pub data Applies (before : List Record) (cs : Record) : LogFault → Type 0 wher
 
 -- ---- a log's refusals
 
--- the refusal applies to the log, with this record number; 14 with 0 for "a log that ends before 31 December, an empty one too"
+-- the refusal applies to the log, with this record number; 14 with 0 for "a log that ends before 31 December, an
+-- empty one too"
 pub data AppliesAt (s : List ℕ) : ℕ → LogFault → Type 0 where
   too-long : logMost < length s → AppliesAt s 0 LogTooLong
   broken : {rs : List Record} → Breaks rs s → AppliesAt s (length rs + 1) RecordBroken
-  wrong : {before : List Record} {cs : Record} {fault : LogFault} → RecordAt s before cs → Applies before cs fault → AppliesAt s (length before + 1) fault
-  ends-early : {rs : List Record} → FileOf rs s → ((r : Record) (d : Date) → Last rs r → IsDate (dateText r) d → IsEve d → ⊥) → AppliesAt s 0 WrongDate
+  wrong : {before : List Record} {cs : Record} {fault : LogFault} → RecordAt s before cs → Applies before cs fault
+      → AppliesAt s (length before + 1) fault
+  ends-early : {rs : List Record} → FileOf rs s
+      → ((r : Record) (d : Date) → Last rs r → IsDate (dateText r) d → IsEve d → ⊥) → AppliesAt s 0 WrongDate
 
 -- 1 before all; then records from the front, in each 2, 3, 7, 14; then the log's end
 pub data Sooner : ℕ → LogFault → ℕ → LogFault → Type 0 where

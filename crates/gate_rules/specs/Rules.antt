@@ -1,6 +1,7 @@
--- 02, W10, as statements about a log's records: what one record says, which days are a year's log, and what they come to. Which records a log
--- has is the grammar of csv. Nothing here goes through a log; proofs/Accepts.antt shows that the reader accepts exactly the logs that keep these
--- rules. To be believed; the limits stand here a second time on purpose, apart from those that the code goes by.
+-- 02, W10, as statements about a log's records: what one record says, which days are a year's log, and what they come
+-- to. Which records a log has is the grammar of csv. Nothing here goes through a log; proofs/Accepts.antt shows that
+-- the reader accepts exactly the logs that keep these rules. To be believed; the limits stand here a second time on
+-- purpose, apart from those that the code goes by.
 use Prim.Native.Nat.{ℕ, _+_, _≤_}
 use mathlib.Core.Path.{_≡_}
 use mathlib.Core.List.{List, [], _∷_, map}

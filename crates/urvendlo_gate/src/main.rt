@@ -1,5 +1,5 @@
-// A gate's log on standard input; what it comes to, or its refusal, on standard output. What goes wrong is a line on standard error, a refusal
-// too: by it ./urvendlo knows how the run ended.
+// A gate's log on standard input; what it comes to, or its refusal, on standard output. What goes wrong is a line on
+// standard error, a refusal too: by it ./urvendlo knows how the run ended.
 use gate::LogAnswer;
 use libc::STDERR_FILENO;
 use streams::Outcome;

@@ -1,4 +1,5 @@
--- `calendar::days_in` meets its contract: the code's table is the definition's list in a common year. Assumes nothing.
+-- `calendar::days_in` meets its contract: the code's table is the definition's list in a common year. Assumes
+-- nothing.
 use Rattle.calendar.proofs.MonthSteps.{month-steps}
 use borrow.Author.Needs.{needs}
 use Rattle.calendar.proofs.days_in.Statement.{statement}

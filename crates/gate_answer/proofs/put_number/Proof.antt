@@ -11,10 +11,15 @@ put-number-spec =
     tie.close
     (tie.spec
     (λ c κs. search needs)
-    (λ c κs. omega (arith, whole-text (c .before .before .before .before .before .before .before .args .n) (search needs)))
+    (λ c κs.
+      let s = c .before .before .before .before .before .before .before in
+      omega (arith, whole-text (s .args .n) (search needs)))
     (λ c. search needs)
-    (λ c. 
+    (λ c.
       let w = c .before .before in
       let p = w .before .before .before .before in
       let s = p .before .before .before .before in
-      (joined (p .put .ensures) (w .put-whole .ensures), omega (arith, whole-text (s .args .n) (search needs)))))
+      record {
+        wrote = joined (p .put .ensures) (w .put-whole .ensures);
+        short = omega (arith, whole-text (s .args .n) (search needs));
+      }))

@@ -24,13 +24,12 @@ put-outdoors-spec =
     (λ c. search needs)
     (λ c κs. search needs)
     (λ c. search needs)
-    (λ c. 
+    (λ c.
       let e = c .before .before in
       let t = e .before .before .before .before .before in
       let h = t .before .before .before .before .before .before in
       let y = h .before .before .before .before .before .before in
       let g = y .before .before .before .before .before .before in
-      said (outdoors-is _)
-      (joined
-      (joined (joined (joined (g .put-number .ensures .0) (y .put-number2 .ensures .0)) (h .put-number3 .ensures .0)) (t .put-number4 .ensures .0))
-      (e .put .ensures))))
+      let days = joined (g .put-number .ensures .wrote) (y .put-number2 .ensures .wrote) in
+      let hours = joined (joined days (h .put-number3 .ensures .wrote)) (t .put-number4 .ensures .wrote) in
+      said (outdoors-is _) (joined hours (e .put .ensures))))

@@ -17,9 +17,9 @@ put-refusal-spec =
     (λ c. search needs)
     (λ c κs. search needs)
     (λ c. search needs)
-    (λ c. 
+    (λ c.
       let e = c .before .before in
       let r = e .before .before .before .before .before in
       let n = r .before .before .before .before .before in
       said (refusal-is _ _ _ (n .before .number-of .ensures))
-      (joined (joined (n .put-number .ensures .0) (r .put-number2 .ensures .0)) (e .put .ensures))))
+      (joined (joined (n .put-number .ensures .wrote) (r .put-number2 .ensures .wrote)) (e .put .ensures))))

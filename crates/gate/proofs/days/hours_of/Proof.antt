@@ -1,4 +1,5 @@
--- `gate::days::hours_of` meets its contract: each number is at most 240, so their sum does not run over. Assumes nothing.
+-- `gate::days::hours_of` meets its contract: each number is at most 240, so their sum does not run over. Assumes
+-- nothing.
 use native.Mathlib.Omega.{arith}
 use Prim.Native.Nat.{_≤_}
 use Rattle.gate.proofs.DaySteps.{number-small, hours-steps}
@@ -20,9 +21,10 @@ hours-of-spec =
     (λ c. search needs)
     (λ c. search needs)
     (λ c. search (needs, hours-steps))
-    (λ c. 
+    (λ c.
       let yard : c .before .yard .given .0 .0 ≤ 240 = search (needs, number-small) in
-      let pasture : c .before .before .before .before .before .before .pasture .given .0 .0 ≤ 240 = search (needs, number-small) in
+      let pasture : c .before .before .before .before .before .before .pasture .given .0 .0 ≤ 240 =
+      search (needs, number-small) in
       omega arith)
     (λ c. search (needs, hours-steps))
     (λ c. search needs)
