@@ -120,7 +120,8 @@ module _ (d : Date) where
       ∙ ap (λ (j : ℕ). date (n * 100 + y) m j) (kk .is)
       ∙ v)
       (is
-      (Digits.more (nn .one) (Digits.more (nn .other) (Digits.more (yy .one) (Digits.more (yy .other) Digits.none)))) refl
+      (Digits.more (nn .one) (Digits.more (nn .other) (Digits.more (yy .one) (Digits.more (yy .other) Digits.none))))
+      refl
       (Digits.more (mm .one) (Digits.more (mm .other) Digits.none)) refl
       (Digits.more (kk .one) (Digits.more (kk .other) Digits.none)) refl)
   digits-sound (Value n) (Value y) (Value m) NoDigits pn py pm pk w = clash cc

@@ -16,7 +16,7 @@ use Rattle.calendar.specs.declared.Date.{Date}
 use Rattle.calendar.specs.declared.Due.{Due}
 use Rattle.calendar.specs.declared.Due.the-variants.{On, Nothing}
 use Rattle.calendar.specs.Calendar.{date, isLeap, monthsOf, daysIn, yearLength, sum, Exists, newYear}
-use Rattle.calendar.specs.Calendar.{newYearsEve, nextDate, after, datesFrom, IsEve}
+use Rattle.calendar.specs.Calendar.{newYearsEve, nextDate, after, datesFrom, Comes, IsEve}
 use Rattle.calendar.specs.Following.{dueAfter}
 use Rattle.calendar.proofs.MonthSteps.{due-in-month, due-in-next, due-nothing}
 
@@ -287,6 +287,64 @@ eve-exactly y n = (λ e. to e, λ e. from e)
         one d p v =
             ap (λ (n : ℕ). date n (d .month) (d .day)) p ∙ ap (λ (n : ℕ). date y n (d .day)) (v .december)
             ∙ ap (λ (n : ℕ). date y 12 n) (v .last)
+
+-- ---- a year's dates are those that exist
+
+-- no two dates stand at one place of a year
+module _ {y n : ℕ} {d e : Date} (x : At y n d) (z : At y n e) where
+  before-grows : (a k : ℕ) → before y a ≤ before y (a + k)
+  before-grows a zero = let s : a + 0 ≡ a = omega arith in omega (arith, ap (before y) s)
+  before-grows a (suc k) =
+      let s : a + suc k ≡ suc (a + k) = omega arith in
+      omega (arith, before-grows a k, before-next y (a + k), ap (before y) s)
+
+  no-later : d .month < e .month → ⊥
+  no-later h =
+      let k = e .month - suc (d .month) in
+      let s : suc (d .month) + k ≡ e .month = omega arith in
+      omega (
+        arith,
+        x .place,
+        x .last,
+        z .place,
+        z .first,
+        before-next y (d .month),
+        before-grows (suc (d .month)) k,
+        ap (before y) s,
+      )
+
+one-at : {y n : ℕ} {d e : Date} → At y n d → At y n e → d ≡ e
+one-at {y} {n} {d} {e} x z = go (ltb (d .month) (e .month)) (ltb (e .month) (d .month)) refl refl
+  where
+    go : (s t : Bool) → ltb (d .month) (e .month) ≡ s → ltb (e .month) (d .month) ≡ t → d ≡ e
+    go true t p q = absurd (no-later x z (ltb-true (d .month) (e .month) p))
+    go false true p q = absurd (no-later z x (ltb-true (e .month) (d .month) q))
+    go false false p q =
+        let m : d .month ≡ e .month =
+        omega (arith, ltb-false (d .month) (e .month) p, ltb-false (e .month) (d .month) q) in
+        let k : d .day ≡ e .day = omega (arith, x .place, z .place, ap (before y) m) in
+        ap (λ (i : ℕ). date i (d .month) (d .day)) (x .year ∙ sym (z .year))
+        ∙ ap (λ (i : ℕ). date (e .year) i (d .day)) m
+        ∙ ap (λ (i : ℕ). date (e .year) (e .month) i) k
+
+-- from 1 January on come all days of the year that there are, and no other
+pub exists-exactly : (d : Date) → Exists d ↔ Comes d
+exists-exactly d = (λ x. to x, λ c. from c)
+  where
+    to : Exists d → Comes d
+    to x =
+        let n = before (d .year) (d .month) + d .day in
+        let at : At (d .year) n d = record { year = refl; first = x .first; last = x .last; place = refl } in
+        let k : 1 + (n - 1) ≡ n = omega (arith, x .first) in
+        let there = after-at (n - 1) (at-front (d .year)) (omega (arith, at-most at, k)) in
+        record {
+          days = n - 1;
+          within = omega (arith, at-most at, k);
+          reached = one-at (subst (λ (i : ℕ). At (d .year) i (after (n - 1) (newYear (d .year)))) k there) at;
+        }
+
+    from : Comes d → Exists d
+    from c = subst Exists (c .reached) (at-exists (after-at (c .days) (at-front (d .year)) (omega (arith, c .within))))
 
 -- ---- 29 February
 

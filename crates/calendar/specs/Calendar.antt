@@ -1,6 +1,6 @@
 -- The Gregorian calendar, as one knows it by heart (02, W10: "Dates run from 1 January without gaps to 31 December,
 -- Gregorian leap years included"). To be believed; proofs/Years.antt has what follows of it.
-use Prim.Native.Nat.{ℕ, zero, suc, _+_, _%_, _≤_}
+use Prim.Native.Nat.{ℕ, zero, suc, _+_, _%_, _<_, _≤_}
 use mathlib.Core.Path.{_≡_}
 use mathlib.Core.Bool.{Bool, true, false}
 use mathlib.Core.List.{List, [], _∷_}
@@ -67,6 +67,12 @@ after (suc n) d = after n (nextDate d)
 abbrev pub datesFrom : ℕ → Date → List Date
 datesFrom zero d = []
 datesFrom (suc n) d = d ∷ datesFrom n (nextDate d)
+
+-- a date comes so many days after 1 January of its year, and within the year
+pub record Comes (d : Date) : Type 0 where
+  pub days : ℕ
+  pub within : days < yearLength (d .year)
+  pub reached : after days (newYear (d .year)) ≡ d
 
 -- the dates of a year
 abbrev pub yearDates : ℕ → List Date

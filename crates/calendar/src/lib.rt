@@ -31,7 +31,9 @@ enum Spelled {
 }
 
 const JANUARY: u32 = 1;
+
 const FEBRUARY: u32 = 2;
+
 const DECEMBER: u32 = 12;
 
 // The last day of February in a leap year.

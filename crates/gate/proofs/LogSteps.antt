@@ -154,7 +154,7 @@ module _ (s : List ℕ) (place : ReaderPlace) (p : Progress) (n : ℕ) (x : Reac
           by u v (rw (r .reads, readFrom) at (x .reads))
         where
           by : (u : Taken) {k : Taken} → k ≡ u
-              → elim k [ | Further q ↦ onFrom s next (n + 1) q | Wrong fault ↦ Refused fault n ] ≡ X → going u ≡ X
+              → elim k [ Further q ↦ onFrom s next (n + 1) q | Wrong fault ↦ Refused fault n ] ≡ X → going u ≡ X
           by (Further q) e h = rw e at h
           by (Wrong fault) e h = rw e at h
 

@@ -28,10 +28,12 @@ pub enum DayRead {
 fn hours_of(s: &[u8], f: Fields) -> Hours
     ensures { λ r. ⌜ r ≡ hoursOf (partsAt (now (s .entry)) f) ⌝ }
 {
-    let Number::Value(pasture) = decimal::read_number(csv::field(s, f.second), DECIMALS, HOURS_MOST) else {
+    let Number::Value(pasture) = decimal::read_number(csv::field(s, f.second), DECIMALS, HOURS_MOST)
+    else {
         return Hours::Unfit;
     };
-    let Number::Value(yard) = decimal::read_number(csv::field(s, f.third), DECIMALS, HOURS_MOST) else {
+    let Number::Value(yard) = decimal::read_number(csv::field(s, f.third), DECIMALS, HOURS_MOST)
+    else {
         return Hours::Unfit;
     };
     if HOURS_MOST < pasture + yard {

@@ -27,11 +27,11 @@ use Rattle.gate.specs.declared.LogFault.{LogFault}
 use Rattle.gate.specs.declared.LogFault.the-variants.{LogTooLong, RecordBroken, NotThreeFields, BadHours, WrongDate}
 use Rattle.gate.specs.declared.LogAnswer.{LogAnswer}
 use Rattle.gate.specs.declared.LogAnswer.the-variants.{Gives, Refused}
-use Rattle.gate.specs.Refusals.{number}
+use Rattle.gate.specs.Refusals.{number, says}
 use Rattle.gate.specs.Logs.{readLog}
 use Rattle.gate_rules.specs.Rules.{dateText, logMost, KeepsLog}
 use Rattle.gate_rules.specs.Refusals.{Applies, AppliesAt, Sooner, too-long-first, from-the-front, in-that-order}
-use Rattle.gate_rules.specs.Refusals.{then-the-end, First}
+use Rattle.gate_rules.specs.Refusals.{then-the-end, First, Told}
 use Rattle.gate_rules.proofs.Steps.{NoneBelow, OnEve}
 use Rattle.gate_rules.proofs.Answers.{Clean, Ran, accepts, breaks, wrong, ends, Answered, too-long, read}
 use Rattle.gate_rules.proofs.Answers.{answered}
@@ -173,8 +173,8 @@ module _ (s : List ℕ) where
         same : thens before (cs then rest) ≡ thens before′ (cs′ then record-read at .rest)
         same = sym w ∙ record-read at .is
 
-        go : (length before′ + 1 < length before + 1) ⊎
-        ((length before′ + 1 ≡ length before + 1) × (number f < number fault)) → ⊥
+        go : (length before′ + 1 < length before + 1)
+            ⊎ ((length before′ + 1 ≡ length before + 1) × (number f < number fault)) → ⊥
         go (inl h) =
             let p = shorter rest (record-read at .rest) before before′ cs cs′ same (omega arith) in
             clean before′ cs′ (p .after) (p .is) f a
@@ -301,6 +301,14 @@ module _ (s : List ℕ) (n : ℕ) (fault : LogFault) where
   -- a log is refused with this fault and record exactly where that is the first refusal
   pub first-refusal : (readLog s ≡ Refused fault n) ↔ First s n fault
   first-refusal = (λ e. refused-first (outcome (answered s)) e, λ x. first-refused (outcome (answered s)) x)
+
+-- in 02's numbers
+pub log-says : (s : List ℕ) → Told s (says (readLog s))
+log-says s = go (readLog s) refl
+  where
+    go : (x : LogAnswer) → readLog s ≡ x → Told s (says x)
+    go (Gives o) e = Told.comes-to (accepts-exactly s o .0 e)
+    go (Refused f n) e = Told.refused (first-refusal s n f .0 e)
 
 -- a log that keeps the rules, with what it comes to
 pub record Taken (s : List ℕ) : Type 0 where

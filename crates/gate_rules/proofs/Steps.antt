@@ -122,11 +122,10 @@ due-rule (reading {before} {days} {r} y k s q h l i) d = go (ltb (suc k) (yearLe
     go : (t : Bool) → ltb (suc k) (yearLength y) ≡ t → (isDue (dueAfter (dateAt y k)) d ≡ true) ↔ DueAfter before d
     go true e =
         let less : suc k < yearLength y = ltb-true (suc k) (yearLength y) e in
-        rw (due-next y k less)
-        (
+        rw (due-next y k less) (
           λ same.
-          subst (DueAfter before) (after-next k (newYear y) ∙ sym (same-date (dateAt y (suc k)) d same))
-          (next l i (λ v. omega (arith, eve-at (at-place y k h) .1 v))),
+              subst (DueAfter before) (after-next k (newYear y) ∙ sym (same-date (dateAt y (suc k)) d same))
+              (next l i (λ v. omega (arith, eve-at (at-place y k h) .1 v))),
           λ x. ap (sameDate (dateAt y (suc k))) (back x .0) ∙ one-same (dateAt y (suc k)),
         )
     go false e =

@@ -8,7 +8,7 @@ use Rattle.decimal.specs.Writing.{wholeOf}
 use Rattle.inputs.specs.declared.Kind.{Kind}
 use Rattle.inputs.specs.declared.Kind.the-variants.{Roughage, Cattle}
 use Rattle.farm.specs.declared.Given.the-variants.{Value}
-use Rattle.rules.specs.Rules.{RecordSays}
+use Rattle.rules.specs.Rules.{Record, RecordSays}
 use Rattle.gate.specs.declared.Outdoors.{Outdoors}
 use Rattle.gate_answer.specs.Lines.{tenthsOf}
 
@@ -18,34 +18,43 @@ pub record Fits (o : Outdoors) : Type 0 where
   pub yard : o .«yard_days» ≤ 365
   pub hours : o .«grazing_hours» ≤ 240
 
--- a record of a farm file: the kind of its herd, its path and name, and the value, as it is written and as it is
+-- a value as the program prints it: days as a whole number, hours with one decimal
+pub record Printed : Type 0 where
+  pub text : List ℕ
+  pub value : ℕ
+
+abbrev pub days : ℕ → Printed
+days n = record { text = wholeOf n; value = n }
+
+abbrev pub hours : ℕ → Printed
+hours n = record { text = tenthsOf n; value = n }
+
+-- a record of a farm file: the kind of its herd, its path and name, and the value
 pub record Entry : Type 0 where
   pub kind : Kind
   pub path : String
   pub name : String
-  pub text : List ℕ
-  pub value : ℕ
+  pub printed : Printed
 
-infix 6 _at_of_written_
-abbrev pub _at_of_written_ : Kind → String → String → List ℕ → ℕ → Entry
-(k at m of n written t) v = record { kind = k; path = m; name = n; text = t; value = v }
+infix 68 _at_of_is_
+abbrev pub _at_of_is_ : Kind → String → String → Printed → Entry
+k at m of n is v = record { kind = k; path = m; name = n; printed = v }
 
--- the entries that a log gives, their values as the program prints them
+-- the entries that a log gives
 abbrev pub entriesOf : Outdoors → List Entry
 entriesOf o =
-    (Roughage at "Livestock::RoughageConsuming::Grazing" of "grazing_days" written wholeOf (o .«grazing_days»))
-    (o .«grazing_days»)
-    ∷ (Roughage at "Livestock::RoughageConsuming::Grazing" of "grazing_hours" written tenthsOf (o .«grazing_hours»))
-    (o .«grazing_hours»)
-    ∷ (Cattle at "Livestock::OtherCattle::Outdoor" of "yard_days" written wholeOf (o .«yard_days»)) (o .«yard_days»)
-    ∷ (Cattle at "Livestock::OtherCattle::Outdoor" of "grazing_days" written wholeOf (o .«grazing_days»))
-    (o .«grazing_days»)
-    ∷ (Cattle at "Livestock::OtherCattle::Outdoor" of "grazing_hours" written tenthsOf (o .«grazing_hours»))
-    (o .«grazing_hours»)
+    (Roughage at "Livestock::RoughageConsuming::Grazing" of "grazing_days" is days (o .«grazing_days»))
+    ∷ (Roughage at "Livestock::RoughageConsuming::Grazing" of "grazing_hours" is hours (o .«grazing_hours»))
+    ∷ (Cattle at "Livestock::OtherCattle::Outdoor" of "yard_days" is days (o .«yard_days»))
+    ∷ (Cattle at "Livestock::OtherCattle::Outdoor" of "grazing_days" is days (o .«grazing_days»))
+    ∷ (Cattle at "Livestock::OtherCattle::Outdoor" of "grazing_hours" is hours (o .«grazing_hours»))
     ∷ []
 
--- a farm file takes the entry, for the herd of this label
+-- the fields of the record, for the herd of this label
+abbrev pub fieldsOf : List ℕ → Entry → Record
+fieldsOf label e = label ∷ bytes (e .path) ∷ bytes (e .name) ∷ e .printed .text ∷ []
+
+-- a farm file takes the entry
 pub record Takes (label : List ℕ) (e : Entry) : Type 0 where
   pub slot : ℕ
-  pub says : RecordSays (label ∷ bytes (e .path) ∷ bytes (e .name) ∷ e .text ∷ []) label (e .kind) slot
-  (Value (e .value))
+  pub says : RecordSays (fieldsOf label e) label (e .kind) slot (Value (e .printed .value))

@@ -13,8 +13,9 @@ use Rattle.calendar.specs.Calendar.{newYear, nextDate, IsEve}
 use Rattle.calendar.specs.Texts.{IsDate}
 use Rattle.gate.specs.declared.LogFault.{LogFault}
 use Rattle.gate.specs.declared.LogFault.the-variants.{LogTooLong, RecordBroken, NotThreeFields, BadHours, WrongDate}
-use Rattle.gate.specs.Refusals.{number}
-use Rattle.gate_rules.specs.Rules.{dateText, HoursAre, logMost}
+use Rattle.gate.specs.declared.Outdoors.{Outdoors}
+use Rattle.gate.specs.Refusals.{number, Says, gives, refuses}
+use Rattle.gate_rules.specs.Rules.{dateText, HoursAre, logMost, KeepsLog}
 
 -- ---- 3, 7 and 14, of the record cs that stands behind these
 
@@ -53,3 +54,8 @@ pub data Sooner : ℕ → LogFault → ℕ → LogFault → Type 0 where
 pub record First (s : List ℕ) (n : ℕ) (fault : LogFault) : Type 0 where
   pub applies : AppliesAt s n fault
   pub none-sooner : (m : ℕ) (other : LogFault) → AppliesAt s m other → Sooner m other n fault → ⊥
+
+-- what is said of a log in these numbers: what it comes to, or the first refusal's number and its record
+pub data Told (s : List ℕ) : Says → Type 0 where
+  comes-to : {o : Outdoors} → KeepsLog s o → Told s (gives o)
+  refused : {n : ℕ} {fault : LogFault} → First s n fault → Told s (refuses (number fault) n)

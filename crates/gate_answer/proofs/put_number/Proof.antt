@@ -12,14 +12,14 @@ put-number-spec =
     (tie.spec
     (λ c κs. search needs)
     (λ c κs.
-      let s = c .before .before .before .before .before .before .before in
-      omega (arith, whole-text (s .args .n) (search needs)))
+    let s = c .before .before .before .before .before .before .before in
+    omega (arith, whole-text (s .args .n) (search needs)))
     (λ c. search needs)
     (λ c.
-      let w = c .before .before in
-      let p = w .before .before .before .before in
-      let s = p .before .before .before .before in
-      record {
-        wrote = joined (p .put .ensures) (w .put-whole .ensures);
-        short = omega (arith, whole-text (s .args .n) (search needs));
-      }))
+    let w = c .before .before in
+    let p = w .before .before .before .before in
+    let s = p .before .before .before .before in
+    record {
+      wrote = joined (p .put .ensures) (w .put-whole .ensures);
+      short = omega (arith, whole-text (s .args .n) (search needs));
+    }))

@@ -25,11 +25,11 @@ put-outdoors-spec =
     (λ c κs. search needs)
     (λ c. search needs)
     (λ c.
-      let e = c .before .before in
-      let t = e .before .before .before .before .before in
-      let h = t .before .before .before .before .before .before in
-      let y = h .before .before .before .before .before .before in
-      let g = y .before .before .before .before .before .before in
-      let days = joined (g .put-number .ensures .wrote) (y .put-number2 .ensures .wrote) in
-      let hours = joined (joined days (h .put-number3 .ensures .wrote)) (t .put-number4 .ensures .wrote) in
-      said (outdoors-is _) (joined hours (e .put .ensures))))
+    let e = c .before .before in
+    let t = e .before .before .before .before .before in
+    let h = t .before .before .before .before .before .before in
+    let y = h .before .before .before .before .before .before in
+    let g = y .before .before .before .before .before .before in
+    let days = joined (g .put-number .ensures .wrote) (y .put-number2 .ensures .wrote) in
+    let hours = joined (joined days (h .put-number3 .ensures .wrote)) (t .put-number4 .ensures .wrote) in
+    said (outdoors-is _) (joined hours (e .put .ensures))))

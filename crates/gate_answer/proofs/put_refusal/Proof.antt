@@ -18,8 +18,8 @@ put-refusal-spec =
     (λ c κs. search needs)
     (λ c. search needs)
     (λ c.
-      let e = c .before .before in
-      let r = e .before .before .before .before .before in
-      let n = r .before .before .before .before .before in
-      said (refusal-is _ _ _ (n .before .number-of .ensures))
-      (joined (joined (n .put-number .ensures .wrote) (r .put-number2 .ensures .wrote)) (e .put .ensures))))
+    let e = c .before .before in
+    let r = e .before .before .before .before .before in
+    let n = r .before .before .before .before .before in
+    said (refusal-is _ _ _ (n .before .number-of .ensures))
+    (joined (joined (n .put-number .ensures .wrote) (r .put-number2 .ensures .wrote)) (e .put .ensures))))

@@ -22,10 +22,10 @@ hours-of-spec =
     (λ c. search needs)
     (λ c. search (needs, hours-steps))
     (λ c.
-      let yard : c .before .yard .given .0 .0 ≤ 240 = search (needs, number-small) in
-      let pasture : c .before .before .before .before .before .before .pasture .given .0 .0 ≤ 240 =
-      search (needs, number-small) in
-      omega arith)
+    let yard : c .before .yard .given .0 .0 ≤ 240 = search (needs, number-small) in
+    let pasture : c .before .before .before .before .before .before .pasture .given .0 .0 ≤ 240 =
+    search (needs, number-small) in
+    omega arith)
     (λ c. search (needs, hours-steps))
     (λ c. search needs)
     (λ c. search needs)
