@@ -649,7 +649,7 @@ class GateLogs(unittest.TestCase):
     """Request W10, on logs that are written out from its text."""
 
     def days(self, year, **changes):
-        """A year's records with an hour on pasture and none on the yard, changed on some dates, as m03_d01=(pasture, yard)."""
+        """A year's records, an hour on pasture each day, changed on some dates: m03_d01=(pasture, yard)."""
         days = [[date, "1", "0"] for date in gatelog.dates_of(year)]
         for name, (pasture, yard) in changes.items():
             date = f"{year:04}-{name[1:3]}-{name[5:7]}"
@@ -658,18 +658,21 @@ class GateLogs(unittest.TestCase):
         return days
 
     def expect(self, days, grazing_days, yard_days, hours):
-        lines = f"grazing_days,{grazing_days}\r\nyard_days,{yard_days}\r\ngrazing_hours,{hours}\r\n"
-        self.assertEqual(gatelog.answer(gate_cases.file_of(days)).decode(), lines)
+        lines = (f"grazing_days,{grazing_days}", f"yard_days,{yard_days}", f"grazing_hours,{hours}")
+        due = "".join(line + "\r\n" for line in lines)
+        self.assertEqual(gatelog.answer(gate_cases.file_of(days)).decode(), due)
 
     def expect_refusal(self, days, number, record):
-        self.assertEqual(gatelog.answer(gate_cases.file_of(days)), f"refused,{number},{record}\r\n".encode())
+        due = f"refused,{number},{record}\r\n".encode()
+        self.assertEqual(gatelog.answer(gate_cases.file_of(days)), due)
 
     def test_years(self):
-        for year, leap in ((2023, 0), (2024, 1), (1900, 0), (2000, 1), (2100, 0), (0, 1), (4, 1), (100, 0), (9999, 0)):
+        for year in (2023, 2024, 1900, 2000, 2100, 0, 4, 100, 9999):
+            leap = year in (2024, 2000, 0, 4)
             dates = gatelog.dates_of(year)
             self.assertEqual(len(dates), 365 + leap)
             self.assertEqual((dates[0], dates[-1]), (f"{year:04}-01-01", f"{year:04}-12-31"))
-            self.assertEqual(f"{year:04}-02-29" in dates, bool(leap))
+            self.assertEqual(f"{year:04}-02-29" in dates, leap)
             self.assertEqual(dates, sorted(set(dates)))
         self.assertEqual(gatelog.dates_of(2023)[58:60], ["2023-02-28", "2023-03-01"])
 
@@ -696,9 +699,17 @@ class GateLogs(unittest.TestCase):
         self.expect_refusal(self.days(2000)[:59] + [["2000-02-30", "1", "0"]], 14, 60)
         self.expect_refusal(days[:9] + days[10:], 14, 10)
         self.expect_refusal(days[:9] + days[8:], 14, 10)
-        for hours, number in ((("24.0", "0"), 14), (("24", "0.1"), 7), (("12.5", "11.5"), 14), (("12.5", "11.6"), 7), (("24.1", "0"), 7), (("1.05", "0"), 7)):
-            self.expect_refusal([["2023-01-01", *hours]], number, 0 if number == 14 else 1)
-        for fields, number in ((["x", "25"], 3), (["x", "25", "0"], 7), (["x", "24", "0"], 14), (["2023-01-01", "1", "0", ""], 3), (['x"', "25"], 2)):
+        for hours in (("24", "0.1"), ("12.5", "11.6"), ("24.1", "0"), ("1.05", "0")):
+            self.expect_refusal([["2023-01-01", *hours]], 7, 1)
+        for hours in (("24.0", "0"), ("12.5", "11.5"), ("0", "24")):
+            self.expect_refusal([["2023-01-01", *hours]], 14, 0)
+        for fields, number in (
+            (['x"', "25"], 2),
+            (["x", "25"], 3),
+            (["2023-01-01", "1", "0", ""], 3),
+            (["x", "25", "0"], 7),
+            (["x", "24", "0"], 14),
+        ):
             self.expect_refusal(days[:4] + [fields], number, 5)
         self.assertEqual(gatelog.answer(b"x" * MOST_BYTES), b"refused,3,1\r\n")
         self.assertEqual(gatelog.answer(b"x" * (MOST_BYTES + 1)), b"refused,1,0\r\n")
