@@ -6,13 +6,12 @@ use mathlib.Core.Bool.{Bool, true, false}
 use mathlib.Core.List.{List, [], _∷_, _++_}
 use native.Mathlib.Omega.{arith}
 use lib.Dec.{eqb}
-use lib.ListN.{length, getD}
+use lib.ListN.{length}
 use borrow.Author.Tests.{eqb-true, le-ltb}
 use Rattle.base.specs.Pick.{pick}
 use Rattle.base.proofs.Clash.{clash}
 use Rattle.decimal.specs.Numbers.{Digit, Digits, value}
 use Rattle.calendar.specs.declared.Date.{Date}
-use Rattle.calendar.specs.declared.DateRead.{DateRead}
 use Rattle.calendar.specs.declared.DateRead.the-variants.{Is, Unreadable}
 use Rattle.calendar.specs.declared.Spelled.{Spelled}
 use Rattle.calendar.specs.declared.Spelled.the-variants.{Value, NoDigits}

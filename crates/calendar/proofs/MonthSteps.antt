@@ -3,8 +3,7 @@
 use Prim.Native.Nat.{ℕ, zero, suc, _+_, _<_, _≤_}
 use mathlib.Core.Path.{_≡_, refl, sym, ap, _∙_}
 use mathlib.Core.Bool.{Bool, true, false}
-use mathlib.Core.List.{List, [], _∷_}
-use native.Mathlib.Omega.{arith}
+use mathlib.Core.List.{List, _∷_}
 use lib.ListN.{getD, List·getD-eq-default}
 use borrow.Author.Tests.{lt-ltb, le-ltb}
 use Rattle.calendar.specs.declared.Date.{Date}

@@ -1,8 +1,6 @@
 -- Dates on both sides of a month's and a year's end, computed from the definitions. Assumes nothing.
 use mathlib.Core.Path.{_≡_, refl}
-use mathlib.Core.Bool.{true, false}
-use mathlib.Core.List.{List, [], _∷_, map}
-use Rattle.calendar.specs.declared.Date.{Date}
+use mathlib.Core.List.{[], _∷_, map}
 use Rattle.calendar.specs.Calendar.{date, isLeap, daysIn, nextDate}
 
 -- the day after 28 February, in a hundredth year, a four-hundredth, a common year and a leap year; the year 0 counts

@@ -13,7 +13,6 @@ use Rattle.base.specs.Pick.{pick}
 use Rattle.base.specs.Each.{Each}
 use Rattle.base.proofs.Each.{each-passed, each-getD}
 use Rattle.calendar.specs.declared.Date.{Date}
-use Rattle.calendar.specs.declared.Due.{Due}
 use Rattle.calendar.specs.declared.Due.the-variants.{On, Nothing}
 use Rattle.calendar.specs.Calendar.{date, isLeap, monthsOf, daysIn, yearLength, sum, Exists, newYear}
 use Rattle.calendar.specs.Calendar.{newYearsEve, nextDate, after, datesFrom, Comes, IsEve}

@@ -24,9 +24,8 @@ use Rattle.gate.specs.declared.Day.{Day}
 use Rattle.gate.specs.declared.LogFault.the-variants.{NotThreeFields, BadHours, WrongDate}
 use Rattle.gate.specs.declared.days.Hours.{Hours}
 use Rattle.gate.specs.declared.days.Hours.the-variants.{Are, Unfit}
-use Rattle.gate.specs.declared.days.DayRead.{DayRead}
 use Rattle.gate.specs.declared.days.DayRead.the-variants.{Says, Wrong}
-use Rattle.gate.specs.Days.{hoursMost, day, hoursBy, hoursOf, dayBy, dayOf}
+use Rattle.gate.specs.Days.{day, hoursBy, hoursOf, dayBy, dayOf}
 
 -- a number that is read is at most the largest
 pub number-small : (a : List ℕ) (d m : ℕ) {x : Number} → x ≡ numberOf a d m → {v : ℕ} → x ≡ Value v → v ≤ m

@@ -1,7 +1,7 @@
 -- How far a log is read, from the calls that go on with it: each law in the form that a place of src/logs.rt wants.
 -- Assumes nothing.
 use Prim.Native.Nat.{ℕ, _+_, _-_, _*_, _<_, _≤_}
-use mathlib.Core.Path.{_≡_, refl, sym, ap, subst, _∙_}
+use mathlib.Core.Path.{_≡_, refl, sym, ap, _∙_}
 use mathlib.Core.Bool.{Bool, true, false, not}
 use mathlib.Core.List.{List}
 use native.Mathlib.Omega.{arith}
@@ -13,7 +13,7 @@ use Rattle.csv.specs.declared.Fields.{Fields}
 use Rattle.csv.specs.declared.ReaderPlace.{ReaderPlace}
 use Rattle.csv.specs.declared.Step.{Step}
 use Rattle.csv.specs.declared.Step.the-variants.{Record, Broken, End}
-use Rattle.csv.specs.Reading.{Reading, readingOf, partsOf}
+use Rattle.csv.specs.Reading.{readingOf, partsOf}
 use Rattle.csv.specs.Places.{partsAt, stepOf}
 use Rattle.csv.specs.Outcome.{ReadAs}
 use Rattle.csv.proofs.Steps.{Says, says, next-reads, end-read}

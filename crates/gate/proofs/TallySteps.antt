@@ -1,16 +1,14 @@
 -- Days counted, from the calls that look at them: each law in the form that a place of src/tallies.rt wants. Assumes
 -- nothing.
-use Prim.Native.Nat.{ℕ, _+_, _*_, _≤_}
-use mathlib.Core.Path.{_≡_, refl, sym, ap, _∙_}
+use Prim.Native.Nat.{ℕ, _+_, _≤_}
+use mathlib.Core.Path.{_≡_, refl, sym, _∙_}
 use mathlib.Core.Bool.{Bool, true, false}
 use native.Mathlib.Omega.{arith}
 use lib.Dec.{ltb}
 use Rattle.base.specs.Pick.{pick}
-use Rattle.calendar.specs.declared.Date.{Date}
 use Rattle.calendar.specs.Calendar.{isLeapDay}
 use Rattle.gate.specs.declared.Day.{Day}
 use Rattle.gate.specs.declared.Tally.{Tally}
-use Rattle.gate.specs.declared.Outdoors.{Outdoors}
 use Rattle.gate.specs.Outdoors.{meanOf}
 use Rattle.gate.specs.Tallies.{oneIf, tally, withDay, outdoorsBy}
 

@@ -6,14 +6,11 @@ use lib.Dec.{ltb}
 use lib.ListN.{length}
 use Rattle.base.specs.Pick.{pick}
 use Rattle.csv.specs.Reading.{Reading, _then_, end, broken, readingOf, partsOf}
-use Rattle.calendar.specs.declared.Date.{Date}
 use Rattle.calendar.specs.declared.Due.{Due}
 use Rattle.calendar.specs.declared.Due.the-variants.{NewYear, On, Nothing}
 use Rattle.calendar.specs.Following.{isDue, dueAfter}
-use Rattle.gate.specs.declared.Day.{Day}
 use Rattle.gate.specs.declared.Tally.{Tally}
 use Rattle.gate.specs.declared.Progress.{Progress}
-use Rattle.gate.specs.declared.LogFault.{LogFault}
 use Rattle.gate.specs.declared.LogFault.the-variants.{LogTooLong, RecordBroken, WrongDate}
 use Rattle.gate.specs.declared.LogAnswer.{LogAnswer}
 use Rattle.gate.specs.declared.LogAnswer.the-variants.{Gives, Refused}

@@ -5,7 +5,6 @@ use mathlib.Core.List.{List, [], _∷_}
 use lib.Dec.{ltb}
 use lib.ListN.{length}
 use Rattle.base.specs.Pick.{pick, if_is_then_else_}
-use Rattle.calendar.specs.declared.Date.{Date}
 use Rattle.calendar.specs.Calendar.{isLeapDay}
 use Rattle.gate.specs.declared.Day.{Day}
 use Rattle.gate.specs.declared.Outdoors.{Outdoors}

@@ -1,14 +1,13 @@
 -- The lines of an answer, from the calls that put them: each law in the form that a place of src/lib.rt wants.
 -- Assumes nothing.
 use Prim.Native.Nat.{ℕ, _+_, _/_, _%_, _^_, _≤_, _<_}
-use mathlib.Core.Path.{_≡_, refl, sym, ap, _∙_}
-use mathlib.Core.List.{List, [], _∷_, _++_, append-assoc}
+use mathlib.Core.Path.{_≡_, ap, _∙_}
+use mathlib.Core.List.{List, _++_, append-assoc}
 use native.Mathlib.Omega.{arith}
 use lib.ListN.{length, replicate}
 use lib.Seq.{sets}
 use Rattle.base.specs.Text.{bytes}
 use Rattle.base.specs.Wrote.{Wrote}
-use Rattle.base.proofs.Writes.{said}
 use Rattle.decimal.specs.Writing.{wholeOf}
 use Rattle.decimal.proofs.Widths.{whole-length}
 use Rattle.decimal.proofs.Kilograms.{whole-short}
@@ -18,7 +17,6 @@ use Rattle.gate.specs.declared.LogAnswer.{LogAnswer}
 use Rattle.gate.specs.declared.LogAnswer.the-variants.{Gives, Refused}
 use Rattle.gate.specs.Refusals.{number}
 use Rattle.gate.specs.Logs.{readLog}
-use Rattle.gate_answer.specs.declared.PutAnswer.{PutAnswer}
 use Rattle.gate_answer.specs.Lines.{outdoorsLines, refusalLine, answerLines}
 use Rattle.gate_answer.specs.Program.{answerRoom, logOutput, answerOf}
 

@@ -1,7 +1,7 @@
 -- Exact acceptance: a log comes to something exactly where it keeps the rules and its days come to that. Assumes
 -- nothing.
 use Prim.Native.Nat.{ℕ, zero, suc, _+_, _-_}
-use mathlib.Core.Path.{_≡_, refl, sym, ap, _∙_}
+use mathlib.Core.Path.{_≡_, sym, ap, _∙_}
 use mathlib.Core.Logic.{_↔_}
 use mathlib.Core.Bool.{true}
 use mathlib.Core.List.{List, [], _∷_, _++_, append-nil, append-assoc}
@@ -9,7 +9,7 @@ use native.Mathlib.Omega.{arith}
 use lib.ListN.{length}
 use borrow.Author.Tests.{le-ltb}
 use Rattle.base.proofs.Clash.{clash}
-use Rattle.csv.specs.Reading.{Reading, _then_, end, readingOf, partsOf}
+use Rattle.csv.specs.Reading.{Reading, _then_, end, readingOf}
 use Rattle.csv.proofs.Files.{read-file, file-read}
 use Rattle.rules.specs.Lists.{Pairs}
 use Rattle.rules.specs.Rules.{Record}
@@ -24,12 +24,12 @@ use Rattle.gate.specs.declared.Day.{Day}
 use Rattle.gate.specs.declared.Tally.{Tally}
 use Rattle.gate.specs.declared.Outdoors.{Outdoors}
 use Rattle.gate.specs.declared.LogAnswer.{LogAnswer}
-use Rattle.gate.specs.declared.LogAnswer.the-variants.{Gives, Refused}
+use Rattle.gate.specs.declared.LogAnswer.the-variants.{Gives}
 use Rattle.gate.specs.Outdoors.{outdoorsOf}
 use Rattle.gate.specs.Tallies.{tally, withDay}
 use Rattle.gate.specs.Logs.{progress, nothingRead, finished, readFrom, readLog}
 use Rattle.gate.proofs.Tallied.{tallyOf, tally-last, tally-outdoors}
-use Rattle.gate_rules.specs.Rules.{RecordSays, datesOf, logMost, LogOf, KeepsLog}
+use Rattle.gate_rules.specs.Rules.{RecordSays, datesOf, logMost, KeepsLog}
 use Rattle.gate_rules.proofs.Days.{said}
 use Rattle.gate_rules.proofs.Steps.{one-same, dateAt, after-next, due-next, due-end}
 use Rattle.gate_rules.proofs.Answers.{Ran, accepts, breaks, wrong, ends, Answered, too-long, read, answered}

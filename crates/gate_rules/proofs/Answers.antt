@@ -8,7 +8,7 @@ use lib.Dec.{ltb}
 use lib.ListN.{length, length-append}
 use borrow.Author.Tests.{ltb-true, ltb-false}
 use Rattle.base.specs.Pick.{pick}
-use Rattle.csv.specs.Reading.{Reading, _then_, end, broken, readingOf, partsOf}
+use Rattle.csv.specs.Reading.{Reading, _then_, end, broken, readingOf}
 use Rattle.rules.specs.Rules.{Record}
 use Rattle.rules.specs.Lists.{Last}
 use Rattle.rules.proofs.Readings.{thens, thens-append}
@@ -24,9 +24,8 @@ use Rattle.gate.specs.declared.LogAnswer.the-variants.{Gives, Refused}
 use Rattle.gate.specs.declared.logs.Taken.{Taken}
 use Rattle.gate.specs.declared.logs.Taken.the-variants.{Further, Wrong}
 use Rattle.gate.specs.Refusals.{number}
-use Rattle.gate.specs.Days.{dayOf}
 use Rattle.gate.specs.Outdoors.{outdoorsOf}
-use Rattle.gate.specs.Logs.{nothingRead, takenBy, readFrom, readLog}
+use Rattle.gate.specs.Logs.{nothingRead, readFrom, readLog}
 use Rattle.gate_rules.specs.Rules.{dateText, LogOf, logMost}
 use Rattle.gate_rules.specs.Refusals.{Applies}
 use Rattle.gate_rules.proofs.Steps.{Inv, start, NoneBelow, Verdict, refuses, goes-on, verdict, OnEve, Ended}

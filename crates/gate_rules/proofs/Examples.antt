@@ -1,5 +1,4 @@
 -- Small logs on both sides of the rules, computed from the definitions. Assumes nothing.
-use Prim.Native.Nat.{ℕ}
 use Prim.Native.String.{String}
 use mathlib.Core.Path.{_≡_, refl}
 use mathlib.Core.List.{[], _∷_, map}
@@ -11,7 +10,7 @@ use Rattle.calendar.specs.Following.{dueAfter}
 use Rattle.calendar.specs.Reading.{pairOf, dateOf}
 use Rattle.gate.specs.declared.LogFault.the-variants.{RecordBroken, NotThreeFields, BadHours, WrongDate}
 use Rattle.gate.specs.declared.LogAnswer.{LogAnswer}
-use Rattle.gate.specs.declared.LogAnswer.the-variants.{Gives, Refused}
+use Rattle.gate.specs.declared.LogAnswer.the-variants.{Refused}
 use Rattle.gate.specs.Days.{day, hoursOf, dayOf}
 use Rattle.gate.specs.Outdoors.{outdoorsOf}
 use Rattle.gate.specs.Tallies.{withDay}

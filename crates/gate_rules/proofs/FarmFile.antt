@@ -1,6 +1,6 @@
 -- What a log comes to, as it is printed, is a value of a farm file's inputs of the same names. Assumes nothing.
-use Prim.Native.Nat.{ℕ, _+_, _*_, _/_, _%_, _<_, _≤_}
-use mathlib.Core.Path.{_≡_, refl, sym, ap, _∙_}
+use Prim.Native.Nat.{ℕ, _+_, _*_, _/_, _%_, _<_}
+use mathlib.Core.Path.{_≡_, refl, sym, _∙_}
 use mathlib.Core.List.{List, [], _∷_, _++_, append-assoc}
 use native.Mathlib.Omega.{arith}
 use native.Mathlib.Nat.{mul-one}
@@ -8,21 +8,18 @@ use lib.Dec.{lit<}
 use lib.ListN.{length}
 use Rattle.base.specs.Text.{bytes}
 use Rattle.base.specs.Each.{Each, none, more}
-use Rattle.decimal.specs.Numbers.{Digit, Digits, Whole, value, IsNumber}
+use Rattle.decimal.specs.Numbers.{Digits, Whole, value, IsNumber}
 use Rattle.decimal.specs.Writing.{wholeOf}
 use Rattle.decimal.proofs.Agrees.{same-number, value-append}
 use Rattle.decimal.proofs.Widths.{whole-length, width-small}
 use Rattle.decimal.proofs.Written.{whole-number}
-use Rattle.inputs.specs.declared.Kind.{Kind}
-use Rattle.inputs.specs.declared.Kind.the-variants.{Roughage, Cattle}
 use Rattle.inputs.specs.Inputs.{formOf}
-use Rattle.farm.specs.declared.Given.the-variants.{Value}
-use Rattle.rules.specs.Rules.{GoodLabel, Names, ValueIs, RecordSays}
+use Rattle.rules.specs.Rules.{GoodLabel, ValueIs, RecordSays}
 use Rattle.gate.specs.declared.Outdoors.{Outdoors}
 use Rattle.gate.specs.declared.LogAnswer.the-variants.{Gives}
 use Rattle.gate.specs.Logs.{readLog}
 use Rattle.gate_answer.specs.Lines.{tenthsOf}
-use Rattle.gate_rules.specs.FarmFile.{Fits, Entry, entriesOf, Takes}
+use Rattle.gate_rules.specs.FarmFile.{Fits, entriesOf, Takes}
 use Rattle.gate_rules.proofs.Accepts.{accepts-exactly}
 use Rattle.gate_rules.proofs.Ranges.{log-fits}
 

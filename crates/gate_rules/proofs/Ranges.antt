@@ -1,7 +1,7 @@
 -- What a log comes to lies in the ranges of a farm file's inputs: no more than 365 days are counted, and no day has
 -- more than 24 hours. Assumes nothing.
 use Prim.Native.Nat.{ℕ, zero, suc, _+_, _*_, _/_, _<_, _≤_}
-use mathlib.Core.Path.{_≡_, refl, sym, ap, subst, _∙_}
+use mathlib.Core.Path.{_≡_, refl, sym, ap, subst}
 use mathlib.Core.Bool.{Bool, true, false, not}
 use mathlib.Core.List.{List, [], _∷_}
 use native.Mathlib.Omega.{arith}
@@ -18,7 +18,7 @@ use Rattle.calendar.specs.Calendar.{isLeap, newYear, nextDate, after, datesFrom
 use Rattle.calendar.proofs.Years.{leap-day, dates-length}
 use Rattle.gate.specs.declared.Day.{Day}
 use Rattle.gate.specs.declared.Outdoors.{Outdoors}
-use Rattle.gate.specs.Outdoors.{those, counted, grazed, onYard, pastureHours, meanOf, outdoorsOf}
+use Rattle.gate.specs.Outdoors.{those, counted, grazed, pastureHours, meanOf, outdoorsOf}
 use Rattle.gate_rules.specs.Rules.{RecordSays, datesOf, LogOf, KeepsLog}
 use Rattle.gate_rules.specs.FarmFile.{Fits}
 

@@ -1,38 +1,35 @@
 -- A log that is being read: the records before this one said the first days of a year, and what is given for this one
 -- is the first refusal that applies. Assumes nothing.
-use Prim.Native.Nat.{ℕ, zero, suc, _+_, _<_, _≤_}
+use Prim.Native.Nat.{ℕ, zero, suc, _+_, _<_}
 use mathlib.Core.Path.{_≡_, refl, sym, ap, subst, _∙_}
 use mathlib.Core.Logic.{_↔_}
 use mathlib.Core.Bool.{Bool, true, false}
-use mathlib.Core.List.{List, [], _∷_, _++_, map}
+use mathlib.Core.List.{List, [], _∷_, _++_}
 use native.Mathlib.Omega.{arith}
 use lib.Dec.{eqb, ltb}
-use lib.ListN.{length}
 use borrow.Author.Tests.{eq-eqb, eqb-true, ltb-true, ltb-false}
 use Rattle.base.specs.Pick.{pick}
 use Rattle.base.proofs.Clash.{clash}
 use Rattle.csv.specs.Reading.{partsOf}
-use Rattle.rules.specs.Lists.{Last, only, past, Pairs}
+use Rattle.rules.specs.Lists.{Last, only, Pairs}
 use Rattle.rules.specs.Rules.{Record}
 use Rattle.rules.proofs.Lists.{last-append, last-none, last-one, pairs-append}
 use Rattle.calendar.specs.declared.Date.{Date}
 use Rattle.calendar.specs.declared.Due.{Due}
-use Rattle.calendar.specs.declared.Due.the-variants.{NewYear, On, Nothing}
-use Rattle.calendar.specs.Calendar.{date, yearLength, newYear, nextDate, after, datesFrom, yearDates, sameDay}
+use Rattle.calendar.specs.declared.Due.the-variants.{On, Nothing}
+use Rattle.calendar.specs.Calendar.{date, yearLength, newYear, nextDate, after, datesFrom, sameDay}
 use Rattle.calendar.specs.Calendar.{sameDate, IsEve}
 use Rattle.calendar.specs.Following.{isDue, dueAfter}
 use Rattle.calendar.specs.Texts.{IsDate}
 use Rattle.calendar.proofs.DateTexts.{one-date}
 use Rattle.calendar.proofs.Years.{At, at-front, at-most, eve-at, next-at, last-at, after-at, dates-last}
 use Rattle.gate.specs.declared.Day.{Day}
-use Rattle.gate.specs.declared.Tally.{Tally}
 use Rattle.gate.specs.declared.Progress.{Progress}
 use Rattle.gate.specs.declared.LogFault.{LogFault}
 use Rattle.gate.specs.declared.LogFault.the-variants.{NotThreeFields, BadHours, WrongDate}
 use Rattle.gate.specs.declared.LogAnswer.{LogAnswer}
 use Rattle.gate.specs.declared.LogAnswer.the-variants.{Gives, Refused}
 use Rattle.gate.specs.declared.days.DayRead.{DayRead}
-use Rattle.gate.specs.declared.days.DayRead.the-variants as reads
 use Rattle.gate.specs.declared.logs.Taken.{Taken}
 use Rattle.gate.specs.declared.logs.Taken.the-variants.{Further, Wrong}
 use Rattle.gate.specs.Refusals.{number}
@@ -41,7 +38,7 @@ use Rattle.gate.specs.Tallies.{withDay}
 use Rattle.gate.specs.Outdoors.{outdoorsOf}
 use Rattle.gate.specs.Logs.{progress, nothingRead, takenBy, finished}
 use Rattle.gate.proofs.Tallied.{tallyOf, tally-last, tally-outdoors}
-use Rattle.gate_rules.specs.Rules.{dateText, HoursAre, RecordSays, datesOf, LogOf}
+use Rattle.gate_rules.specs.Rules.{dateText, RecordSays, datesOf, LogOf}
 use Rattle.gate_rules.specs.Refusals.{DueAfter, new-year, next, Applies, not-three-fields, bad-hours}
 use Rattle.gate_rules.specs.Refusals.{wrong-date}
 use Rattle.gate_rules.proofs.Days.{Alone, says, not-three, no-hours, no-date, alone}

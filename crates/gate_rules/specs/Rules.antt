@@ -4,7 +4,7 @@
 -- purpose, apart from those that the code goes by.
 use Prim.Native.Nat.{ℕ, _+_, _≤_}
 use mathlib.Core.Path.{_≡_}
-use mathlib.Core.List.{List, [], _∷_, map}
+use mathlib.Core.List.{List, [], map}
 use lib.ListN.{length, getD}
 use Rattle.csv.specs.Grammar.{FileOf}
 use Rattle.decimal.specs.Numbers.{IsNumber}
