@@ -1,5 +1,6 @@
 // The log of a pasture gate, a record a day, through one calendar year, becomes a farm file's grazing days, yard days
 // and grazing hours; or exactly one refusal with its record number, the first that applies in the order of 02's W10.
+pub mod faults; // the refusals' numbers
 pub mod days; // what a record says of its day
 pub mod tallies; // days counted, and what comes of them
 pub mod logs; // the whole log

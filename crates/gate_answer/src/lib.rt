@@ -2,12 +2,12 @@
 use gate::LogAnswer;
 use gate::LogFault;
 use gate::Outdoors;
+use gate::faults;
 use gate::logs;
 ghost use mathlib.Core.Path.{_≡_};
 ghost use Prim.Native.Nat.{_+_, _≤_};
 ghost use lib.ListN.{length};
 ghost use Rattle.base.specs.Wrote.{Wrote};
-ghost use Rattle.gate.specs.Refusals.{number};
 ghost use Rattle.gate_answer.specs.Lines.{outdoorsLines, refusalLine, answerLines};
 ghost use Rattle.gate_answer.specs.Program.{digitsMost, PutNumber, answerRoom, answerOf};
 
@@ -19,19 +19,6 @@ pub struct PutAnswer {
     pub answer: LogAnswer,
     pub bytes: [u8; ANSWER_ROOM],
     pub length: usize,
-}
-
-// The refusal's number.
-fn number_of(fault: LogFault) -> u64
-    ensures { λ r. ⌜ r ≡ number fault ⌝ }
-{
-    match fault {
-        LogFault::LogTooLong => 1,
-        LogFault::RecordBroken => 2,
-        LogFault::NotThreeFields => 3,
-        LogFault::BadHours => 7,
-        LogFault::WrongDate => 14,
-    }
 }
 
 // A text, and a whole number behind it.
@@ -58,7 +45,7 @@ fn put_refusal(out: &mut [u8], fault: LogFault, record: usize) -> usize
     requires { ⌜ answerRoom ≤ length (now out) ⌝ }
     ensures { λ r. ⌜ Wrote (now (out .entry)) 0 (refusalLine fault «record») (now (out .exit)) r ⌝ }
 {
-    let a = put_number(out, 0, b"refused,", number_of(fault));
+    let a = put_number(out, 0, b"refused,", faults::number_of(fault));
     let b = put_number(out, a, b",", record as u64);
     base::put(out, b, b"\r\n")
 }
