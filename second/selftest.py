@@ -13,6 +13,8 @@ import damage
 import faults
 import gate_cases
 import gatelog
+import mend
+import mend_cases
 import printed
 from arithmetic import BILLION, CUTS, EXACT, HALF, Cuts
 from dice import Dice
@@ -723,6 +725,59 @@ class GateLogs(unittest.TestCase):
                 for line in out.splitlines():
                     name, text = line.split(",")
                     self.assertIsNotNone(taken[name].read(text), log)
+def bare_places(file):
+    """The places of bare LFs, each judged by the bytes before it."""
+    return [
+        place
+        for place, byte in enumerate(file)
+        if byte == 10 and not file[:place].endswith(b"\r") and file[:place].count(b'"') % 2 == 0
+    ]
+
+
+class Mending(unittest.TestCase):
+    """Request W6, on the files of its pack."""
+
+    def test_examples(self):
+        mark = b"\xef\xbb\xbf"
+        for file, out, changed in (
+            (b"", b"", []),
+            (mark, b"", [(1, 0)]),
+            (mark + mark, mark, [(1, 0)]),
+            (b"a" + mark + b"\n", b"a" + mark + b"\r\n", [(2, 4)]),
+            (b"\n", b"\r\n", [(2, 0)]),
+            (mark + b"\n", b"\r\n", [(1, 0), (2, 3)]),
+            (b"a\nb\r\nc\r\r\n", b"a\r\nb\r\nc\r\r\n", [(2, 1)]),
+            (b'"\n"\n', b'"\n"\r\n', [(2, 3)]),
+            (b'"\n""\n"\n', b'"\n""\n"\r\n', [(2, 6)]),
+            (b'a"\n', b'a"\n', []),
+            (b"\n\n", b"\r\n\r\n", [(2, 0), (2, 1)]),
+        ):
+            self.assertEqual(mend.mended(file), out, file)
+            self.assertEqual(mend.changes(file), changed, file)
+
+    def test_every_file(self):
+        """The changes are the faults, in rising places; undone, they give the old file back; a second mark alone is left."""
+        for file in mend_cases.every_file():
+            out, changed = mend.mended(file), mend.changes(file)
+            marks = [(1, 0)] if file[:3] == b"\xef\xbb\xbf" else []
+            self.assertEqual(changed, marks + [(2, place) for place in bare_places(file)], file)
+            self.assertEqual([place for _, place in changed], sorted({place for _, place in changed}), file)
+            self.assertEqual(mend.undone(changed, out), file, file)
+            self.assertEqual(changed == [], out == file, file)
+            again = [(1, 0)] if file[:6] == b"\xef\xbb\xbf\xef\xbb\xbf" else []
+            self.assertEqual(mend.changes(out), again, file)
+
+    def test_damaged_farms(self):
+        """A farm file with a mark in front and no CRs at its records' ends comes back, and an accepted one stays."""
+        dice = Dice(8)
+        for _ in range(FARMS):
+            lines = farm_lines(dice, 2)
+            file = written(dice, lines)
+            self.assertEqual(mend.mended(file), file)
+            self.assertEqual(mend.changes(file), [])
+            bare = b"\xef\xbb\xbf" + file.replace(b"\r\n", b"\n")
+            self.assertEqual(mend.mended(bare), file)
+            self.assertNotEqual(refusal(bare), None)
 
 
 @unittest.skipUnless(DOCUMENT in os.environ, f"{DOCUMENT} does not name the text of 001")

@@ -5,11 +5,13 @@
     vectors.py --check                  make them in memory and compare with the stored ones
     vectors.py --which OFFSET           show the farm file that a byte of the outputs belongs to
     vectors.py --which OFFSET --logs    the same of the gate's logs
+    vectors.py --which OFFSET --mended  the same of the files that were mended
 
-The packs are the input and the expected output of two programs: `test_vectors`, farm
-files and for each what every command prints, and `test_gate`, logs of a pasture gate
-and their answers. In a program's folder `stdin` holds each file's length as 4 bytes,
-little-endian, and its bytes; `stdout` holds the outputs one after the other.
+The packs are the input and the expected output of three programs: `test_vectors`, farm
+files and for each what every command prints, `test_gate`, logs of a pasture gate and
+their answers, and `test_mend`, files and what mending makes of them. In a program's
+folder `stdin` holds each file's length as 4 bytes, little-endian, and its bytes;
+`stdout` holds the outputs one after the other.
 """
 
 import argparse
@@ -20,6 +22,8 @@ from pathlib import Path
 import cases
 import gate_cases
 import gatelog
+import mend
+import mend_cases
 from urvendlo import COMMANDS, answer
 
 CRATES = Path(__file__).resolve().parent.parent / "crates"
@@ -33,7 +37,7 @@ def output(file):
 
 
 class Pack:
-    """What a test program is run on: files, what it prints for each, and the answer that tells a refusal."""
+    """What a test program is run on: files, what it prints for each, and the answer that tells a refusal, if any does."""
 
     def __init__(self, program, every_file, output, answer):
         self.files = CRATES / program / "stdin"
@@ -43,6 +47,7 @@ class Pack:
 
 FARMS = Pack("test_vectors", cases.every_file, output, answer)
 LOGS = Pack("test_gate", gate_cases.every_log, gatelog.answer, gatelog.answer)
+MENDED = Pack("test_mend", mend_cases.every_file, mend.counted, None)
 FILES = FARMS.files
 
 
@@ -73,10 +78,23 @@ def check(pack):
         if path.read_bytes() != made:
             print(f"{pack.program}/{path.name}: the stored pack differs from the one made now")
             same = False
+    if pack.answer is None:
+        tell_changes(pack, files)
+    else:
+        tell_refusals(pack, files)
+    return same
+
+
+def tell_refusals(pack, files):
     counts = Counter(refusal_number(pack.answer(file)) for file in files)
     print(f"{pack.program}: {len(files)} files, {counts.pop(None)} accepted; refused, by number:")
     print(", ".join(f"{number}: {counts[number]}" for number in sorted(counts)))
-    return same
+
+
+def tell_changes(pack, files):
+    counts = Counter(kind for file in files for kind, _ in mend.changes(file))
+    marks, crs = counts[mend.MARK_DROPPED], counts[mend.CR_PUT]
+    print(f"{pack.program}: {len(files)} files; {marks} marks dropped, {crs} CRs put in")
 
 
 def refusal_number(output):
@@ -105,16 +123,18 @@ def main():
     choice.add_argument("--write", action="store_true", help="make the packs anew")
     choice.add_argument("--check", action="store_true", help="compare with the stored packs")
     choice.add_argument("--which", type=int, metavar="OFFSET", help="show one file and its output")
-    parser.add_argument("--logs", action="store_true", help="of the gate's logs")
+    of = parser.add_mutually_exclusive_group()
+    of.add_argument("--logs", action="store_const", dest="pack", const=LOGS, default=FARMS, help="of the gate's logs")
+    of.add_argument("--mended", action="store_const", dest="pack", const=MENDED, help="of the files that were mended")
     chosen = parser.parse_args()
     if chosen.write:
-        write(FARMS)
-        write(LOGS)
+        for pack in (FARMS, LOGS, MENDED):
+            write(pack)
         return 0
     if chosen.check:
-        same = [check(FARMS), check(LOGS)]
+        same = [check(pack) for pack in (FARMS, LOGS, MENDED)]
         return 0 if all(same) else 1
-    return 0 if show(LOGS if chosen.logs else FARMS, chosen.which) else 1
+    return 0 if show(chosen.pack, chosen.which) else 1
 
 
 if __name__ == "__main__":

@@ -7,7 +7,10 @@ use streams::Outcome;
 fn main() {
     let mut file = [0u8; input::INPUT_MOST];
     match input::read_file(&mut file) {
-        Outcome::Whole(n) => ending::report(printing::print_figures(base::part_of(&file, 0, n))),
+        Outcome::Whole(n) => {
+            let s = base::part_of(&file, 0, n);
+            ending::report(s, printing::print_figures(s));
+        }
         Outcome::Broken => ending::report_unread(),
     }
 }

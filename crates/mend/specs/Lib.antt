@@ -1,0 +1,4 @@
+pub mod Faults
+pub mod Mended
+pub mod Passed
+pub mod Answer

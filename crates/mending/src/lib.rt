@@ -1,0 +1,1 @@
+// Theorems only: what is promised of crate `mend`, for every file.
