@@ -13,7 +13,8 @@ use Rattle.cut.proofs.Shares.{cut-mono, part-le, part-mono}
 use Rattle.amounts.specs.Units.{billionths}
 use Rattle.amounts.specs.Arithmetic.{cutting}
 use Rattle.amounts.specs.Portion.{portion}
-use Rattle.amounts.specs.Bounds.{Fit, PortionOf, Modest}
+use Rattle.amounts.specs.declared.Parts.{Parts}
+use Rattle.amounts.specs.Bounds.{Fit, PortionOf, PortionsOf, Modest, UpTo}
 
 -- ---- the code's step
 
@@ -25,6 +26,17 @@ module _ (amount shares of : ℕ) (fit : Fit amount shares of) where
   is-portion q e = record { cut = e; is = rw e refl; most = rw e (part-le amount shares of (fit .within)) }
 
 pub ruleset portion-steps = (product-fits, is-portion)
+
+-- ---- of shares that the code has found
+
+module _ (shares of found m : ℕ) (u : UpTo m shares found) where
+  pub portion-by : (amount : ℕ) (q : Quotient) → PortionOf amount found of q → PortionOf amount shares of q
+  portion-by amount q p = rw (← u .is) p
+
+  pub portions-by : (n tan : ℕ) (r : Parts) → PortionsOf n tan found of r → PortionsOf n tan shares of r
+  portions-by n tan r p = rw (← u .is) p
+
+pub ruleset shares-found = (portion-by, portions-by)
 
 -- ---- the same portion of the N and of the TAN in it
 

@@ -1,7 +1,7 @@
 -- The formulas of the model are written once, over an arithmetic that says what an amount is and what dividing one
--- does. Two are used: `cutting`, on whole grams with every division rounded down, which the code computes; and `exact`
--- of crate `nearness`, on fractions with nothing cut off, which says what the exact value of a figure is (01, Steps and
--- cuts; demand 3).
+-- does. Three are used: `cutting`, on whole grams with every division rounded down, which the code computes; `exact` of
+-- crate `nearness`, on fractions with nothing cut off, which says what the exact value of a figure is (01, Steps and
+-- cuts; demand 3); and `dividing`, beside this page, which tells what was divided by what (02, W7).
 use Prim.Native.Nat.{ℕ, _+_, _-_, _*_}
 use lib.IntN.{ℤ, pos, _-ℤ_}
 use Rattle.cut.specs.Cut.{_cutBy_, least}

@@ -1,4 +1,5 @@
 pub mod Units
 pub mod Arithmetic
+pub mod Dividing
 pub mod Portion
 pub mod Bounds

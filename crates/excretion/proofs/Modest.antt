@@ -11,7 +11,7 @@ use Rattle.cut.proofs.Shares.{part-le}
 use Rattle.tables.proofs.Standards.{standard-most}
 use Rattle.amounts.specs.Units.{tenThousandths}
 use Rattle.amounts.specs.Arithmetic.{cutting}
-use Rattle.amounts.specs.Bounds.{mostN, Modest, Fit, PortionOf}
+use Rattle.amounts.specs.Bounds.{mostN, Modest, PortionOf, UpTo}
 use Rattle.kinds.specs.declared.Entered.{Entered}
 use Rattle.kinds.specs.declared.Roughage.{Roughage}
 use Rattle.kinds.specs.Sound.{mostAnimals, mostGrams, EnteredTo, standard, number, SoundRoughage}
@@ -38,30 +38,33 @@ module _ (r : Roughage) (s : SoundRoughage r) where
 
 -- ---- N and TAN
 
-module _ (animals grams fraction : ℕ) (ha : animals ≤ mostAnimals) (hg : grams ≤ mostGrams)
-    (hf : fraction ≤ tenThousandths) where
+module _ (animals grams : ℕ) (ha : animals ≤ mostAnimals) (hg : grams ≤ mostGrams) where
   n-le : animals * grams ≤ mostN
   n-le = mul-to mostAnimals mostGrams tt ha hg
 
+  -- the code's steps
+  pub n-within : UpTo mostN (animals * grams) (animals * grams)
+  n-within = record { is = refl; most = n-le }
+
+  pub n-fits : Fits w64 (animals * grams)
+  n-fits = omega (arith, n-le)
+
+pub ruleset n-steps = (n-within, n-fits)
+
+module _ (animals grams fraction : ℕ) (ha : animals ≤ mostAnimals) (hg : grams ≤ mostGrams)
+    (hf : fraction ≤ tenThousandths) where
   pub excreted-modest : let e = excreted cutting animals grams fraction in
       Modest (e .«n_excretion») (e .«tan_excretion»)
-  excreted-modest = record { n-most = n-le; tan-most = part-le (animals * grams) fraction tenThousandths hf }
+  excreted-modest =
+      record { n-most = n-le animals grams ha hg; tan-most = part-le (animals * grams) fraction tenThousandths hf }
 
   -- so is what the code's struct holds
   pub excretion-modest : (e : Excretion) → ofExcretion e ≡ excreted cutting animals grams fraction
       → Modest (e .«n_excretion») (e .«tan_excretion»)
   excretion-modest e is = rw (ap (λ x. x .«n_excretion») is, ap (λ x. x .«tan_excretion») is) excreted-modest
 
-  -- the code's steps
-  pub n-fits : Fits w64 (animals * grams)
-  n-fits = omega (arith, n-le)
-
-  pub fraction-fit : Fit (animals * grams) fraction tenThousandths
-  fraction-fit = record { amount-most = omega (arith, n-le); of-most = omega arith; above = omega arith; within = hf }
-
-  pub is-excretion : (tan : Quotient) → PortionOf (animals * grams) fraction tenThousandths tan
-      → _≡_ {A = ExcretionIn cutting} (record { «n_excretion» = animals * grams; «tan_excretion» = tan .whole })
-      (excreted cutting animals grams fraction)
-  is-excretion tan p = rw (p .is) refl
-
-pub ruleset excretion-steps = (n-fits, fraction-fit, is-excretion)
+pub is-excretion : (animals grams fraction n : ℕ) (tan : Quotient) → UpTo mostN (animals * grams) n
+    → PortionOf n fraction tenThousandths tan
+    → _≡_ {A = ExcretionIn cutting} (record { «n_excretion» = n; «tan_excretion» = tan .whole })
+    (excreted cutting animals grams fraction)
+is-excretion animals grams fraction n tan e p = rw (p .is, e .is) refl

@@ -36,13 +36,13 @@ pub record ExcretionIn (A : Arithmetic) : Type 0 where
 module _ (A : Arithmetic) where
   open Arithmetic A using (whole)
 
-  -- 2.22, 2.50, 2.84, n_excretion and tan_excretion: head by grams a head, and the fraction of it
+  -- 2.22, 2.50, 2.84, tan_excretion: the fraction of the N
+  abbrev pub withTan : ℕ → ℕ → ExcretionIn A
+  withTan n fraction = record { «n_excretion» = whole n; «tan_excretion» = portion A (whole n) fraction tenThousandths }
+
+  -- 2.22, 2.50, 2.84, n_excretion: head by grams a head
   abbrev pub excreted : ℕ → ℕ → ℕ → ExcretionIn A
-  excreted animals grams fraction =
-      record {
-        «n_excretion» = whole (animals * grams);
-        «tan_excretion» = portion A (whole (animals * grams)) fraction tenThousandths;
-      }
+  excreted animals grams fraction = withTan (animals * grams) fraction
 
 -- the code's struct, on whole grams
 abbrev pub ofExcretion : Excretion → ExcretionIn cutting

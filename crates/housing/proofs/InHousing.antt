@@ -1,23 +1,29 @@
 -- The housing of roughage-consuming animals: c_grazing is a mean of 1 and k, so it is at most k at 24 hours; the factor
 -- is at most 1, and nothing is lost on the way. Assumes nothing.
 use mathlib.Core.Path.{_≡_, refl, ap, _∙_}
+use mathlib.Core.Bool.{Bool, true, false}
 use Prim.Native.Nat.{ℕ, _+_, _-_, _*_, _/_, _≤_, _<_}
 use native.Mathlib.Nat.{mul-le-mul-left, div-le-of-le-mul}
 use native.Mathlib.Omega.{arith}
 use borrow.Author.Tests.{lt-ltb, le-ltb}
+use Rattle.base.specs.Pick.{pick}
+use lib.Dec.{ltb}
 use mir.Syntax.{w64}
 use mir.Val.{Fits}
 use Rattle.cut.specs.declared.Quotient.{Quotient}
-use Rattle.cut.specs.Cut.{_cutBy_}
+use Rattle.cut.specs.Cut.{quotientOf, undivided}
 use Rattle.cut.proofs.Products.{mul-fits, mul-to}
 use Rattle.cut.proofs.Shares.{part-le, least-most}
 use Rattle.tables.specs.Growth.{kOf, mostK}
 use Rattle.tables.proofs.Growth.{k-most}
 use Rattle.amounts.specs.Units.{percent, thousandths, billionths, year, day}
 use Rattle.amounts.specs.Arithmetic.{cutting}
+use Rattle.amounts.specs.Dividing.{Divided, worth, dividing}
 use Rattle.amounts.specs.Bounds.{Modest, PortionOf, UpTo}
 use Rattle.kinds.specs.declared.Roughage.{Roughage}
-use Rattle.housing.specs.Housing.{«er_housing», «c_grazing», uncapped, «ef_nh3_nhousing», nh3InHousing, throughHousing, inHousing}
+use Rattle.housing.specs.declared.Factors.{Factors}
+use Rattle.housing.specs.Housing.{«er_housing», «c_grazing», uncapped, factors, noFactors, handedFactors, «ef_nh3_nhousing», nh3InHousing, throughHousing, inHousing}
+use Rattle.housing.specs.Bounds.{Grown}
 
 -- ---- 2.87, c_grazing
 
@@ -42,9 +48,9 @@ module _ (days hours : ℕ) (hd : days ≤ year) (hh : hours ≤ day) where
   pub sum-fits : (t k : ℕ) → k ≡ kOf t → Fits w64 ((year - days) * day * billionths + days * (day - hours) * k)
   sum-fits t k e = omega (arith, mul-to (year * day) mostK {C = year * day * mostK} tt grazing-le (k-le t k e))
 
-  pub is-mean : (k q : ℕ) → k ≡ kOf hours
-      → q ≡ ((year - days) * day * billionths + days * (day - hours) * k) cutBy (year * day - hours * days)
-      → days * hours < year * day → UpTo mostK («c_grazing» cutting days hours) q
+  pub is-mean : (k : ℕ) (q : Quotient) → k ≡ kOf hours
+      → q ≡ quotientOf ((year - days) * day * billionths + days * (day - hours) * k) (year * day - hours * days)
+      → days * hours < year * day → Grown days hours q
   is-mean k q ek e h =
       record {
         is = rw (lt-ltb (days * hours) (year * day) h, ← ek) e;
@@ -54,28 +60,55 @@ module _ (days hours : ℕ) (hd : days ≤ year) (hh : hours ≤ day) where
             (k-le hours k ek));
       }
 
-pub is-one : (days hours : ℕ) → year * day ≤ days * hours → UpTo mostK («c_grazing» cutting days hours) billionths
-is-one days hours h = record { is = rw (le-ltb (days * hours) (year * day) h) refl; most = omega arith }
+pub is-one : (days hours : ℕ) (q : Quotient) → q ≡ undivided billionths → year * day ≤ days * hours → Grown days hours q
+is-one days hours q e h = record { is = rw (e, le-ltb (days * hours) (year * day) h) refl; most = rw e (omega arith) }
 
 pub ruleset growth-steps = (grown-fits, sum-fits, is-mean, is-one)
 
+-- on whole numbers it is the same number
+pub grown-whole : (days hours : ℕ) → worth («c_grazing» dividing days hours) ≡ «c_grazing» cutting days hours
+grown-whole days hours = go (ltb (days * hours) (year * day)) _ _
+  where
+    go : (t : Bool) (a b : Divided) → worth (pick t a b) ≡ pick t (worth a) (worth b)
+    go true a b = refl
+    go false a b = refl
+
 -- ---- 2.85, ef_nh3_nhousing
 
-module _ (r : Roughage) (c : ℕ) (rate factor : Quotient)
-    (g : UpTo mostK («c_grazing» cutting (r .«grazing_days») (r .«grazing_hours»)) c)
-    (p : PortionOf c «er_housing» thousandths rate)
-    (q : PortionOf (rate .whole) (percent - r .«free_correction_factor») percent factor) where
-  before-ceiling : factor .whole ≡ uncapped cutting r
-  before-ceiling = q .is ∙ rw (p .is, g .is) refl
+uncapped-whole : (r : Roughage) → worth (uncapped dividing r) ≡ uncapped cutting r
+uncapped-whole r = rw (grown-whole (r .«grazing_days») (r .«grazing_hours»)) refl
 
-  pub under-ceiling : factor .whole ≤ billionths → UpTo billionths («ef_nh3_nhousing» cutting r) (factor .whole)
-  under-ceiling h =
-      record { is = before-ceiling ∙ rw (← before-ceiling, le-ltb billionths (factor .whole) h) refl; most = h }
+module _ (r : Roughage) where
+  pub are-factors : (c rate factor : Quotient) → Grown (r .«grazing_days») (r .«grazing_hours») c
+      → PortionOf (c .whole) «er_housing» thousandths rate
+      → PortionOf (rate .whole) (percent - r .«free_correction_factor») percent factor
+      → _≡_ {A = Factors}
+      (record { «c_grazing» = c; «times_er_housing» = rate; «times_c_free_factor_housing» = factor })
+      (handedFactors (factors dividing r))
+  are-factors c rate factor g p q = rw (q .cut, p .cut, g .is) refl
 
-  pub at-ceiling : billionths < factor .whole → UpTo billionths («ef_nh3_nhousing» cutting r) billionths
-  at-ceiling h = record { is = rw (← before-ceiling, lt-ltb billionths (factor .whole) h) refl; most = omega arith }
+  module _ (f : Factors) (e : f ≡ handedFactors (factors dividing r)) where
+    before-ceiling : f .«times_c_free_factor_housing» .whole ≡ uncapped cutting r
+    before-ceiling = ap (λ x. x .«times_c_free_factor_housing» .whole) e ∙ uncapped-whole r
+
+    pub under-ceiling : f .«times_c_free_factor_housing» .whole ≤ billionths
+        → UpTo billionths («ef_nh3_nhousing» cutting r) (f .«times_c_free_factor_housing» .whole)
+    under-ceiling h =
+        let factor = f .«times_c_free_factor_housing» .whole in
+        record { is = before-ceiling ∙ rw (← before-ceiling, le-ltb billionths factor h) refl; most = h }
+
+    pub at-ceiling : billionths < f .«times_c_free_factor_housing» .whole
+        → UpTo billionths («ef_nh3_nhousing» cutting r) billionths
+    at-ceiling h =
+        let factor = f .«times_c_free_factor_housing» .whole in
+        record { is = rw (← before-ceiling, lt-ltb billionths factor h) refl; most = omega arith }
 
 pub ruleset factor-steps = (under-ceiling, at-ceiling)
+
+pub are-none : (q : Quotient) → q ≡ undivided 0
+    → _≡_ {A = Factors} (record { «c_grazing» = q; «times_er_housing» = q; «times_c_free_factor_housing» = q })
+    (handedFactors (noFactors dividing))
+are-none q e = rw e refl
 
 pub factor-le : (r : Roughage) → «ef_nh3_nhousing» cutting r ≤ billionths
 factor-le r = least-most (uncapped cutting r) billionths
@@ -95,7 +128,6 @@ module _ (r : Roughage) (n tan : ℕ) where
   housing-keeps-tan = omega (arith, nh3-in-housing-le r tan)
 
   -- the code's step
-  pub is-housing : (factor : ℕ) (nh3 : Quotient) → UpTo billionths («ef_nh3_nhousing» cutting r) factor
-      → PortionOf tan factor billionths nh3
+  pub is-housing : (nh3 : Quotient) → PortionOf tan («ef_nh3_nhousing» cutting r) billionths nh3
       → throughHousing cutting n tan (nh3 .whole) ≡ inHousing cutting r n tan
-  is-housing factor nh3 f p = rw (p .is, f .is) refl
+  is-housing nh3 p = rw (p .is) refl

@@ -4,8 +4,10 @@ use lib.Dec.{ltb}
 use Rattle.base.specs.Pick.{pick}
 use Rattle.amounts.specs.Units.{percent, thousandths, billionths, year, day}
 use Rattle.amounts.specs.Arithmetic.{Arithmetic, cutting}
+use Rattle.amounts.specs.Dividing.{dividing, handed}
 use Rattle.amounts.specs.Portion.{portion}
 use Rattle.kinds.specs.declared.Roughage.{Roughage}
+use Rattle.housing.specs.declared.Factors.{Factors}
 use Rattle.housing.specs.declared.Housing.{Housing}
 
 -- 2.85, er_housing, 0.275, in thousandths
@@ -22,6 +24,12 @@ pub record HousingIn (A : Arithmetic) : Type 0 where
   pub «nh3_nhousing» : A .Amount
   pub «n_outhousing» : A .Amount
   pub «tan_outhousing» : A .Amount
+
+-- what ef_nh3_nhousing is made of: c_grazing, multiplied by er_housing, and then by c_free_factor_housing
+pub record FactorsIn (A : Arithmetic) : Type 0 where
+  pub «c_grazing» : A .Amount
+  pub «times_er_housing» : A .Amount
+  pub «times_c_free_factor_housing» : A .Amount
 
 module _ (A : Arithmetic) where
   open Arithmetic A using (Amount, whole, _⊕_, _⊖_, _⊗_, _over_, _atMost_, k)
@@ -40,14 +48,28 @@ module _ (A : Arithmetic) where
       (whole billionths)
 
   -- 2.85, ef_nh3_nhousing, in billionths: er_housing, then the free factor
+  abbrev pub withRate : Roughage → Amount
+  withRate r = portion A («c_grazing» (r .«grazing_days») (r .«grazing_hours»)) «er_housing» thousandths
+
   abbrev pub uncapped : Roughage → Amount
-  uncapped r =
-      portion A (portion A («c_grazing» (r .«grazing_days») (r .«grazing_hours»)) «er_housing» thousandths)
-      («c_free_factor_housing» (r .«free_correction_factor»)) percent
+  uncapped r = portion A (withRate r) («c_free_factor_housing» (r .«free_correction_factor»)) percent
 
   -- and then the ceiling of 1
   abbrev pub «ef_nh3_nhousing» : Roughage → Amount
   «ef_nh3_nhousing» r = uncapped r atMost billionths
+
+  -- 2.87 and 2.85: the factors on the way, each as it is cut
+  abbrev pub factors : Roughage → FactorsIn A
+  factors r =
+      record {
+        «c_grazing» = «c_grazing» (r .«grazing_days») (r .«grazing_hours»);
+        «times_er_housing» = withRate r;
+        «times_c_free_factor_housing» = uncapped r;
+      }
+
+  -- a kind whose housing 01 leaves out
+  abbrev pub noFactors : FactorsIn A
+  noFactors = record { «c_grazing» = whole 0; «times_er_housing» = whole 0; «times_c_free_factor_housing» = whole 0 }
 
   -- 2.85, nh3_nhousing
   abbrev pub nh3InHousing : Roughage → Amount → Amount
@@ -79,7 +101,18 @@ module _ (A : Arithmetic) where
         «tan_outhousing» = whole 0;
       }
 
--- the code's struct, on whole grams
+-- ---- the code's structs
+
+-- the factors as they are handed on, each with what was cut off
+abbrev pub handedFactors : FactorsIn dividing → Factors
+handedFactors f =
+    record {
+      «c_grazing» = handed (f .«c_grazing»);
+      «times_er_housing» = handed (f .«times_er_housing»);
+      «times_c_free_factor_housing» = handed (f .«times_c_free_factor_housing»);
+    }
+
+-- on whole grams
 abbrev pub ofHousing : Housing → HousingIn cutting
 ofHousing h =
     record {

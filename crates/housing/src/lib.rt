@@ -6,15 +6,24 @@ use amounts::PERCENT;
 use amounts::THOUSANDTHS;
 use amounts::YEAR;
 use amounts::YEAR_OF_HOURS;
+use cut::Quotient;
 use kinds::Roughage;
 ghost use mathlib.Core.Path.{_≡_};
-ghost use Prim.Native.Nat.{_≤_};
-ghost use Rattle.tables.specs.Growth.{mostK};
+ghost use Prim.Native.Nat.{_≤_, _<_, _^_};
 ghost use Rattle.amounts.specs.Units.{billionths, year, day};
 ghost use Rattle.amounts.specs.Arithmetic.{cutting};
-ghost use Rattle.amounts.specs.Bounds.{Modest, UpTo};
+ghost use Rattle.amounts.specs.Dividing.{dividing};
+ghost use Rattle.amounts.specs.Bounds.{Modest, PortionOf, UpTo};
 ghost use Rattle.kinds.specs.Sound.{SoundRoughage};
-ghost use Rattle.housing.specs.Housing.{«c_grazing», «ef_nh3_nhousing», inHousing, throughDoor, ofHousing};
+ghost use Rattle.housing.specs.Housing.{«ef_nh3_nhousing», factors, noFactors, handedFactors, inHousing, throughDoor, ofHousing};
+ghost use Rattle.housing.specs.Bounds.{Grown};
+
+// What the emission factor is made of: c_grazing, multiplied by er_housing, and then by c_free_factor_housing.
+pub struct Factors {
+    pub c_grazing: Quotient,
+    pub times_er_housing: Quotient,
+    pub times_c_free_factor_housing: Quotient,
+}
 
 pub struct Housing {
     pub n_into_housing: u64,
@@ -28,30 +37,64 @@ pub struct Housing {
 const ER_HOUSING: u64 = 275;
 
 // How much more of the TAN is emitted for the hours on pasture.
-fn c_grazing(days: u64, hours: u64) -> u64
+fn c_grazing(days: u64, hours: u64) -> Quotient
     requires { ⌜ (days ≤ year) × (hours ≤ day) ⌝ }
-    ensures { λ r. ⌜ UpTo mostK («c_grazing» cutting days hours) r ⌝ }
+    ensures { λ q. ⌜ Grown days hours q ⌝ }
 {
     if days * hours < YEAR_OF_HOURS {
         let other_days = (YEAR - days) * DAY * BILLIONTHS;
         let grazing_days = days * (DAY - hours) * tables::k(hours);
-        return cut::cut(other_days + grazing_days, YEAR_OF_HOURS - hours * days).whole;
+        return cut::cut(other_days + grazing_days, YEAR_OF_HOURS - hours * days);
     }
-    BILLIONTHS
+    cut::undivided(BILLIONTHS)
 }
 
-// The part of the TAN that the housing emits: the rate, then the free factor, then the ceiling of 1.
+// The rate, then the free factor.
+pub fn factors_of(r: Roughage) -> Factors
+    requires { ⌜ SoundRoughage r ⌝ }
+    ensures { λ f. ⌜ f ≡ handedFactors (factors dividing r) ⌝ }
+{
+    let c = c_grazing(r.grazing_days, r.grazing_hours);
+    let rate = amounts::portion(c.whole, ER_HOUSING, THOUSANDTHS);
+    let factor = amounts::portion(rate.whole, PERCENT - r.free_correction_factor, PERCENT);
+    Factors {
+        c_grazing: c,
+        times_er_housing: rate,
+        times_c_free_factor_housing: factor,
+    }
+}
+
+// A kind without them.
+pub fn no_factors() -> Factors
+    ensures { λ f. ⌜ f ≡ handedFactors (noFactors dividing) ⌝ }
+{
+    let none = cut::undivided(0);
+    Factors {
+        c_grazing: none,
+        times_er_housing: none,
+        times_c_free_factor_housing: none,
+    }
+}
+
+// The part of the TAN that the housing emits: the factors, then the ceiling of 1.
 fn ef_nh3_nhousing(r: Roughage) -> u64
     requires { ⌜ SoundRoughage r ⌝ }
     ensures { λ f. ⌜ UpTo billionths («ef_nh3_nhousing» cutting r) f ⌝ }
 {
-    let c = c_grazing(r.grazing_days, r.grazing_hours);
-    let rate = amounts::portion(c, ER_HOUSING, THOUSANDTHS).whole;
-    let factor = amounts::portion(rate, PERCENT - r.free_correction_factor, PERCENT).whole;
+    let f = factors_of(r);
+    let factor = f.times_c_free_factor_housing.whole;
     if BILLIONTHS < factor {
         return BILLIONTHS;
     }
     factor
+}
+
+// The ammonia from so much TAN in the housing.
+pub fn nh3_in_housing(r: Roughage, tan: u64) -> Quotient
+    requires { ⌜ SoundRoughage r × (tan < 2 ^ 32) ⌝ }
+    ensures { λ q. ⌜ PortionOf tan («ef_nh3_nhousing» cutting r) billionths q ⌝ }
+{
+    amounts::portion(tan, ef_nh3_nhousing(r), BILLIONTHS)
 }
 
 // The housing of a roughage herd into which so much N and TAN goes.
@@ -59,8 +102,7 @@ pub fn in_housing(r: Roughage, n: u64, tan: u64) -> Housing
     requires { ⌜ SoundRoughage r × Modest n tan ⌝ }
     ensures { λ h. ⌜ ofHousing h ≡ inHousing cutting r n tan ⌝ }
 {
-    let factor = ef_nh3_nhousing(r);
-    let nh3 = amounts::portion(tan, factor, BILLIONTHS).whole;
+    let nh3 = nh3_in_housing(r, tan).whole;
     Housing {
         n_into_housing: n,
         tan_into_housing: tan,

@@ -11,7 +11,7 @@ use Rattle.cut.proofs.Shares.{part-le, parts-over-le}
 use Rattle.amounts.specs.declared.Parts.{Parts}
 use Rattle.amounts.specs.Units.{tenths, year, day}
 use Rattle.amounts.specs.Arithmetic.{cutting}
-use Rattle.amounts.specs.Bounds.{Modest, PortionsOf, UpTo}
+use Rattle.amounts.specs.Bounds.{Modest, PortionsOf}
 use Rattle.amounts.proofs.Amounts.{modest-share, modest-rest}
 use Rattle.kinds.specs.declared.Outdoor.{Outdoor}
 use Rattle.kinds.specs.declared.Roughage.{Roughage}
@@ -80,20 +80,24 @@ pigs-into-le housed.DeepLitter n = zero≤
 pub roughage-time-within : (hours days : ℕ) → hours ≤ day → days ≤ year → hours * days ≤ day * year
 roughage-time-within hours days hh hd = mul-to day year tt hh hd
 
+pub into-roughage : (h : Roughage) (n tan : ℕ) (r : Parts)
+    → PortionsOf n tan (h .«grazing_hours» * h .«grazing_days») (day * year) r
+    → PortionsOf n tan (roughageGrazingTime h) (day * year) r
+unfolding roughageGrazingTime
+into-roughage h n tan r p = p
+
 pub pigs-modest : (t : HousingType) (n tan a b : ℕ) → Modest n tan → a ≡ pigsIntoGrazing cutting t n
     → b ≡ pigsIntoGrazing cutting t tan → Modest a b
 pigs-modest t n tan a b m ea eb = rw (ea, eb) (pigs-pasture-modest t n tan m)
 
 module _ (r : Rates) (n tan : ℕ) (into : Parts) (g : Grazing)
     (eg : ofGrazing g ≡ onPasture cutting r (into .n .whole) (into .tan .whole)) where
-  pub is-outdoor-grazing : (o : Outdoor) (time : ℕ) → UpTo (day * (tenths * year)) (outdoorGrazingTime o) time
-      → PortionsOf n tan time (day * (tenths * year)) into → ofGrazing g ≡ outdoorGrazing cutting r o n tan
-  is-outdoor-grazing o time et p = eg ∙ rw (p .of-n .is, p .of-tan .is, et .is) refl
+  pub is-outdoor-grazing : (o : Outdoor) → PortionsOf n tan (outdoorGrazingTime o) (day * (tenths * year)) into
+      → ofGrazing g ≡ outdoorGrazing cutting r o n tan
+  is-outdoor-grazing o p = eg ∙ rw (p .of-n .is, p .of-tan .is) refl
 
   pub is-roughage-grazing : (h : Roughage) → RatesOf roughageRates r
-      → PortionsOf n tan (h .«grazing_hours» * h .«grazing_days») (day * year) into
-      → ofGrazing g ≡ roughageGrazing cutting h n tan
-  unfolding roughageGrazingTime
+      → PortionsOf n tan (roughageGrazingTime h) (day * year) into → ofGrazing g ≡ roughageGrazing cutting h n tan
   is-roughage-grazing h er p = eg ∙ rw (er .is, p .of-n .is, p .of-tan .is) refl
 
 pub is-pigs-grazing : (r : Rates) (t : HousingType) (n tan nInto tanInto : ℕ) (g : Grazing)
@@ -102,6 +106,6 @@ pub is-pigs-grazing : (r : Rates) (t : HousingType) (n tan nInto tanInto : ℕ) 
     → ofGrazing g ≡ pigsGrazing cutting t n tan
 is-pigs-grazing r t n tan nInto tanInto g eg er p q = eg ∙ rw (er .is, p, q) refl
 
-pub ruleset roughage-steps = (roughage-time-within, is-roughage-grazing)
+pub ruleset roughage-steps = (roughage-time-within, into-roughage, is-roughage-grazing)
 
 pub ruleset pigs-steps = (pigs-modest, is-pigs-grazing)

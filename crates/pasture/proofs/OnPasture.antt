@@ -61,20 +61,23 @@ module _ (r : Rates) (n tan : ℕ) where
   pub emitted : (nh3 n2 nO n2o : Quotient) → ModestRates r → Modest n tan
       → PortionOf tan (r .nh3) tenThousandths nh3 → PortionOf n (r .n2) tenThousandths n2
       → PortionOf n (r .no) tenThousandths nO → PortionOf n (r .n2o) tenThousandths n2o
-      → Emitted r n tan (record { nh3 = nh3 .whole; n2 = n2 .whole; no = nO .whole; n2o = n2o .whole })
+      → Emitted r n tan (record { nh3 = nh3; n2 = n2; no = nO; n2o = n2o })
   emitted nh3 n2 nO n2o h m p q s t =
-      record { is = cc (p .is, q .is, s .is, t .is); together = omega (arith, gases-le h m, p .is, q .is, s .is, t .is) }
+      record {
+        is = rw (p .cut, q .cut, s .cut, t .cut) refl;
+        together = omega (arith, gases-le h m, p .is, q .is, s .is, t .is);
+      }
 
   pub remains : (g : Gases) (left : ℤ) → Emitted r n tan g → mag left < 2 ^ 63
-      → left ≡ pos tan -ℤ pos (g .nh3 + g .n2 + g .no + g .n2o)
+      → left ≡ pos tan -ℤ pos (g .nh3 .whole + g .n2 .whole + g .no .whole + g .n2o .whole)
       → _≡_ {A = GrazingIn cutting} (record {
         «n_into_grazing» = n;
         «tan_into_grazing» = tan;
-        «nh3_ngrazing» = g .nh3;
-        «n2_ngrazing» = g .n2;
-        «no_ngrazing» = g .no;
-        «n2o_ngrazing» = g .n2o;
-        «n_remain_grazing» = n - (g .nh3 + g .n2 + g .no + g .n2o);
+        «nh3_ngrazing» = g .nh3 .whole;
+        «n2_ngrazing» = g .n2 .whole;
+        «no_ngrazing» = g .no .whole;
+        «n2o_ngrazing» = g .n2o .whole;
+        «n_remain_grazing» = n - (g .nh3 .whole + g .n2 .whole + g .no .whole + g .n2o .whole);
         «tan_remain_grazing» = toZ w64 (ofZ w64 left);
       })
       (onPasture cutting r n tan)
@@ -82,7 +85,7 @@ module _ (r : Rates) (n tan : ℕ) where
       rw (
         kept left fits,
         el,
-        less-all (pos tan) (g .nh3) (g .n2) (g .no) (g .n2o),
-        rest-all n (g .nh3) (g .n2) (g .no) (g .n2o),
+        less-all (pos tan) (g .nh3 .whole) (g .n2 .whole) (g .no .whole) (g .n2o .whole),
+        rest-all n (g .nh3 .whole) (g .n2 .whole) (g .no .whole) (g .n2o .whole),
         e .is,
       ) refl

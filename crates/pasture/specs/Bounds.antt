@@ -2,7 +2,7 @@
 -- 001 is defined here.
 use mathlib.Core.Path.{_≡_}
 use Prim.Native.Nat.{ℕ, _+_, _≤_}
-use Rattle.amounts.specs.Arithmetic.{cutting}
+use Rattle.amounts.specs.Dividing.{dividing, uncut, handed}
 use Rattle.rates.specs.declared.Rates.{Rates}
 use Rattle.pasture.specs.declared.Gases.{Gases}
 use Rattle.pasture.specs.Pasture.{gas}
@@ -10,12 +10,12 @@ use Rattle.pasture.specs.Pasture.{gas}
 abbrev pub gasesOf : Rates → ℕ → ℕ → Gases
 gasesOf r n tan =
     record {
-      nh3 = gas cutting tan (r .nh3);
-      n2 = gas cutting n (r .n2);
-      no = gas cutting n (r .no);
-      n2o = gas cutting n (r .n2o);
+      nh3 = handed (gas dividing (uncut tan) (r .nh3));
+      n2 = handed (gas dividing (uncut n) (r .n2));
+      no = handed (gas dividing (uncut n) (r .no));
+      n2o = handed (gas dividing (uncut n) (r .n2o));
     }
 
 pub record Emitted (r : Rates) (n tan : ℕ) (g : Gases) : Type 0 where
   pub is : g ≡ gasesOf r n tan
-  pub together : g .nh3 + g .n2 + g .no + g .n2o ≤ n
+  pub together : g .nh3 .whole + g .n2 .whole + g .no .whole + g .n2o .whole ≤ n

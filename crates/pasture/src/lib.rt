@@ -1,10 +1,12 @@
 // 2.35, 2.61 and 2.88: what is excreted on pasture, the gases from it and what remains. The model takes every gas from
 // the TAN too, so what remains of that may be below zero, and is not lifted.
 use amounts::DAY;
+use amounts::Parts;
 use amounts::TEN_THOUSANDTHS;
 use amounts::TENTHS;
 use amounts::YEAR;
 use amounts::YEAR_OF_HOURS;
+use cut::Quotient;
 use kinds::HousingType;
 use kinds::Outdoor;
 use kinds::Roughage;
@@ -13,18 +15,18 @@ ghost use mathlib.Core.Path.{_≡_};
 ghost use Prim.Native.Nat.{_*_};
 ghost use Rattle.amounts.specs.Units.{tenths, year, day};
 ghost use Rattle.amounts.specs.Arithmetic.{cutting};
-ghost use Rattle.amounts.specs.Bounds.{Modest, UpTo};
+ghost use Rattle.amounts.specs.Bounds.{Modest, PortionsOf, UpTo};
 ghost use Rattle.kinds.specs.Sound.{SoundOutdoor, SoundRoughage};
 ghost use Rattle.rates.specs.Bounds.{ModestRates};
-ghost use Rattle.pasture.specs.Pasture.{outdoorGrazingTime, onPasture, pigsIntoGrazing, outdoorGrazing, roughageGrazing, pigsGrazing, ofGrazing};
+ghost use Rattle.pasture.specs.Pasture.{outdoorGrazingTime, roughageGrazingTime, onPasture, pigsIntoGrazing, outdoorGrazing, roughageGrazing, pigsGrazing, ofGrazing};
 ghost use Rattle.pasture.specs.Bounds.{Emitted};
 
 // What a pasture emits.
-struct Gases {
-    nh3: u64,
-    n2: u64,
-    no: u64,
-    n2o: u64,
+pub struct Gases {
+    pub nh3: Quotient,
+    pub n2: Quotient,
+    pub no: Quotient,
+    pub n2o: Quotient,
 }
 
 pub struct Grazing {
@@ -51,15 +53,44 @@ fn outdoor_grazing_time(o: Outdoor) -> u64
     o.grazing_hours * ((o.grazing_days - both) * TENTHS + (TENTHS - shared) * both)
 }
 
+// What a herd with a yard puts on pasture, of so much N and TAN.
+pub fn outdoor_into_grazing(o: Outdoor, n: u64, tan: u64) -> Parts
+    requires { ⌜ SoundOutdoor o × Modest n tan ⌝ }
+    ensures { λ r. ⌜ PortionsOf n tan (outdoorGrazingTime o) (day * (tenths * year)) r ⌝ }
+{
+    amounts::portions(n, tan, outdoor_grazing_time(o), YEAR_OF_SHARED_HOURS)
+}
+
+// What a roughage herd puts on pasture, of so much N and TAN.
+pub fn roughage_into_grazing(h: Roughage, n: u64, tan: u64) -> Parts
+    requires { ⌜ SoundRoughage h × Modest n tan ⌝ }
+    ensures { λ r. ⌜ PortionsOf n tan (roughageGrazingTime h) (day * year) r ⌝ }
+{
+    amounts::portions(n, tan, h.grazing_hours * h.grazing_days, YEAR_OF_HOURS)
+}
+
+// What pigs put on pasture of an amount: outdoors all, else nothing.
+pub fn pigs_into_grazing(housing: HousingType, amount: u64) -> u64
+    ensures { λ r. ⌜ r ≡ pigsIntoGrazing cutting housing amount ⌝ }
+{
+    match housing {
+        HousingType::SlurryConventional => 0,
+        HousingType::SlurryLabel => 0,
+        HousingType::SlurryLabelOpen => 0,
+        HousingType::DeepLitter => 0,
+        HousingType::Outdoor => amount,
+    }
+}
+
 // What a pasture emits onto which so much N and TAN comes.
-fn gases_of(r: Rates, n: u64, tan: u64) -> Gases
+pub fn gases_of(r: Rates, n: u64, tan: u64) -> Gases
     requires { ⌜ ModestRates r × Modest n tan ⌝ }
     ensures { λ g. ⌜ Emitted r n tan g ⌝ }
 {
-    let nh3 = amounts::portion(tan, r.nh3, TEN_THOUSANDTHS).whole;
-    let n2 = amounts::portion(n, r.n2, TEN_THOUSANDTHS).whole;
-    let no = amounts::portion(n, r.no, TEN_THOUSANDTHS).whole;
-    let n2o = amounts::portion(n, r.n2o, TEN_THOUSANDTHS).whole;
+    let nh3 = amounts::portion(tan, r.nh3, TEN_THOUSANDTHS);
+    let n2 = amounts::portion(n, r.n2, TEN_THOUSANDTHS);
+    let no = amounts::portion(n, r.no, TEN_THOUSANDTHS);
+    let n2o = amounts::portion(n, r.n2o, TEN_THOUSANDTHS);
     Gases { nh3, n2, no, n2o }
 }
 
@@ -69,14 +100,14 @@ fn on_pasture(r: Rates, n: u64, tan: u64) -> Grazing
     ensures { λ g. ⌜ ofGrazing g ≡ onPasture cutting r n tan ⌝ }
 {
     let g = gases_of(r, n, tan);
-    let all = g.nh3 + g.n2 + g.no + g.n2o;
+    let all = g.nh3.whole + g.n2.whole + g.no.whole + g.n2o.whole;
     Grazing {
         n_into_grazing: n,
         tan_into_grazing: tan,
-        nh3_ngrazing: g.nh3,
-        n2_ngrazing: g.n2,
-        no_ngrazing: g.no,
-        n2o_ngrazing: g.n2o,
+        nh3_ngrazing: g.nh3.whole,
+        n2_ngrazing: g.n2.whole,
+        no_ngrazing: g.no.whole,
+        n2o_ngrazing: g.n2o.whole,
         n_remain_grazing: n - all,
         tan_remain_grazing: cut::less(tan, all),
     }
@@ -87,7 +118,7 @@ pub fn outdoor_grazing(r: Rates, o: Outdoor, n: u64, tan: u64) -> Grazing
     requires { ⌜ ModestRates r × SoundOutdoor o × Modest n tan ⌝ }
     ensures { λ g. ⌜ ofGrazing g ≡ outdoorGrazing cutting r o n tan ⌝ }
 {
-    let into = amounts::portions(n, tan, outdoor_grazing_time(o), YEAR_OF_SHARED_HOURS);
+    let into = outdoor_into_grazing(o, n, tan);
     on_pasture(r, into.n.whole, into.tan.whole)
 }
 
@@ -96,21 +127,8 @@ pub fn roughage_grazing(h: Roughage, n: u64, tan: u64) -> Grazing
     requires { ⌜ SoundRoughage h × Modest n tan ⌝ }
     ensures { λ g. ⌜ ofGrazing g ≡ roughageGrazing cutting h n tan ⌝ }
 {
-    let into = amounts::portions(n, tan, h.grazing_hours * h.grazing_days, YEAR_OF_HOURS);
+    let into = roughage_into_grazing(h, n, tan);
     on_pasture(rates::roughage_rates(), into.n.whole, into.tan.whole)
-}
-
-// What pigs put on pasture of an amount: outdoors all, else nothing.
-fn pigs_into_grazing(housing: HousingType, amount: u64) -> u64
-    ensures { λ r. ⌜ r ≡ pigsIntoGrazing cutting housing amount ⌝ }
-{
-    match housing {
-        HousingType::SlurryConventional => 0,
-        HousingType::SlurryLabel => 0,
-        HousingType::SlurryLabelOpen => 0,
-        HousingType::DeepLitter => 0,
-        HousingType::Outdoor => amount,
-    }
 }
 
 // The pasture of a pig herd.

@@ -44,9 +44,8 @@ module _ (o : Outdoor) (s : SoundOutdoor o) where
 
 -- ---- the code's step
 
-pub is-yard : (o : Outdoor) (n tan time rate : ℕ) (into : Parts) (nh3 : Quotient)
-    → UpTo (tenths * year) (yardTime o) time → PortionsOf n tan time (tenths * year) into
-    → UpTo (tenThousandths * percent * percent) («ef_nh3_nyard» o) rate
-    → PortionOf (into .tan .whole) rate (tenThousandths * percent * percent) nh3
+pub is-yard : (o : Outdoor) (n tan : ℕ) (into : Parts) (nh3 : Quotient)
+    → PortionsOf n tan (yardTime o) (tenths * year) into
+    → PortionOf (into .tan .whole) («ef_nh3_nyard» o) (tenThousandths * percent * percent) nh3
     → throughYard cutting (into .n .whole) (into .tan .whole) (nh3 .whole) ≡ onYard cutting o n tan
-is-yard o n tan time rate into nh3 et p er g = rw (g .is, p .of-n .is, p .of-tan .is, et .is, er .is) refl
+is-yard o n tan into nh3 p g = rw (g .is, p .of-n .is, p .of-tan .is) refl

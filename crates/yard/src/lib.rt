@@ -5,17 +5,19 @@
 // leaves of the year, or lets the share of the other yard days stand on days with both, gives summer farms a figure
 // that is not theirs.
 use amounts::PERCENT;
+use amounts::Parts;
 use amounts::TEN_THOUSANDTHS;
 use amounts::TENTHS;
 use amounts::YEAR;
+use cut::Quotient;
 use kinds::ExerciseYard;
 use kinds::Floor;
 use kinds::Outdoor;
 ghost use mathlib.Core.Path.{_≡_};
-ghost use Prim.Native.Nat.{_*_};
+ghost use Prim.Native.Nat.{_*_, _<_, _^_};
 ghost use Rattle.amounts.specs.Units.{tenths, percent, tenThousandths, year};
 ghost use Rattle.amounts.specs.Arithmetic.{cutting};
-ghost use Rattle.amounts.specs.Bounds.{Modest, UpTo};
+ghost use Rattle.amounts.specs.Bounds.{Modest, PortionOf, PortionsOf, UpTo};
 ghost use Rattle.kinds.specs.Sound.{SoundOutdoor};
 ghost use Rattle.yard.specs.Yard.{«share_excretion», shareLowered, «share_excretion_with_grazing», «red_floor_properties», «c_floor_properties_exercise_yard», «ef_nh3_nyard», yardTime, onYard, noYard, ofYard};
 ghost use Rattle.yard.specs.Bounds.{Both};
@@ -138,13 +140,29 @@ fn ef_nh3_nyard(o: Outdoor) -> u64
     ER_YARD * c_floor_properties_exercise_yard(floor) * (PERCENT - o.free_correction_factor)
 }
 
+// What comes onto the yard, of so much N and TAN.
+pub fn into_yard(o: Outdoor, n: u64, tan: u64) -> Parts
+    requires { ⌜ SoundOutdoor o × Modest n tan ⌝ }
+    ensures { λ r. ⌜ PortionsOf n tan (yardTime o) (tenths * year) r ⌝ }
+{
+    amounts::portions(n, tan, yard_time(o), YEAR_IN_TENTHS)
+}
+
+// The ammonia from so much TAN on the yard.
+pub fn nh3_on_yard(o: Outdoor, tan: u64) -> Quotient
+    requires { ⌜ SoundOutdoor o × (tan < 2 ^ 32) ⌝ }
+    ensures { λ q. ⌜ PortionOf tan («ef_nh3_nyard» o) (tenThousandths * percent * percent) q ⌝ }
+{
+    amounts::portion(tan, ef_nh3_nyard(o), RATE_FLOOR_FREE)
+}
+
 // The yard of a herd that excretes so much N and TAN.
 pub fn on_yard(o: Outdoor, n: u64, tan: u64) -> Yard
     requires { ⌜ SoundOutdoor o × Modest n tan ⌝ }
     ensures { λ r. ⌜ ofYard r ≡ onYard cutting o n tan ⌝ }
 {
-    let into = amounts::portions(n, tan, yard_time(o), YEAR_IN_TENTHS);
-    let nh3 = amounts::portion(into.tan.whole, ef_nh3_nyard(o), RATE_FLOOR_FREE).whole;
+    let into = into_yard(o, n, tan);
+    let nh3 = nh3_on_yard(o, into.tan.whole).whole;
     Yard {
         n_into_yard: into.n.whole,
         tan_into_yard: into.tan.whole,

@@ -1,17 +1,17 @@
--- `excretion::excreted` meets its contract: the N of the largest herd fits. Assumes nothing.
+-- `excretion::excreted` meets its contract: the N, and the fraction of it. Assumes nothing.
 use borrow.Author.Needs.{needs}
-use Rattle.excretion.proofs.Modest.{excretion-steps}
+use Rattle.excretion.proofs.Modest.{is-excretion}
 use Rattle.excretion.proofs.excreted.Statement.{statement}
 use Rattle.excretion.proofs.excreted.Tie as tie
 
-mul-n : tie.Need-mul-n
-mul-n c = search (needs, excretion-steps)
+n-excretion-requires : tie.Need-n-excretion-requires
+n-excretion-requires c κs = search needs
 
-portion-requires : tie.Need-portion-requires
-portion-requires c κs = search (needs, excretion-steps)
+tan-excretion-requires : tie.Need-tan-excretion-requires
+tan-excretion-requires c κs = search needs
 
 returns : tie.Need-returns
-returns c = search (needs, excretion-steps)
+returns c = search (needs, is-excretion)
 
 pub excreted-spec : {M : Type 1} → statement M
-excreted-spec = tie.close (tie.spec mul-n portion-requires returns)
+excreted-spec = tie.close (tie.spec n-excretion-requires tan-excretion-requires returns)

@@ -46,6 +46,9 @@ cut-requires c κs = search needs
 returns : tie.Need-returns
 returns c = search (needs, growth-steps)
 
+undivided-requires : tie.Need-undivided-requires
+undivided-requires c κs = search needs
+
 returns-2 : tie.Need-returns-2
 returns-2 c = search (needs, growth-steps)
 
@@ -66,4 +69,5 @@ c-grazing-spec =
     sub-cut
     cut-requires
     returns
+    undivided-requires
     returns-2)

@@ -5,11 +5,8 @@ use Rattle.pasture.proofs.Into.{is-outdoor-grazing}
 use Rattle.pasture.proofs.outdoor_grazing.Statement.{statement}
 use Rattle.pasture.proofs.outdoor_grazing.Tie as tie
 
-outdoor-grazing-time-requires : tie.Need-outdoor-grazing-time-requires
-outdoor-grazing-time-requires c κs = search needs
-
-portions-requires : tie.Need-portions-requires
-portions-requires c κs = search needs
+outdoor-into-grazing-requires : tie.Need-outdoor-into-grazing-requires
+outdoor-into-grazing-requires c κs = search needs
 
 on-pasture-requires : tie.Need-on-pasture-requires
 on-pasture-requires c κs = search needs
@@ -18,6 +15,4 @@ returns : tie.Need-returns
 returns c = search (needs, is-outdoor-grazing)
 
 pub outdoor-grazing-spec : {M : Type 1} → statement M
-outdoor-grazing-spec =
-    tie.close
-    (tie.spec outdoor-grazing-time-requires portions-requires on-pasture-requires returns)
+outdoor-grazing-spec = tie.close (tie.spec outdoor-into-grazing-requires on-pasture-requires returns)

@@ -1,18 +1,12 @@
 -- `pasture::roughage_grazing` meets its contract: the same part of the N and of the TAN comes onto the pasture.
 -- Assumes nothing.
-use native.Mathlib.Omega.{arith}
 use borrow.Author.Needs.{needs}
-use Rattle.cut.proofs.Products.{mul-fits}
-use Rattle.amounts.specs.Units.{year, day}
 use Rattle.pasture.proofs.Into.{roughage-steps}
 use Rattle.pasture.proofs.roughage_grazing.Statement.{statement}
 use Rattle.pasture.proofs.roughage_grazing.Tie as tie
 
-mul-portions : tie.Need-mul-portions
-mul-portions c = mul-fits day year tt (omega arith) (omega arith)
-
-portions-requires : tie.Need-portions-requires
-portions-requires c κs = search (needs, roughage-steps)
+roughage-into-grazing-requires : tie.Need-roughage-into-grazing-requires
+roughage-into-grazing-requires c κs = search needs
 
 roughage-rates-requires : tie.Need-roughage-rates-requires
 roughage-rates-requires c κs = search needs
@@ -25,5 +19,4 @@ returns c = search (needs, roughage-steps)
 
 pub roughage-grazing-spec : {M : Type 1} → statement M
 roughage-grazing-spec =
-    tie.close
-    (tie.spec mul-portions portions-requires roughage-rates-requires on-pasture-requires returns)
+    tie.close (tie.spec roughage-into-grazing-requires roughage-rates-requires on-pasture-requires returns)

@@ -5,20 +5,14 @@ use Rattle.yard.proofs.OnYard.{is-yard}
 use Rattle.yard.proofs.on_yard.Statement.{statement}
 use Rattle.yard.proofs.on_yard.Tie as tie
 
-yard-time-requires : tie.Need-yard-time-requires
-yard-time-requires c κs = search needs
+into-yard-requires : tie.Need-into-yard-requires
+into-yard-requires c κs = search needs
 
-portions-requires : tie.Need-portions-requires
-portions-requires c κs = search needs
+nh3-on-yard-requires : tie.Need-nh3-on-yard-requires
+nh3-on-yard-requires c κs = search needs
 
-ef-nh3-nyard-requires : tie.Need-ef-nh3-nyard-requires
-ef-nh3-nyard-requires c κs = search needs
-
-portion-requires : tie.Need-portion-requires
-portion-requires c κs = search needs
-
-sub-t6 : tie.Need-sub-t6
-sub-t6 c = search needs
+sub-t7 : tie.Need-sub-t7
+sub-t7 c = search needs
 
 sub-t8 : tie.Need-sub-t8
 sub-t8 c = search needs
@@ -27,13 +21,4 @@ returns : tie.Need-returns
 returns c = search (needs, is-yard)
 
 pub on-yard-spec : {M : Type 1} → statement M
-on-yard-spec =
-    tie.close
-    (tie.spec
-    yard-time-requires
-    portions-requires
-    ef-nh3-nyard-requires
-    portion-requires
-    sub-t6
-    sub-t8
-    returns)
+on-yard-spec = tie.close (tie.spec into-yard-requires nh3-on-yard-requires sub-t7 sub-t8 returns)
