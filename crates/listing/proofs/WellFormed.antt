@@ -23,9 +23,9 @@ use Rattle.farm.specs.declared.Label.{Label}
 use Rattle.farm.specs.Labels.{byteOk, allOk, text, labelOk}
 use Rattle.outputs.specs.declared.Figures.{Figures}
 use Rattle.outputs.specs.declared.Totals.{Totals}
-use Rattle.outputs.specs.Names.{totalTexts}
+use Rattle.outputs.specs.Names.{sectionOf, totalTexts}
 use Rattle.outputs.specs.Grams.{figure, total}
-use Rattle.listing.specs.HerdLines.{pathOf, linesOf, sectionOf}
+use Rattle.listing.specs.HerdLines.{pathOf, linesOf}
 use Rattle.listing.specs.Listing.{hasComma, labelField, lineOf, each, moduleOf, herdLine, herdLines, herdListing, totalPath, totalLine, totalsListing}
 use Rattle.listing.specs.Records.{fieldsOf, herdRecords, totalRecords}
 use Rattle.listing.proofs.LabelField.{quoted, bare}

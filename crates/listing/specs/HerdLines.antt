@@ -1,10 +1,8 @@
 -- 01, The listing, "Order": the names that a herd of each kind lists, each under the section of its row.
 use Prim.Native.String.{String}
-use mathlib.Core.List.{List, [], _∷_, _++_, map}
-use lib.ListN.{getD}
+use mathlib.Core.List.{List, [], _∷_, _++_}
 use Rattle.inputs.specs.declared.Kind.{Kind}
 use Rattle.inputs.specs.declared.Kind.the-variants.{Roughage, Cattle, Pigs}
-use Rattle.outputs.specs.Names.{Row, rows, number}
 
 -- the module of a kind
 abbrev pub pathOf : Kind → String
@@ -41,7 +39,3 @@ abbrev pub linesOf : Kind → List String
 linesOf Roughage = excretion ++ grazing ++ intoHousing ++ roughageHousing
 linesOf Cattle = excretion ++ yard ++ grazing ++ intoHousing
 linesOf Pigs = excretion ++ grazing ++ intoHousing
-
--- the section that a name stands in
-abbrev pub sectionOf : String → String
-sectionOf n = getD (map (λ (r : Row). r .section) rows) (number n) ""

@@ -14,9 +14,9 @@ use Rattle.farm.specs.declared.Label.{Label}
 use Rattle.farm.specs.Labels.{text}
 use Rattle.outputs.specs.declared.Figures.{Figures}
 use Rattle.outputs.specs.declared.Totals.{Totals}
-use Rattle.outputs.specs.Names.{totalTexts}
+use Rattle.outputs.specs.Names.{sectionOf, totalTexts}
 use Rattle.outputs.specs.Grams.{figure, total}
-use Rattle.listing.specs.HerdLines.{pathOf, linesOf, sectionOf}
+use Rattle.listing.specs.HerdLines.{pathOf, linesOf}
 
 unfoldable pub hasComma : List ℕ → Bool
 hasComma [] = false

@@ -4,6 +4,7 @@
 use Prim.Native.Nat.{ℕ, suc}
 use Prim.Native.String.{String}
 use mathlib.Core.List.{List, [], _∷_, _++_, map}
+use lib.ListN.{getD}
 use lib.Text.{eqt}
 use Rattle.base.specs.Pick.{pick}
 use Rattle.amounts.specs.Arithmetic.{Arithmetic}
@@ -98,6 +99,10 @@ place t (u ∷ us) = pick (eqt t u) 0 (suc (place t us))
 -- a name's number
 abbrev pub number : String → ℕ
 number t = place t texts
+
+-- the section that a name stands in
+abbrev pub sectionOf : String → String
+sectionOf t = getD (map (λ (r : Row). r .section) rows) (number t) ""
 
 -- ---- the totals (2.1): each the sum of its addends, over all herds; in the order of 01, The listing
 

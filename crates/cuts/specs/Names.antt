@@ -1,0 +1,69 @@
+-- 02, W7: the names of the cuts, once: a row a name, in the order of their numbers, which is that of the listing, "a
+-- factor's cuts before the figure that they enter". A cut that gives a figure has the figure's name and section. Where
+-- one output is cut more than once, the name is the output's, a colon and the factor that was just multiplied in. To be
+-- believed: the rows.
+use Prim.Native.Nat.{ℕ}
+use Prim.Native.String.{String}
+use mathlib.Core.List.{List, [], _∷_, map}
+use lib.ListN.{getD}
+use lib.IntN.{pos}
+use Rattle.amounts.specs.Dividing.{Divided, uncut, Left, dividing}
+use Rattle.housing.specs.Housing.{FactorsIn}
+use Rattle.outputs.specs.Sections.{FiguresIn}
+use Rattle.outputs.specs.Names.{figures, number, sectionOf, place}
+
+-- a herd's formulas on the arithmetic that tells of divisions
+pub record Told : Type 0 where
+  pub figures : FiguresIn dividing
+  pub factors : FactorsIn dividing
+
+-- a name: its text, its section, and which division it is the name of
+pub record Row : Type 0 where
+  pub text : String
+  pub section : String
+  pub division : Told → Divided
+
+abbrev pub noFigure : Left
+noFigure = record { left = pos 0; amount = uncut 0 }
+
+-- the division that gives the figure of this name
+abbrev pub givesFigure : String → FiguresIn dividing → Divided
+givesFigure t f = getD (figures dividing f) (number t) noFigure .amount
+
+abbrev figure : String → Row
+figure t = record { text = t; section = sectionOf t; division = λ h. givesFigure t (h .figures) }
+
+-- a factor of the housing
+abbrev factor : String → (FactorsIn dividing → Divided) → Row
+factor t f = record { text = t; section = "Housing"; division = λ h. f (h .factors) }
+
+abbrev pub rows : List Row
+rows =
+    figure "tan_excretion"
+    ∷ figure "n_into_yard"
+    ∷ figure "tan_into_yard"
+    ∷ figure "nh3_nyard"
+    ∷ figure "n_into_grazing"
+    ∷ figure "tan_into_grazing"
+    ∷ figure "nh3_ngrazing"
+    ∷ figure "n2_ngrazing"
+    ∷ figure "no_ngrazing"
+    ∷ figure "n2o_ngrazing"
+    ∷ factor "c_grazing" (λ f. f .«c_grazing»)
+    ∷ factor "ef_nh3_nhousing:er_housing" (λ f. f .«times_er_housing»)
+    ∷ factor "ef_nh3_nhousing:c_free_factor_housing" (λ f. f .«times_c_free_factor_housing»)
+    ∷ figure "nh3_nhousing"
+    ∷ []
+
+-- ---- by number
+
+abbrev pub texts : List String
+texts = map (λ (r : Row). r .text) rows
+
+-- a name's number
+abbrev pub cutNumber : String → ℕ
+cutNumber t = place t texts
+
+-- the division of a name
+abbrev pub divisionOf : String → Told → Divided
+divisionOf t h = getD (map (λ (r : Row). r .division h) rows) (cutNumber t) (uncut 0)
