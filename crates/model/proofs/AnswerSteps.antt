@@ -26,6 +26,9 @@ use Rattle.outputs.specs.declared.Figures.{Figures}
 use Rattle.outputs.specs.declared.Totals.{Totals}
 use Rattle.outputs.specs.Grams.{To, figureMost, plusGrams, zeros, noFigures, summed, totalGrams}
 use Rattle.outputs.proofs.Adding.{plus-to, widen, zeros-to, totals-of-sum}
+use Rattle.cuts.specs.declared.Cuts.{Cuts}
+use Rattle.cuts.specs.Cuts.{noCuts}
+use Rattle.cuts.specs.Herd.{cutsOf}
 use Rattle.herd.specs.Herd.{figuresOf}
 use Rattle.herd.proofs.Bounds.{most, figures-to}
 use Rattle.model.specs.Answers.{Added, herdFigures, herdAnswer, farmAnswer}
@@ -43,15 +46,17 @@ module _ (h : Herd) (k : Checked) (q : k ≡ checkHerd h) where
   pub accepted-sound : (i : Inputs) → k ≡ Accepted → i ≡ typedOf h → Sound i
   accepted-sound i t e = rw e (typed-sound h (sym q ∙ t))
 
-  pub is-herd-answer : (i : Inputs) (f : Figures) (n : Notes) → k ≡ Accepted → i ≡ typedOf h → f ≡ figuresOf i → n ≡ notesOf i
-      → record { checked = Accepted; figures = f; notes = n } ≡ herdAnswer h
+  pub is-herd-answer : (i : Inputs) (f : Figures) (n : Notes) (c : Cuts) → k ≡ Accepted → i ≡ typedOf h
+      → f ≡ figuresOf i → n ≡ notesOf i → c ≡ cutsOf i
+      → record { checked = Accepted; figures = f; notes = n; cuts = c } ≡ herdAnswer h
   unfolding herdAnswer
-  is-herd-answer i f n t e ef en = rw (← q, t, ef, en, e)
+  is-herd-answer i f n c t e ef en ec = rw (← q, t, ef, en, ec, e)
 
-  pub is-herd-refusal : (fault : Fault) (at-record : ℕ) (f : Figures) (n : Notes) → k ≡ Refused fault at-record → f .grams ≡ zeros → n ≡ noNotes
-      → record { checked = Refused fault at-record; figures = f; notes = n } ≡ herdAnswer h
+  pub is-herd-refusal : (fault : Fault) (at-record : ℕ) (f : Figures) (n : Notes) (c : Cuts)
+      → k ≡ Refused fault at-record → f .grams ≡ zeros → n ≡ noNotes → c ≡ noCuts
+      → record { checked = Refused fault at-record; figures = f; notes = n; cuts = c } ≡ herdAnswer h
   unfolding herdAnswer
-  is-herd-refusal fault at-record f n t ef en = rw (← q, t, no-grams f ef, en)
+  is-herd-refusal fault at-record f n c t ef en ec = rw (← q, t, no-grams f ef, en, ec)
 
 pub ruleset herd-answers = (accepted-sound, is-herd-answer, is-herd-refusal)
 

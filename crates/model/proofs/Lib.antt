@@ -4,3 +4,4 @@ pub mod OfKind
 pub mod Kept
 pub mod Truths
 pub mod Behind
+pub mod Cuts

@@ -1,5 +1,5 @@
--- What a record that is handed in gives: the figures, or a refusal and zeros beside it. (01, Refusal numbers: "A public call handed a record
--- in place of a file checks it too".)
+-- What a record that is handed in gives: the figures, notes and cuts, or a refusal and zeros beside it. (01, Refusal
+-- numbers: "A public call handed a record in place of a file checks it too".)
 use mathlib.Core.Path.{_≡_}
 use mathlib.Core.List.{[], map}
 use Rattle.farm.specs.declared.Herd.{Herd}
@@ -12,6 +12,9 @@ use Rattle.typed.specs.Typed.{typedOf}
 use Rattle.outputs.specs.declared.Figures.{Figures}
 use Rattle.outputs.specs.Grams.{noFigures, summed, totalsOf, To, figureMost}
 use Rattle.herd.specs.Herd.{figuresOf}
+use Rattle.cuts.specs.declared.Cuts.{Cuts}
+use Rattle.cuts.specs.Cuts.{noCuts}
+use Rattle.cuts.specs.Herd.{cutsOf}
 use Rattle.model.specs.declared.HerdAnswer.{HerdAnswer}
 use Rattle.model.specs.declared.FarmAnswer.{FarmAnswer}
 
@@ -19,9 +22,15 @@ use Rattle.model.specs.declared.FarmAnswer.{FarmAnswer}
 abbrev pub herdFigures : Herd → Figures
 herdFigures h = figuresOf (typedOf h)
 
+-- its cuts
+abbrev pub herdCuts : Herd → Cuts
+herdCuts h = cutsOf (typedOf h)
+
 abbrev pub answerHerd : Checked → Herd → HerdAnswer
-answerHerd Accepted h = record { checked = Accepted; figures = herdFigures h; notes = notesOf (typedOf h) }
-answerHerd (Refused fault at) h = record { checked = Refused fault at; figures = noFigures; notes = noNotes }
+answerHerd Accepted h =
+    record { checked = Accepted; figures = herdFigures h; notes = notesOf (typedOf h); cuts = herdCuts h }
+answerHerd (Refused fault at) h =
+    record { checked = Refused fault at; figures = noFigures; notes = noNotes; cuts = noCuts }
 
 unfoldable pub herdAnswer : Herd → HerdAnswer
 herdAnswer h = answerHerd (checkHerd h) h

@@ -1,6 +1,8 @@
 // A record's figures, or its refusal. Nothing is asked of the record beforehand.
 use crate::FarmAnswer;
 use crate::HerdAnswer;
+use cuts::herds;
+use cuts::parts;
 use farm::Checked;
 use farm::Farm;
 use farm::Herd;
@@ -21,12 +23,14 @@ pub fn herd_answer(h: Herd) -> HerdAnswer
                 checked: Checked::Accepted,
                 figures: herd::figures(inputs),
                 notes: notes::notes_of(inputs),
+                cuts: herds::cuts_of(inputs),
             }
         }
         Checked::Refused(fault, record) => HerdAnswer {
             checked: Checked::Refused(fault, record),
             figures: sums::no_figures(),
             notes: notes::no_notes(),
+            cuts: parts::no_cuts(),
         },
     }
 }

@@ -10,3 +10,4 @@ pub mod Table
 pub mod Herd
 pub mod Farm
 pub mod Examples
+pub mod CutOff

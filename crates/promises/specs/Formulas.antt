@@ -13,13 +13,20 @@ use Rattle.notes.specs.Notes.{notesOf}
 use Rattle.typed.specs.Typed.{typedOf}
 use Rattle.outputs.specs.Grams.{totalsOf}
 use Rattle.herd.specs.Herd.{figuresOf}
+use Rattle.cuts.specs.Herd.{cutsOf}
 use Rattle.model.specs.declared.HerdAnswer.{HerdAnswer}
 use Rattle.model.specs.declared.FarmAnswer.{FarmAnswer}
 use Rattle.model.specs.Answers.{herdAnswer, farmAnswer}
 
--- a herd: its figures and notes, by the formulas on its inputs
+-- a herd: its figures, notes and cuts, by the formulas on its inputs
 abbrev pub herdGets : Herd → HerdAnswer
-herdGets h = record { checked = Accepted; figures = figuresOf (typedOf h); notes = notesOf (typedOf h) }
+herdGets h =
+    record {
+      checked = Accepted;
+      figures = figuresOf (typedOf h);
+      notes = notesOf (typedOf h);
+      cuts = cutsOf (typedOf h);
+    }
 
 -- a farm of these herds: the totals of their figures
 abbrev pub farmGets : List Herd → FarmAnswer

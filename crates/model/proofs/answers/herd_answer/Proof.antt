@@ -1,4 +1,4 @@
--- The answer is the one that the check picks; an accepted herd's inputs are sound, as its figures and notes ask.
+-- The answer is the one that the check picks; an accepted herd's inputs are sound, as its figures, notes and cuts ask.
 -- Assumes nothing.
 use borrow.Author.Needs.{needs}
 use Rattle.model.proofs.AnswerSteps.{herd-answers}
@@ -20,6 +20,9 @@ figures-requires c κs = search (needs, herd-answers)
 notes-of-requires : tie.Need-notes-of-requires
 notes-of-requires c κs = search (needs, herd-answers)
 
+cuts-of-requires : tie.Need-cuts-of-requires
+cuts-of-requires c κs = search (needs, herd-answers)
+
 enum-known-fault : tie.Need-enum-known-fault
 enum-known-fault c = search needs
 
@@ -28,6 +31,9 @@ no-figures-requires c κs = search needs
 
 no-notes-requires : tie.Need-no-notes-requires
 no-notes-requires c κs = search needs
+
+no-cuts-requires : tie.Need-no-cuts-requires
+no-cuts-requires c κs = search needs
 
 returns : tie.Need-returns
 returns c = search (needs, herd-answers)
@@ -44,8 +50,10 @@ herd-answer-spec =
     typed-of-requires
     figures-requires
     notes-of-requires
+    cuts-of-requires
     enum-known-fault
     no-figures-requires
     no-notes-requires
+    no-cuts-requires
     returns
     returns-2)
