@@ -25,14 +25,15 @@ use Rattle.model.specs.Answers.{herdFigures, farmAnswer}
 use Rattle.listing.specs.declared.Written.{Written}
 use Rattle.listing.specs.Listing.{each, totalsListing}
 use Rattle.listing.specs.Answer.{leaves, answers}
+use Rattle.cut_lines.specs.Lines.{herdCutLines, farmCuts}
 use Rattle.noting.specs.Records.{herdNotes, farmNotes}
 use Rattle.whole.specs.declared.Answer.{Answer}
 use Rattle.whole.specs.Lines.{farmListing, refusalLine}
 use Rattle.whole.specs.Program.{outputOf}
 use Rattle.calls.proofs.RecordSteps.{farm-figured}
-use Rattle.calls.specs.Listings.{Call, Called, listingAt, fileHerdCall, fileTotalsCall, fileCall, Put, PutAnswer}
-use Rattle.calls.specs.Files.{FileCall, of-herd, of-totals, of-all, callOf, At, here, there, herdText, totalsText, wholeText}
-use Rattle.calls.specs.Files.{Lists, the-herd, past-the-last, the-totals, the-whole, ByTheRules, Prints, the-refusal, the-listings, the-notes}
+use Rattle.calls.specs.Listings.{Call, Called, ofHerdAt, fileHerdCall, fileHerdCutsCall, fileTotalsCall, fileCall, Put, PutAnswer}
+use Rattle.calls.specs.Files.{FileCall, of-herd, of-totals, of-all, of-cuts, callOf, At, here, there, herdText, totalsText, wholeText}
+use Rattle.calls.specs.Files.{Lists, the-herd, past-the-last, the-totals, the-whole, the-cuts, no-cuts, ByTheRules, Prints, the-refusal, the-listings, the-notes, all-cuts}
 
 -- ---- the herd at a place
 
@@ -59,8 +60,9 @@ module _ {s : List ℕ} {f : Farm} (k : KeepsRules s f) where
   read-as : readOf s ≡ accepted (farmOf hs)
   read-as = accepts-exactly s f .1 k ∙ ap accepted (k .says .is)
 
-  herd-listed : {i : ℕ} {h : Herd} → At hs i h → listingAt (farmOf hs) i ≡ herdText h
-  herd-listed {i} a = rw (lt-ltb i (length hs) (at-inside a)) (ap herdText (at-is a places noHerd))
+  -- `of` says what is listed of a herd
+  herd-listed : (of : Herd → List ℕ) {i : ℕ} {h : Herd} → At hs i h → ofHerdAt of (farmOf hs) i ≡ of h
+  herd-listed of {i} a = rw (lt-ltb i (length hs) (at-inside a)) (ap of (at-is a places noHerd))
 
   totals-are : totalsListing (farmAnswer (farmOf hs) .totals) ≡ totalsText hs
   totals-are =
@@ -73,15 +75,21 @@ module _ {s : List ℕ} {f : Farm} (k : KeepsRules s f) where
 
   -- what the call's contract says of it
   accepting : {c : FileCall} {l : List ℕ} → Lists hs c l → callOf c s ≡ writes l
-  unfolding fileHerdCall fileTotalsCall fileCall
-  accepting (the-herd a) = rw read-as (ap writes (herd-listed a))
+  unfolding fileHerdCall fileHerdCutsCall fileTotalsCall fileCall
+  accepting (the-herd a) = rw read-as (ap writes (herd-listed herdText a))
   accepting (past-the-last {i = i} b) = rw (read-as, le-ltb i (length hs) b)
   accepting the-totals = rw read-as (ap writes totals-are)
   accepting the-whole = rw read-as (ap writes whole-is)
+  accepting (the-cuts a) = rw read-as (ap writes (herd-listed herdCutLines a))
+  accepting (no-cuts {i = i} b) = rw (read-as, le-ltb i (length hs) b)
 
   notes-are : farmNotes (farmOf hs) ≡ each herdNotes hs
   unfolding farmNotes
   notes-are = rw (herds-of hs)
+
+  cuts-are : farmCuts (farmOf hs) ≡ each herdCutLines hs
+  unfolding farmCuts
+  cuts-are = rw (herds-of hs)
 
   printed-list : (list : Farm → List ℕ) → outputOf list s ≡ list (farmOf hs)
   unfolding outputOf
@@ -94,10 +102,11 @@ module _ {s : List ℕ} {n : ℕ} {fault : Fault} (r : First s n fault) where
   read-not = first-refusal s n fault .1 r
 
   refusing : (c : FileCall) → callOf c s .checked ≡ checks.Refused fault n
-  unfolding fileHerdCall fileTotalsCall fileCall
+  unfolding fileHerdCall fileHerdCutsCall fileTotalsCall fileCall
   refusing (of-herd i) = rw read-not
   refusing of-totals = rw read-not
   refusing of-all = rw read-not
+  refusing (of-cuts i) = rw read-not
 
   printed-refusal : (list : Farm → List ℕ) → outputOf list s ≡ refusalLine fault n
   unfolding outputOf
@@ -132,3 +141,5 @@ file-printed (the-listings k) w =
     (rw (printed-list k farmListing, whole-is k) at (w .printed), w .checked ∙ ap told (read-as k))
 file-printed (the-notes k) w =
     (rw (printed-list k farmNotes, notes-are k) at (w .printed), w .checked ∙ ap told (read-as k))
+file-printed (all-cuts k) w =
+    (rw (printed-list k farmCuts, cuts-are k) at (w .printed), w .checked ∙ ap told (read-as k))

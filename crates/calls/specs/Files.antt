@@ -20,20 +20,23 @@ use Rattle.herd.specs.Herd.{figuresOf}
 use Rattle.listing.specs.declared.Written.{Written}
 use Rattle.listing.specs.declared.Written.the-variants.{Length, Refused}
 use Rattle.listing.specs.Listing.{each, herdListing, totalsListing}
+use Rattle.cut_lines.specs.Lines.{herdCutLines, farmCuts}
 use Rattle.noting.specs.Records.{herdNotes, farmNotes}
 use Rattle.whole.specs.Lines.{farmListing, refusalLine}
-use Rattle.calls.specs.Listings.{Call, fileHerdCall, fileTotalsCall, fileCall}
+use Rattle.calls.specs.Listings.{Call, fileHerdCall, fileHerdCutsCall, fileTotalsCall, fileCall}
 
 -- the calls, each with its contract
 pub data FileCall : Type 0 where
   of-herd : ℕ → FileCall
   of-totals : FileCall
   of-all : FileCall
+  of-cuts : ℕ → FileCall
 
 abbrev pub callOf : FileCall → List ℕ → Call
 callOf (of-herd i) s = fileHerdCall s i
 callOf of-totals s = fileTotalsCall s
 callOf of-all s = fileCall s
+callOf (of-cuts i) s = fileHerdCutsCall s i
 
 -- ---- what each writes, of the herds that a file says
 
@@ -62,6 +65,9 @@ pub data Lists (hs : List Herd) : FileCall → List ℕ → Type 0 where
   past-the-last : {i : ℕ} → length hs ≤ i → Lists hs (of-herd i) []
   the-totals : Lists hs of-totals (totalsText hs)
   the-whole : Lists hs of-all (wholeText hs)
+  -- 02, W7: a herd's cuts, and none past the last
+  the-cuts : {i : ℕ} {h : Herd} → At hs i h → Lists hs (of-cuts i) (herdCutLines h)
+  no-cuts : {i : ℕ} → length hs ≤ i → Lists hs (of-cuts i) []
 
 -- ---- what a call on a file s leaves and says
 
@@ -72,9 +78,10 @@ pub record ByTheRules (s : List ℕ) (c : FileCall) (old new : List ℕ) (r : Wr
   pub too-short : {f : Farm} {l : List ℕ} (k : KeepsRules s f) → Lists (k .says .herds) c l → length old < length l
       → (new ≡ old) × (r ≡ Refused BufferTooShort 0)
 
--- what a command that lists the farm's figures, or its notes, prints for a file, and how reading ended
+-- what a command that lists the farm's figures, its notes or its cuts prints for a file, and how reading ended
 pub data Prints (s : List ℕ) : (Farm → List ℕ) → List ℕ → Checked → Type 0 where
   the-refusal : {list : Farm → List ℕ} {n : ℕ} {fault : Fault} → First s n fault
       → Prints s list (refusalLine fault n) (checks.Refused fault n)
   the-listings : {f : Farm} (k : KeepsRules s f) → Prints s farmListing (wholeText (k .says .herds)) checks.Accepted
   the-notes : {f : Farm} (k : KeepsRules s f) → Prints s farmNotes (each herdNotes (k .says .herds)) checks.Accepted
+  all-cuts : {f : Farm} (k : KeepsRules s f) → Prints s farmCuts (each herdCutLines (k .says .herds)) checks.Accepted

@@ -19,6 +19,7 @@ use Rattle.listing.specs.declared.Written.{Written}
 use Rattle.listing.specs.declared.Written.the-variants.{Refused}
 use Rattle.listing.specs.Listing.{totalsListing}
 use Rattle.listing.specs.Answer.{room, leaves, answers}
+use Rattle.cut_lines.specs.Lines.{herdCutLines}
 use Rattle.whole.specs.declared.Answer.{Answer}
 use Rattle.whole.specs.Lines.{listingOf, farmListing}
 use Rattle.whole.specs.Program.{outputOf}
@@ -44,20 +45,38 @@ pub record Called (c : Call) (old new : List ℕ) (r : Written) : Type 0 where
 
 -- ---- from a record
 
+-- `of` says what is listed of a herd
+abbrev pub recordCall : (Herd → List ℕ) → Herd → Call
+recordCall of h = record { checked = checkHerd h; listing = of h }
+
 unfoldable pub herdCall : Herd → Call
-herdCall h = record { checked = checkHerd h; listing = listingOf h }
+herdCall h = recordCall listingOf h
+
+-- its cuts (02, W7)
+unfoldable pub herdCutsCall : Herd → Call
+herdCutsCall h = recordCall herdCutLines h
 
 unfoldable pub totalsCall : Farm → Call
 totalsCall f = record { checked = checkFarm f; listing = totalsListing (farmAnswer f .totals) }
 
 -- ---- from a file
 
--- the listing of a farm's herd, counted from 0
+-- of a farm's herd, counted from 0
+abbrev pub ofHerdAt : (Herd → List ℕ) → Farm → ℕ → List ℕ
+ofHerdAt of f i = pick (ltb i (f .count)) (of (getD (f .herds) i noHerd)) []
+
+abbrev pub fileCallOf : (Herd → List ℕ) → List ℕ → ℕ → Call
+fileCallOf of s i = record { checked = readOf s .checked; listing = ofHerdAt of (readOf s .farm) i }
+
+-- the listing of a farm's herd
 abbrev pub listingAt : Farm → ℕ → List ℕ
-listingAt f i = pick (ltb i (f .count)) (listingOf (getD (f .herds) i noHerd)) []
+listingAt f i = ofHerdAt listingOf f i
 
 unfoldable pub fileHerdCall : List ℕ → ℕ → Call
-fileHerdCall s i = record { checked = readOf s .checked; listing = listingAt (readOf s .farm) i }
+fileHerdCall s i = fileCallOf listingOf s i
+
+unfoldable pub fileHerdCutsCall : List ℕ → ℕ → Call
+fileHerdCutsCall s i = fileCallOf herdCutLines s i
 
 unfoldable pub fileTotalsCall : List ℕ → Call
 fileTotalsCall s = record { checked = readOf s .checked; listing = totalsListing (farmAnswer (readOf s .farm) .totals) }

@@ -14,9 +14,10 @@ ghost use mathlib.Core.Path.{_≡_};
 ghost use Rattle.model.specs.Answers.{herdAnswer, farmAnswer};
 ghost use Rattle.reader.specs.Files.{readOf};
 ghost use Rattle.base.specs.Part.{part};
+ghost use Rattle.cut_lines.specs.Lines.{farmCuts};
 ghost use Rattle.noting.specs.Records.{farmNotes};
 ghost use Rattle.whole.specs.Lines.{farmListing};
-ghost use Rattle.calls.specs.Listings.{Called, herdCall, totalsCall, fileHerdCall, fileTotalsCall, fileCall, Put, PutAnswer};
+ghost use Rattle.calls.specs.Listings.{Called, herdCall, herdCutsCall, totalsCall, fileHerdCall, fileHerdCutsCall, fileTotalsCall, fileCall, Put, PutAnswer};
 
 // The farm that a file says, or the refusal and a farm of no herds.
 pub fn read_farm(s: &[u8]) -> FileAnswer
@@ -25,7 +26,7 @@ pub fn read_farm(s: &[u8]) -> FileAnswer
     files::read(s)
 }
 
-// A herd's figures and notes, or the refusal and zeros.
+// A herd's figures, notes and cuts, or the refusal and zeros.
 pub fn herd_figures(h: Herd) -> HerdAnswer
     ensures { λ r. ⌜ r ≡ herdAnswer h ⌝ }
 {
@@ -44,10 +45,28 @@ pub fn herd_listing(h: Herd, out: &mut [u8]) -> Written
     ensures { λ r. ⌜ Called (herdCall h) (now (out .entry)) (now (out .exit)) r ⌝ }
 {
     let kind = h.kind;
-    let answer = answers::herd_answer(h);
-    let checked = answer.checked;
+    let checked = checks::check_herd(h);
     match checked {
-        Checked::Accepted => listing::write_herd(out, h.label, kind, answer.figures),
+        Checked::Accepted => listing::write_herd(
+            out,
+            h.label,
+            kind,
+            herd::figures(typed::typed_of(h)),
+        ),
+        Checked::Refused(fault, record) => Written::Refused(fault, record),
+    }
+}
+
+// A herd's cuts as records, from its record.
+pub fn herd_cuts_listing(h: Herd, out: &mut [u8]) -> Written
+    ensures { λ r. ⌜ Called (herdCutsCall h) (now (out .entry)) (now (out .exit)) r ⌝ }
+{
+    let of_kind = h.kind;
+    match checks::check_herd(h) {
+        Checked::Accepted => {
+            let c = cuts::herds::cuts_of(typed::typed_of(h));
+            cut_lines::write_herd(out, h.label, of_kind, c)
+        }
         Checked::Refused(fault, record) => Written::Refused(fault, record),
     }
 }
@@ -78,6 +97,25 @@ pub fn file_herd_listing(s: &[u8], herd: usize, out: &mut [u8]) -> Written
                 return herd_listing(h, out);
             }
             Written::Length(0)
+        }
+        Checked::Refused(fault, record) => Written::Refused(fault, record),
+    }
+}
+
+// The cuts of a herd of a file, counted from 0; past the last there are none.
+pub fn file_herd_cuts_listing(s: &[u8], place: usize, out: &mut [u8]) -> Written
+    ensures { λ r. ⌜ Called (fileHerdCutsCall (now (s .entry)) place) (now (out .entry)) (now (out .exit)) r ⌝ }
+{
+    let answer = files::read(s);
+    let checked = answer.checked;
+    match checked {
+        Checked::Accepted => {
+            let farm = answer.farm;
+            if farm.count <= place {
+                return Written::Length(0);
+            }
+            let h = farm.herds[place];
+            herd_cuts_listing(h, out)
         }
         Checked::Refused(fault, record) => Written::Refused(fault, record),
     }
@@ -149,6 +187,23 @@ pub fn put_notes(s: &[u8], out: &mut [u8]) -> Answer
     }
     let mut scratch = [0u8; NOTES_ROOM];
     let answer = whole::files::put_notes(s, &mut scratch);
+    let checked = answer.checked;
+    let length = put_if_room(out, &scratch, answer.length);
+    Answer { checked, length }
+}
+
+// Room for what the command `cuts` prints for any file.
+pub const CUTS_ROOM: usize = whole::CUTS_ROOM;
+
+// What the command `cuts` prints for a file; as `put_answer` otherwise.
+pub fn put_cuts(s: &[u8], out: &mut [u8]) -> Answer
+    ensures { λ r. ⌜ PutAnswer farmCuts (now (s .entry)) (now (out .entry)) (now (out .exit)) r ⌝ }
+{
+    if CUTS_ROOM <= out.len() {
+        return whole::files::put_cuts(s, out);
+    }
+    let mut scratch = [0u8; CUTS_ROOM];
+    let answer = whole::files::put_cuts(s, &mut scratch);
     let checked = answer.checked;
     let length = put_if_room(out, &scratch, answer.length);
     Answer { checked, length }

@@ -1,9 +1,9 @@
 // 01, The listing: a herd's lines and the totals' lines, byte by byte, into a lent buffer; or refusal 13, and nothing is written. Knows
 // nothing of files.
 mod texts; // the line list
-mod blocks; // a text copied a block at a time
+pub mod blocks; // a text copied a block at a time
 pub mod labels; // a label as a field
-mod owners; // whose lines they are
+pub mod owners; // whose lines they are
 mod lines; // a line, and lines one after the other
 
 use farm::Fault;
@@ -28,7 +28,7 @@ pub enum Written {
 // As long as the path of a kind can be, and what a herd's lines begin with: the label's field, a comma and the path.
 const PATH_MOST: usize = 28;
 
-const OWNER_MOST: usize = labels::FIELD_MOST + 1 + PATH_MOST;
+pub const OWNER_MOST: usize = labels::FIELD_MOST + 1 + PATH_MOST;
 
 // Room for the listing of any herd whose inputs are in their ranges, and for the totals of any farm of such herds.
 pub const HERD_ROOM: usize = 1320;

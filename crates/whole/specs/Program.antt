@@ -1,6 +1,7 @@
 -- 01, The listing: "The program reads a farm file from standard input and prints each herd, then the totals, or
--- `refused,NUMBER,RECORD` and CRLF." So goes every command: it prints what it lists of an accepted farm, or that line. To
--- be believed: `programOutput` is what the program prints for a file's bytes, `notesOutput` what its command `notes` does.
+-- `refused,NUMBER,RECORD` and CRLF." So goes every command: it prints what it lists of an accepted farm, or that line.
+-- To be believed: `programOutput` is what the program prints for a file's bytes, `notesOutput` what its command `notes`
+-- does, `cutsOutput` what `cuts` does.
 use Prim.Native.Nat.{ℕ, _≤_}
 use mathlib.Core.Path.{_≡_}
 use mathlib.Core.List.{List}
@@ -12,6 +13,7 @@ use Rattle.farm.specs.declared.Checked.the-variants as checks
 use Rattle.reader.specs.Files.{readOf}
 use Rattle.listing.specs.declared.Written.{Written}
 use Rattle.listing.specs.declared.Written.the-variants.{Length, Refused}
+use Rattle.cut_lines.specs.Lines.{farmCuts}
 use Rattle.noting.specs.Records.{farmNotes}
 use Rattle.whole.specs.declared.Answer.{Answer}
 use Rattle.whole.specs.Lines.{farmListing, refusalLine}
@@ -28,6 +30,10 @@ outputOf list s = printed list (readOf s .checked) (readOf s .farm)
 -- "each herd, then the totals"
 abbrev pub programOutput : List ℕ → List ℕ
 programOutput s = outputOf farmListing s
+
+-- each herd's cuts
+abbrev pub cutsOutput : List ℕ → List ℕ
+cutsOutput s = outputOf farmCuts s
 
 -- each herd's notes
 abbrev pub notesOutput : List ℕ → List ℕ

@@ -7,6 +7,8 @@ use listing::Written;
 use reader::files;
 ghost use Prim.Native.Nat.{_≤_};
 ghost use lib.ListN.{length};
+ghost use Rattle.cut_lines.specs.Lines.{farmCuts};
+ghost use Rattle.cut_lines.specs.Rooms.{cutsRoom};
 ghost use Rattle.noting.specs.Records.{farmNotes};
 ghost use Rattle.noting.specs.Rooms.{notesRoom};
 ghost use Rattle.whole.specs.Lines.{farmListing};
@@ -35,6 +37,19 @@ fn put_file_notes(s: &[u8], out: &mut [u8]) -> Written
     let checked = answer.checked;
     match checked {
         Checked::Accepted => Written::Length(noting::put_farm(out, answer.farm)),
+        Checked::Refused(fault, record) => Written::Refused(fault, record),
+    }
+}
+
+// The farm's cuts; or the refusal, and nothing is written.
+fn put_file_cuts(s: &[u8], out: &mut [u8]) -> Written
+    requires { ⌜ cutsRoom ≤ length (now out) ⌝ }
+    ensures { λ r. ⌜ PutFile farmCuts cutsRoom (now (s .entry)) (now (out .entry)) (now (out .exit)) r ⌝ }
+{
+    let answer = files::read(s);
+    let checked = answer.checked;
+    match checked {
+        Checked::Accepted => Written::Length(cut_lines::put_farm(out, answer.farm)),
         Checked::Refused(fault, record) => Written::Refused(fault, record),
     }
 }
@@ -74,5 +89,14 @@ pub fn put_notes(s: &[u8], out: &mut [u8]) -> Answer
     ensures { λ r. ⌜ PutOutput farmNotes notesRoom (now (s .entry)) (now (out .entry)) (now (out .exit)) r ⌝ }
 {
     let put = put_file_notes(s, out);
+    complete(out, put)
+}
+
+// What its command `cuts` prints: the cuts, or the refusal's line.
+pub fn put_cuts(s: &[u8], out: &mut [u8]) -> Answer
+    requires { ⌜ cutsRoom ≤ length (now out) ⌝ }
+    ensures { λ r. ⌜ PutOutput farmCuts cutsRoom (now (s .entry)) (now (out .entry)) (now (out .exit)) r ⌝ }
+{
+    let put = put_file_cuts(s, out);
     complete(out, put)
 }

@@ -1,6 +1,6 @@
 // What a file is answered with, put together as bytes: an accepted farm's listing, herd after herd and then the totals,
-// or its notes; or the line of a refusal. Each herd's figures are worked out once, and what reading has checked is not
-// checked again.
+// its notes or its cuts; or the line of a refusal. Each herd's figures are worked out once, and what reading has
+// checked is not checked again.
 pub mod farms; // an accepted farm's listing
 pub mod refusals; // the line of a refusal
 pub mod files; // the answer of a file
@@ -18,3 +18,6 @@ pub const FARM_ROOM: usize = farm::HERDS_MOST * listing::HERD_ROOM + listing::TO
 
 // Room for the notes of any farm.
 pub const NOTES_ROOM: usize = noting::ROOM;
+
+// Room for the cuts of any farm.
+pub const CUTS_ROOM: usize = cut_lines::ROOM;

@@ -1,6 +1,6 @@
 -- `calls::totals_listing` meets its contract: what the record's checks refuse, then what the listing's writer says.
 -- Assumes nothing.
-use Rattle.calls.proofs.RecordSteps.{record-steps}
+use Rattle.calls.proofs.RecordSteps.{totals-steps}
 use borrow.Author.Needs.{needs}
 use Rattle.calls.proofs.totals_listing.Statement.{statement}
 use Rattle.calls.proofs.totals_listing.Tie as tie
@@ -12,7 +12,7 @@ enum-told : tie.Need-enum-told
 enum-told c = search needs
 
 write-totals-requires : tie.Need-write-totals-requires
-write-totals-requires c κs = search (needs, record-steps)
+write-totals-requires c κs = search (needs, totals-steps)
 
 enum-known-checked : tie.Need-enum-known-checked
 enum-known-checked c = search needs
@@ -21,10 +21,10 @@ same-length : tie.Need-same-length
 same-length c = search needs
 
 returns : tie.Need-returns
-returns c = search (needs, record-steps)
+returns c = search (needs, totals-steps)
 
 returns-2 : tie.Need-returns-2
-returns-2 c = search (needs, record-steps)
+returns-2 c = search (needs, totals-steps)
 
 pub totals-listing-spec : {M : Type 1} → statement M
 totals-listing-spec =

@@ -1,0 +1,67 @@
+-- `cut_lines::lines::put_numbers` meets its contract, by its calls, one after the other; each number has at most 20
+-- digits. Assumes nothing.
+use Prim.Native.Nat.{_≤_}
+use native.Mathlib.Omega.{arith}
+use lib.ListN.{length}
+use Rattle.base.proofs.Writes.{said, joined}
+use Rattle.decimal.specs.Writing.{wholeOf}
+use Rattle.cut_lines.proofs.LineByLine.{digits-most, numbers-are}
+use borrow.Author.Needs.{needs}
+use Rattle.cut_lines.proofs.lines.put_numbers.Statement.{statement}
+use Rattle.cut_lines.proofs.lines.put_numbers.Tie as tie
+
+abbrev begin : tie.After-put-whole → tie.Start
+begin a = a .before .before .before
+
+off : (s : tie.Start) → length (wholeOf (s .args .cut-off)) ≤ 20
+off s = digits-most (s .args .cut-off) (search needs)
+
+by : (s : tie.Start) → length (wholeOf (s .args .divisor)) ≤ 20
+by s = digits-most (s .args .divisor) (search needs)
+
+put-whole-requires : tie.Need-put-whole-requires
+put-whole-requires c κs = omega (arith, off (c .before .before))
+
+put-byte-requires : tie.Need-put-byte-requires
+put-byte-requires c κs = omega (arith, off (begin (c .before .before .before)))
+
+put-whole-requires-2 : tie.Need-put-whole-requires-2
+put-whole-requires-2 c κs =
+    let s = begin (c .before .before .before .before .before .before .before) in omega (arith, off s, by s)
+
+slice-aggregate-put : tie.Need-slice-aggregate-put
+slice-aggregate-put c = search needs
+
+put-requires : tie.Need-put-requires
+put-requires c κs =
+    let d = c .before .before .before .before in
+    let s = begin (d .before .before .before .before .before .before .before .before) in
+    omega (arith, off s, by s)
+
+same-length : tie.Need-same-length
+same-length c = search needs
+
+returns : tie.Need-returns
+returns c =
+    let e = c .before .before in
+    let d = e .before .before .before .before .before in
+    let b = d .before .before .before .before in
+    let a = b .before .before .before .before in
+    let s = begin a in (
+      said (numbers-are _ _)
+          (joined (joined (joined (a .put-whole .ensures) (b .put-byte .ensures)) (d .put-whole2 .ensures))
+          (e .put .ensures)),
+      omega (arith, off s, by s),
+    )
+
+pub put-numbers-spec : {M : Type 1} → statement M
+put-numbers-spec =
+    tie.close
+    (tie.spec
+    put-whole-requires
+    put-byte-requires
+    put-whole-requires-2
+    slice-aggregate-put
+    put-requires
+    same-length
+    returns)

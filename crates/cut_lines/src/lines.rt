@@ -1,0 +1,66 @@
+// A record of a cut, and records one after the other.
+use listing::blocks;
+ghost use Prim.Native.Nat.{_+_, _≤_};
+ghost use lib.ListN.{length};
+ghost use Rattle.base.specs.Wrote.{Wrote};
+ghost use Rattle.listing.specs.Bounds.{longestOwner};
+ghost use Rattle.cut_lines.specs.Rooms.{longestMiddle, longestNumbers, longestLine, longestCuts};
+ghost use Rattle.cut_lines.specs.Lines.{numbersOf};
+ghost use Rattle.cut_lines.specs.Numbered.{Known, putTogether, numbered};
+
+// What was cut off, and the divisor: the last two fields.
+fn put_numbers(out: &mut [u8], at: usize, cut_off: u64, divisor: u64) -> usize
+    requires { ⌜ at + longestNumbers ≤ length (now out) ⌝ }
+    ensures { λ r. ⌜ Wrote (now (out .entry)) at (numbersOf «cut_off» divisor) (now (out .exit)) r × (r ≤ at + longestNumbers) ⌝ }
+{
+    let a = decimal::put_whole(out, at, cut_off);
+    let b = base::put_byte(out, a, b',');
+    let c = decimal::put_whole(out, b, divisor);
+    base::put(out, c, b"\r\n")
+}
+
+// A cut that was made; nothing where its divisor is 0.
+fn put_line(
+    out: &mut [u8],
+    at: usize,
+    owner: &[u8],
+    middle: &[u8],
+    cut_off: u64,
+    divisor: u64,
+) -> usize
+    requires { ⌜ (length (now owner) ≤ longestOwner) × (length (now middle) ≤ longestMiddle) × (at + longestLine ≤ length (now out)) ⌝ }
+    ensures { λ r. ⌜ Wrote (now (out .entry)) at (putTogether (now (owner .entry)) (now (middle .entry)) «cut_off» divisor) (now (out .exit)) r × (r ≤ at + longestLine) ⌝ }
+{
+    if divisor == 0 {
+        return at;
+    }
+    let a = blocks::put_text(out, at, owner);
+    let b = blocks::put_text(out, a, middle);
+    put_numbers(out, b, cut_off, divisor)
+}
+
+// The records of these numbers, from `at` on; the end of the last.
+pub fn put_lines(
+    out: &mut [u8],
+    at: usize,
+    owner: &[u8],
+    middles: &[u8],
+    starts: &[usize],
+    cut_off: &[u64],
+    divisor: &[u64],
+    lines: &[usize],
+) -> usize
+    requires { ⌜ Known (now middles) (now starts) (now «cut_off») (now divisor) (now lines) × (length (now owner) ≤ longestOwner) × (at + longestCuts ≤ length (now out)) ⌝ }
+    ensures { λ r. ⌜ Wrote (now (out .entry)) at (numbered (now (owner .entry)) (now (middles .entry)) (now (starts .entry)) (now («cut_off» .entry)) (now (divisor .entry)) (now (lines .entry))) (now (out .exit)) r × (r ≤ at + longestCuts) ⌝ }
+{
+    let mut next = at;
+    let mut k = 0;
+    while k < lines.len() {
+        let n = lines[k];
+        let from = starts[n];
+        let to = starts[n + 1];
+        next = put_line(out, next, owner, &middles[from..to], cut_off[n], divisor[n]);
+        k += 1;
+    }
+    next
+}

@@ -1,0 +1,55 @@
+// What stands in a line of cuts between its owner and its numbers, by the number of the name, one after the other, and
+// where each starts. A constant table is built anew at each use: a call builds it once and lends it.
+use cuts::names;
+
+pub const MIDDLES: [u8; 353] = *b"\
+::Excretion,tan_excretion,\
+::Yard,n_into_yard,\
+::Yard,tan_into_yard,\
+::Yard,nh3_nyard,\
+::Grazing,n_into_grazing,\
+::Grazing,tan_into_grazing,\
+::Grazing,nh3_ngrazing,\
+::Grazing,n2_ngrazing,\
+::Grazing,no_ngrazing,\
+::Grazing,n2o_ngrazing,\
+::Housing,c_grazing,\
+::Housing,ef_nh3_nhousing:er_housing,\
+::Housing,ef_nh3_nhousing:c_free_factor_housing,\
+::Housing,nh3_nhousing,";
+
+pub const STARTS: [usize; names::COUNT + 1] = [
+    0,
+    26,
+    45,
+    66,
+    83,
+    108,
+    135,
+    158,
+    180,
+    202,
+    225,
+    245,
+    282,
+    330,
+    353,
+];
+
+// The names, in the order in which they are listed.
+pub const LINES: [usize; names::COUNT] = [
+    names::TAN_EXCRETION,
+    names::N_INTO_YARD,
+    names::TAN_INTO_YARD,
+    names::NH3_NYARD,
+    names::N_INTO_GRAZING,
+    names::TAN_INTO_GRAZING,
+    names::NH3_NGRAZING,
+    names::N2_NGRAZING,
+    names::NO_NGRAZING,
+    names::N2O_NGRAZING,
+    names::C_GRAZING,
+    names::EF_NH3_NHOUSING_ER_HOUSING,
+    names::EF_NH3_NHOUSING_C_FREE_FACTOR_HOUSING,
+    names::NH3_NHOUSING,
+];
