@@ -633,6 +633,86 @@ static __attribute__((noinline)) uint8_t *list_totals(uint8_t *out, const struct
     return out;
 }
 
+// ---- the notes and the cuts, which the vectors have and the benchmark does not time
+
+static uint8_t *put_notes(uint8_t *out, const struct herd *herd) {
+    static const char *const words[] = {"no", "yes"};
+    const uint32_t *v = herd->values;
+    int n_off = 0, tan_off = 0, free_factor = 0, lowered = 0;
+    uint8_t label[LABEL_ROOM];
+    size_t length = printed_label(herd, label);
+    if (herd->kind == ROUGHAGE) {
+        uint64_t standard = standards[v[R_CATEGORY]], n = v[R_EXCRETION] == STANDARD ? standard : v[R_EXCRETION];
+        uint64_t tan = v[R_TAN] == STANDARD ? 4000 : v[R_TAN];
+        n_off = n * 10 < standard * 7 || n * 10 > standard * 13;
+        tan_off = tan < 2000 || tan > 6000;
+        free_factor = v[R_FREE] != 0;
+    } else if (herd->kind == CATTLE) {
+        free_factor = v[C_FREE] != 0;
+        lowered = v[C_DAYS] + v[C_YARD_DAYS] > 365 && yard_tenths[v[C_YARD]] > 2;
+    }
+    return out + sprintf((char *)out, "%.*s,%s,%s,%s,%s\r\n", (int)length, (const char *)label, words[n_off], words[tan_off],
+                         words[free_factor], words[lowered]);
+}
+
+// A cut: the module behind the kind's, the name, what was cut off, the divisor.
+#define CUT(under, dividend, divisor)                                                                                        \
+    out += sprintf((char *)out, "%.*s,Livestock::%s::%s,%llu,%llu\r\n", (int)length, (const char *)label, kind, under,      \
+                   (unsigned long long)((uint64_t)(dividend) % (divisor)), (unsigned long long)(divisor))
+
+static uint8_t *put_cuts(uint8_t *out, const struct herd *herd) {
+    static const char *const kinds[] = {[ROUGHAGE] = "RoughageConsuming", [CATTLE] = "OtherCattle", [PIGS] = "FatteningPigs"};
+    const char *kind = kinds[herd->kind];
+    const uint32_t *v = herd->values;
+    const uint64_t one = 1000000000;
+    struct figures f;
+    uint8_t label[LABEL_ROOM];
+    size_t length = printed_label(herd, label);
+    uint64_t nh3 = 2000, n2o = 200, fraction = 0, out_time = 0, out_of = 0;
+    figures_of(herd, &f);
+    if (herd->kind == ROUGHAGE) {
+        fraction = v[R_TAN] == STANDARD ? 4000 : v[R_TAN];
+        out_time = (uint64_t)v[R_DAYS] * v[R_HOURS];
+        out_of = 87600;
+        nh3 = 1250;
+        n2o = 100;
+    } else {
+        fraction = herd->kind == CATTLE ? v[C_TAN] : v[P_TAN];
+    }
+    CUT("Excretion,tan_excretion", f.n * fraction, 10000);
+    if (herd->kind == CATTLE) {
+        uint64_t days = v[C_DAYS], yard_days = v[C_YARD_DAYS], both = days + yard_days > 365 ? days + yard_days - 365 : 0;
+        uint64_t share = yard_tenths[v[C_YARD]], on_both = share > 2 ? 2 : share;
+        uint64_t yard = share * (yard_days - both) + on_both * both;
+        CUT("Yard,n_into_yard", f.n * yard, 3650);
+        CUT("Yard,tan_into_yard", f.tan * yard, 3650);
+        CUT("Yard,nh3_nyard", f.tan_yard * 7000 * floor_hundredths[v[C_FLOOR]] * (100 - v[C_FREE]), 100000000);
+        out_time = v[C_HOURS] * (10 * (days - both) + (10 - on_both) * both);
+        out_of = 876000;
+        nh3 = 830;
+    }
+    if (out_of) {
+        CUT("Grazing,n_into_grazing", f.n * out_time, out_of);
+        CUT("Grazing,tan_into_grazing", f.tan * out_time, out_of);
+    }
+    CUT("Grazing,nh3_ngrazing", f.tan_pasture * nh3, 10000);
+    CUT("Grazing,n2_ngrazing", 0, 10000);
+    CUT("Grazing,no_ngrazing", f.n_pasture * 55, 10000);
+    CUT("Grazing,n2o_ngrazing", f.n_pasture * n2o, 10000);
+    if (herd->kind == ROUGHAGE) {
+        uint64_t days = v[R_DAYS], hours = v[R_HOURS], left = 100 - v[R_FREE], c = one;
+        if (out_time < 87600) {
+            uint64_t grown = (365 - days) * 240 * one + days * (240 - hours) * k[hours];
+            c = grown / (87600 - out_time);
+            CUT("Housing,c_grazing", grown, 87600 - out_time);
+        }
+        CUT("Housing,ef_nh3_nhousing:er_housing", c * 275, 1000);
+        CUT("Housing,ef_nh3_nhousing:c_free_factor_housing", c * 275 / 1000 * left, 100);
+        CUT("Housing,nh3_nhousing", f.tan_housing * housing_rate(days, hours, v[R_FREE]), one);
+    }
+    return out;
+}
+
 // ---- the program
 
 // Longer than any listing of a herd or of the totals.
@@ -679,6 +759,15 @@ static void answer(const uint8_t *file, size_t length) {
     write_all(output, (size_t)(end - output));
 }
 
+// What a command prints that lists each herd and no totals.
+static void answer_with(uint8_t *put(uint8_t *, const struct herd *), const uint8_t *file, size_t length) {
+    struct refusal r = read_farm(file, length, &farm);
+    uint8_t *end = output;
+    if (r.number) end += sprintf((char *)output, "refused,%u,%u\r\n", r.number, r.record);
+    else for (uint32_t i = 0; i < farm.count; i++) end = put(end, &farm.herds[i]);
+    write_all(output, (size_t)(end - output));
+}
+
 static int run_cases(void) {
     static uint8_t file[1 << 20];
     uint8_t head[4];
@@ -686,6 +775,8 @@ static int run_cases(void) {
         size_t length = head[0] | (size_t)head[1] << 8 | (size_t)head[2] << 16 | (size_t)head[3] << 24;
         if (length > sizeof file || read_up_to(file, length) < length) return 1;
         answer(file, length);
+        answer_with(put_notes, file, length);
+        answer_with(put_cuts, file, length);
     }
     return 0;
 }

@@ -1,4 +1,4 @@
-"""Writing the figures and the notes down, in the order of the rules."""
+"""Writing the figures, the notes and the cuts down, in the order of the rules."""
 
 from farmfile import COMMA, QUOTE, RECORD_END
 from inputs import CATTLE, PIGS, ROUGHAGE, module_path
@@ -50,6 +50,13 @@ def farm_listing(totals):
 
 def herd_notes(herd, notes):
     return line(herd.label, *("yes" if noted else "no" for noted in notes))
+
+
+def herd_cuts(herd, cuts):
+    return "".join(
+        line(herd.label, module_path(herd.kind, cut.module), cut.name, str(cut.cut_off), str(cut.divisor))
+        for cut in cuts
+    )
 
 
 def line(label, *fields):

@@ -17,13 +17,14 @@ import mend
 import mend_cases
 import printed
 from arithmetic import BILLION, CUTS, EXACT, HALF, Cuts
+from cuts import cuts
 from dice import Dice
 from farms import farm_lines, file_of, herd_lines, line_for, new_labels, written
 from inputs import CATTLE, HOURS, KINDS, PIGS, ROUGHAGE, Number
 from model import Notes, c_grazing, figures, housing_nh3_rate, k_grazing, notes
 from reading import MOST_BYTES, MOST_HERDS, Refused, read_farm
 from totals import totals
-from urvendlo import NOTES, answer
+from urvendlo import CUTS_OFF, NOTES, answer
 from values import DAYS_A_YEAR
 
 # Names the text of source document 001, where that is at hand.
@@ -523,6 +524,94 @@ class Notices(unittest.TestCase):
         records = b'Heifers,no,no,no,yes\r\n"A,B",no,no,no,no\r\n'
         for file, expected in ((farm, records), (b"", b""), (b"a", b"refused,3,1\r\n")):
             self.assertEqual(answer(file, NOTES), expected, file)
+
+
+GASES = ["nh3_ngrazing", "n2_ngrazing", "no_ngrazing", "n2o_ngrazing"]
+INTO_GRAZING = ["n_into_grazing", "tan_into_grazing"]
+FACTORS = ["ef_nh3_nhousing:er_housing", "ef_nh3_nhousing:c_free_factor_housing"]
+CUT_NAMES = {
+    ROUGHAGE: ["tan_excretion", *INTO_GRAZING, *GASES, "c_grazing", *FACTORS, "nh3_nhousing"],
+    CATTLE: ["tan_excretion", "n_into_yard", "tan_into_yard", "nh3_nyard", *INTO_GRAZING, *GASES],
+    PIGS: ["tan_excretion", *GASES],
+}
+
+
+class CutOff(unittest.TestCase):
+    """Request W7: every cut's name, what was cut off and the divisor."""
+
+    def made(self, read):
+        return {cut.name: (cut.quotient, cut.cut_off, cut.divisor) for cut in cuts(read)}
+
+    def check_herd(self, read):
+        worked = figures(read, CUTS)
+        for cut in cuts(read):
+            self.assertTrue(0 <= cut.cut_off < cut.divisor, cut)
+            self.assertEqual(cut.quotient * cut.divisor + cut.cut_off, cut.uncut * cut.divisor, cut)
+            self.assertEqual(worked.get(cut.name, cut.quotient), cut.quotient, cut)
+
+    def test_herds(self):
+        """The names of each kind; the dividends are whole, and the quotients are the figures."""
+        dice = Dice(7)
+        for kind in KINDS:
+            for label in range(HERDS_OF_A_KIND):
+                (read,) = read_farm(file_of(herd_lines(dice, str(label), kind)))
+                self.check_herd(read)
+                due = list(CUT_NAMES[kind])
+                if kind is ROUGHAGE and read.given["grazing_days"] * read.given["grazing_hours"] >= 8760:
+                    due.remove("c_grazing")
+                self.assertEqual([cut.name for cut in cuts(read)], due)
+
+    def test_one_gram_off(self):
+        """5 grams, share 0.1, both counts 365, 24 hours: half a gram is cut off twice, and housing has the gram."""
+        read = herd(
+            CATTLE,
+            C,
+            animals="1",
+            inp_n_excretion="0.005",
+            exercise_yard=NOT_SUPPLIED,
+            grazing_days="365",
+            grazing_hours="24",
+        )
+        made = self.made(read)
+        self.assertEqual(made["n_into_yard"], (0, 1825, 3650))
+        self.assertEqual(made["n_into_grazing"], (4, 438000, 876000))
+        self.assertEqual(figures(read, CUTS)["n_into_housing"], 1)
+
+    def test_roughage(self):
+        """10 fallow deer, 100 days of 12 hours, free 7: k at 12 hours is 1,621,902,755 billionths."""
+        read = herd(ROUGHAGE, DEER, grazing_days="100", grazing_hours="12", free_correction_factor="7")
+        made = self.made(read)
+        self.assertEqual(made["n_into_grazing"], divmod_of(200000 * 120 * 100, 87600))
+        k = 1621902755
+        self.assertEqual(k_grazing(Fraction(12), CUTS) * BILLION, k)
+        c = divmod_of(265 * 240 * BILLION + 100 * 120 * k, 87600 - 12000)
+        self.assertEqual(made["c_grazing"], c)
+        rate = divmod_of(c[0] * 275, 1000)
+        self.assertEqual(made["ef_nh3_nhousing:er_housing"], rate)
+        factor = divmod_of(rate[0] * 93, 100)
+        self.assertEqual(made["ef_nh3_nhousing:c_free_factor_housing"], factor)
+        tan = figures(read, CUTS)["tan_into_housing"]
+        self.assertEqual(made["nh3_nhousing"], divmod_of(tan * factor[0], BILLION))
+
+    def test_whole_year_on_pasture(self):
+        for days, hours, made in (("365", "24", False), ("365", "23.9", True), ("364", "24", True)):
+            read = herd(ROUGHAGE, DEER, grazing_days=days, grazing_hours=hours)
+            self.assertEqual("c_grazing" in self.made(read), made, (days, hours))
+
+    def test_records(self):
+        lines = lines_of(PIGS, OUTDOOR_PIGS, label="P, 1")
+        self.assertEqual(
+            answer(file_of(lines), CUTS_OFF).decode().splitlines()[:2],
+            [
+                '"P, 1",Livestock::FatteningPigs::Excretion,tan_excretion,0,10000',
+                '"P, 1",Livestock::FatteningPigs::Grazing,nh3_ngrazing,0,10000',
+            ],
+        )
+
+
+def divmod_of(dividend, divisor):
+    """Quotient, what was cut off, divisor."""
+    return (*divmod(dividend, divisor), divisor)
 
 
 class Listings(unittest.TestCase):

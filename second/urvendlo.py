@@ -1,13 +1,14 @@
 #!/usr/bin/env python3
 """The program: a farm file on standard input, what a command prints for it on standard output.
 
-    urvendlo.py [COMMAND]   COMMAND is figures, which is also done without one, or notes
+    urvendlo.py [COMMAND]   COMMAND is figures, which is also done without one, notes or cuts
 """
 
 import sys
 
 from arithmetic import CUTS
-from listing import farm_listing, herd_listing, herd_notes, refusal
+from cuts import cuts
+from listing import farm_listing, herd_cuts, herd_listing, herd_notes, refusal
 from model import figures, notes
 from reading import Refused, read_farm
 from totals import totals
@@ -23,8 +24,12 @@ def notes_of(herds):
     return "".join(herd_notes(herd, notes(herd)) for herd in herds)
 
 
-FIGURES, NOTES = "figures", "notes"
-COMMANDS = {FIGURES: figures_of, NOTES: notes_of}
+def cuts_of(herds):
+    return "".join(herd_cuts(herd, cuts(herd)) for herd in herds)
+
+
+FIGURES, NOTES, CUTS_OFF = "figures", "notes", "cuts"
+COMMANDS = {FIGURES: figures_of, NOTES: notes_of, CUTS_OFF: cuts_of}
 
 
 def answer(file, command=FIGURES):

@@ -57,3 +57,10 @@ pub fn print_notes(s: &[u8]) -> Printed {
     let answer = calls::put_notes(s, &mut put);
     print_answer(&put, answer)
 }
+
+// The cuts of a file.
+pub fn print_cuts(s: &[u8]) -> Printed {
+    let mut put = [0u8; calls::CUTS_ROOM];
+    let answer = calls::put_cuts(s, &mut put);
+    print_answer(&put, answer)
+}

@@ -19,6 +19,9 @@ const HERD_LENGTH: usize = 718;
 
 const TOTALS_LENGTH: usize = 597;
 
+// And that of the herd's cuts.
+const CUTS_LENGTH: usize = 296;
+
 const NUMBER_13: u64 = 13;
 
 // A writing call: of a record, of a file, or of a file's herd.
@@ -27,6 +30,8 @@ enum Call {
     Totals,
     FileTotals,
     FileHerd(usize),
+    HerdCuts,
+    FileHerdCuts(usize),
     OfNoHerds,
 }
 
@@ -40,12 +45,19 @@ fn write_herd(f: Farm, out: &mut [u8]) -> Written {
     calls::herd_listing(h, out)
 }
 
+fn write_cuts(f: Farm, out: &mut [u8]) -> Written {
+    let h = f.herds[0];
+    calls::herd_cuts_listing(h, out)
+}
+
 fn write_by(call: Call, out: &mut [u8]) -> Written {
     match call {
         Call::Herd => write_herd(farm(), out),
         Call::Totals => calls::totals_listing(farm(), out),
         Call::FileTotals => calls::file_totals_listing(&PIGS, out),
         Call::FileHerd(herd) => calls::file_herd_listing(&PIGS, herd, out),
+        Call::HerdCuts => write_cuts(farm(), out),
+        Call::FileHerdCuts(herd) => calls::file_herd_cuts_listing(&PIGS, herd, out),
         Call::OfNoHerds => calls::file_herd_listing(b"", 0, out),
     }
 }
@@ -125,6 +137,9 @@ fn main() {
     sizes(b"herd of a file", Call::FileHerd(0), HERD_LENGTH);
     sizes(b"totals", Call::Totals, TOTALS_LENGTH);
     sizes(b"totals of a file", Call::FileTotals, TOTALS_LENGTH);
+    sizes(b"cuts", Call::HerdCuts, CUTS_LENGTH);
+    sizes(b"cuts of a file", Call::FileHerdCuts(0), CUTS_LENGTH);
+    sizes(b"cuts past the last herd", Call::FileHerdCuts(1), 0);
     sizes(b"past the last herd", Call::FileHerd(1), 0);
     sizes(b"far past the last herd", Call::FileHerd(usize::MAX), 0);
     sizes(b"of no herds", Call::OfNoHerds, 0);

@@ -1,5 +1,5 @@
-// The vectors of the second implementation, run through the library: of each file its figures and then its notes are
-// printed, as the commands print them. The expected output is what the second implementation gives.
+// The vectors of the second implementation, run through the library: of each file its figures, its notes and its cuts
+// are printed, as the commands print them. The expected output is what the second implementation gives.
 use packs::Packed;
 
 // Longer than any file of the vectors.
@@ -12,6 +12,7 @@ fn run_one(file: &mut [u8]) -> bool {
             let whole = base::part_of(file, 0, n);
             printing::print_figures(whole);
             printing::print_notes(whole);
+            printing::print_cuts(whole);
             true
         }
         Packed::End => false,

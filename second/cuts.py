@@ -1,0 +1,151 @@
+"""What each cut of a herd's figures cuts off (request W7).
+
+A cut is told by what it divides, worked exactly as a fraction, and by its divisor.
+The divisor follows from the units that the request names: shares and hours count in
+tenths, floor and free factor in percent, rates in ten-thousandths, 0.275 in
+thousandths, factors in billionths. What is cut off is the part past the whole, counted
+in that divisor; it has to be a whole number, or the divisor is wrong.
+"""
+
+from dataclasses import dataclass
+from fractions import Fraction
+from math import floor
+
+import values
+from arithmetic import BILLION, CUTS, EXACT
+from inputs import CATTLE, PIGS, ROUGHAGE
+from model import (
+    HOURS_A_YEAR,
+    c_grazing,
+    figures,
+    housing_nh3_rate,
+    k_grazing,
+    left_by_free_factor,
+    share_into_pasture,
+    share_into_yard,
+    tan_share,
+)
+from values import DAYS_A_YEAR, HOURS_A_DAY, PERCENT
+
+TENTHS = 10
+HUNDREDTHS = 100
+THOUSANDTHS = 1000
+TEN_THOUSANDTHS = 10_000
+DAY = HOURS_A_DAY * TENTHS
+INTO_YARD = TENTHS * DAYS_A_YEAR
+CATTLE_INTO_PASTURE = DAY * TENTHS * DAYS_A_YEAR
+ROUGHAGE_INTO_PASTURE = DAY * DAYS_A_YEAR
+YARD_NH3 = TEN_THOUSANDTHS * HUNDREDTHS * HUNDREDTHS
+
+
+@dataclass(frozen=True)
+class Cut:
+    """The module and name it stands under, what it divides, already over the divisor, and the divisor."""
+
+    module: str
+    name: str
+    uncut: Fraction
+    divisor: int
+
+    @property
+    def quotient(self):
+        return floor(self.uncut)
+
+    @property
+    def cut_off(self):
+        left = (self.uncut - self.quotient) * self.divisor
+        if left.denominator != 1:
+            raise ValueError(f"{self.name}: {self.divisor} is not its divisor")
+        return left.numerator
+
+
+def cuts(herd):
+    """The cuts that are made for a herd, in the order of the listing."""
+    return CUTS_OF_KIND[herd.kind](herd.given, figures(herd, CUTS))
+
+
+def roughage(given, worked):
+    days, hours = given["grazing_days"], given["grazing_hours"]
+    outdoors = hours / HOURS_A_DAY * days / DAYS_A_YEAR
+    return [
+        excretion(worked, tan_share(given)),
+        *into("Grazing", "grazing", worked, outdoors, ROUGHAGE_INTO_PASTURE),
+        *gases(worked, values.ROUGHAGE_PASTURE),
+        *housing(days, hours, left_by_free_factor(given), worked),
+    ]
+
+
+def cattle(given, worked):
+    floor_left = 1 - values.FLOOR_REDUCTIONS[given["floor_properties_exercise_yard"]]
+    rate = values.YARD_NH3_RATE * floor_left * left_by_free_factor(given)
+    return [
+        excretion(worked, given["tan_fraction"] * PERCENT),
+        *into("Yard", "yard", worked, share_into_yard(given), INTO_YARD),
+        Cut("Yard", "nh3_nyard", worked["tan_into_yard"] * rate, YARD_NH3),
+        *into("Grazing", "grazing", worked, share_into_pasture(given), CATTLE_INTO_PASTURE),
+        *gases(worked, values.CATTLE_PASTURE),
+    ]
+
+
+def pigs(given, worked):
+    """What they put on pasture is all or nothing, and no cut."""
+    return [
+        excretion(worked, given["tan_fraction"] * PERCENT),
+        *gases(worked, values.PIG_PASTURE),
+    ]
+
+
+CUTS_OF_KIND = {ROUGHAGE: roughage, CATTLE: cattle, PIGS: pigs}
+
+
+def excretion(worked, share):
+    return Cut("Excretion", "tan_excretion", worked["n_excretion"] * share, TEN_THOUSANDTHS)
+
+
+def into(module, place, worked, share, divisor):
+    return [
+        Cut(module, f"{part}_into_{place}", worked[f"{part}_excretion"] * share, divisor)
+        for part in ("n", "tan")
+    ]
+
+
+def gases(worked, rates):
+    n, tan = worked["n_into_grazing"], worked["tan_into_grazing"]
+    return [
+        Cut("Grazing", "nh3_ngrazing", tan * rates.nh3, TEN_THOUSANDTHS),
+        Cut("Grazing", "n2_ngrazing", n * rates.n2, TEN_THOUSANDTHS),
+        Cut("Grazing", "no_ngrazing", n * rates.no, TEN_THOUSANDTHS),
+        Cut("Grazing", "n2o_ngrazing", n * rates.n2o, TEN_THOUSANDTHS),
+    ]
+
+
+def housing(days, hours, left, worked):
+    """The factor's cuts, and that of the ammonia; c = 1 of a whole year on pasture is no cut."""
+    k = k_grazing(hours, CUTS)
+    c = c_grazing(days, hours, k, CUTS)
+    with_rate = Cut(
+        "Housing",
+        "ef_nh3_nhousing:er_housing",
+        c * values.ROUGHAGE_HOUSING_NH3_RATE * BILLION,
+        THOUSANDTHS,
+    )
+    made = [
+        with_rate,
+        Cut(
+            "Housing",
+            "ef_nh3_nhousing:c_free_factor_housing",
+            with_rate.quotient * left,
+            HUNDREDTHS,
+        ),
+        Cut(
+            "Housing",
+            "nh3_nhousing",
+            worked["tan_into_housing"] * housing_nh3_rate(c, left, CUTS),
+            BILLION,
+        ),
+    ]
+    if days * hours >= HOURS_A_YEAR:
+        return made
+    in_housing = DAY * DAYS_A_YEAR - days * hours * TENTHS
+    grown = c_grazing(days, hours, k, EXACT) * BILLION
+    return [Cut("Housing", "c_grazing", grown, int(in_housing)), *made]
