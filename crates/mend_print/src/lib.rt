@@ -48,11 +48,8 @@ pub fn read_file(file: &mut [u8]) -> Input {
     }
 }
 
-// A text on standard output, which may be empty; was all of it written?
+// A text on standard output; was all of it written?
 pub fn print(text: &[u8]) -> bool {
-    if text.len() == 0 {
-        return true;
-    }
     match streams::write_all(text) {
         Outcome::Whole(_) => true,
         Outcome::Broken => {
