@@ -1,5 +1,6 @@
 // What users of the library call, and nothing else. Nothing is asked of a caller beforehand: a file of any bytes and a record of any content
-// get their figures or exactly one refusal. What is promised stands in proofs/, one file a demand.
+// get their figures or exactly one refusal. What the calls on a file write by the rules stands in proofs/Files.antt, the demands in crate
+// `promises`.
 use farm::Checked;
 use farm::Farm;
 use farm::Herd;
