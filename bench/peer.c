@@ -17,12 +17,12 @@ enum { FILE_MOST = 65536, HERDS_MOST = 64, SLOTS = 9, LABEL_MOST = 16 };
 
 enum kind { ROUGHAGE, CATTLE, PIGS };
 
-// The slots of each kind, in the order of 01's list.
-enum { R_CATEGORY, R_ANIMALS, R_EXCRETION, R_TAN, R_FREE, R_DAYS, R_HOURS };
-enum { C_ANIMALS, C_EXCRETION, C_TAN, C_YARD_DAYS, C_YARD, C_FLOOR, C_FREE, C_DAYS, C_HOURS };
-enum { P_ANIMALS, P_EXCRETION, P_TAN, P_HOUSING };
+// The slots of each kind, in the order of 01's list. LEFT is what the free factor leaves, in percent: 100 less it.
+enum { R_CATEGORY, R_ANIMALS, R_EXCRETION, R_TAN, R_LEFT, R_DAYS, R_HOURS };
+enum { C_ANIMALS, C_EXCRETION, C_TAN, C_YARD_DAYS, C_YARD, C_FLOOR, C_LEFT, C_DAYS, C_HOURS };
+enum { P_ANIMALS, P_EXCRETION, P_TAN, P_HOUSING, P_SCRUBBER, P_FLOOR, P_AIR, P_LEFT };
 
-static const uint16_t all_given[] = {0x7f, 0x1ff, 0xf};
+static const uint16_t all_given[] = {0x7f, 0x1ff, 0xff};
 
 static const uint32_t STANDARD = UINT32_MAX;
 
@@ -47,7 +47,7 @@ struct refusal {
 
 // ---- the list of inputs
 
-enum form { NUMBER, OR_STANDARD, NO_STANDARD, CATEGORY, YARD, FLOOR, HOUSING };
+enum form { NUMBER, FREE, OR_STANDARD, NO_STANDARD, CATEGORY, YARD, FLOOR, HOUSING, SCRUBBER, HOUSING_FLOOR, HOUSING_AIR };
 
 struct input {
     uint8_t kind, slot, form, decimals;
@@ -59,7 +59,7 @@ static const struct input inputs[] = {
     {ROUGHAGE, R_ANIMALS, NUMBER, 0, 10000},
     {ROUGHAGE, R_EXCRETION, OR_STANDARD, 3, 200000},
     {ROUGHAGE, R_TAN, OR_STANDARD, 2, 10000},
-    {ROUGHAGE, R_FREE, NUMBER, 0, 100},
+    {ROUGHAGE, R_LEFT, FREE, 0, 100},
     {ROUGHAGE, R_DAYS, NUMBER, 0, 365},
     {ROUGHAGE, R_HOURS, NUMBER, 1, 240},
     {CATTLE, C_ANIMALS, NUMBER, 0, 10000},
@@ -68,13 +68,17 @@ static const struct input inputs[] = {
     {CATTLE, C_YARD_DAYS, NUMBER, 0, 365},
     {CATTLE, C_YARD, YARD, 0, 0},
     {CATTLE, C_FLOOR, FLOOR, 0, 0},
-    {CATTLE, C_FREE, NUMBER, 0, 100},
+    {CATTLE, C_LEFT, FREE, 0, 100},
     {CATTLE, C_DAYS, NUMBER, 0, 365},
     {CATTLE, C_HOURS, NUMBER, 1, 240},
     {PIGS, P_ANIMALS, NUMBER, 0, 10000},
     {PIGS, P_EXCRETION, NO_STANDARD, 3, 200000},
     {PIGS, P_TAN, NO_STANDARD, 2, 10000},
     {PIGS, P_HOUSING, HOUSING, 0, 0},
+    {PIGS, P_SCRUBBER, SCRUBBER, 0, 0},
+    {PIGS, P_FLOOR, HOUSING_FLOOR, 0, 0},
+    {PIGS, P_AIR, HOUSING_AIR, 0, 0},
+    {PIGS, P_LEFT, FREE, 0, 100},
 };
 
 enum { AT_ROUGHAGE = 0, AT_CATTLE = 7, AT_PIGS = 16 };
@@ -111,7 +115,7 @@ static int outdoor_input(struct text name) {
     case 13:
         if (IS(name, "exercise_yard")) return C_YARD;
         return IS(name, "grazing_hours") ? C_HOURS : -1;
-    case 22: return IS(name, "free_correction_factor") ? C_FREE : -1;
+    case 22: return IS(name, "free_correction_factor") ? C_LEFT : -1;
     case 30: return IS(name, "floor_properties_exercise_yard") ? C_FLOOR : -1;
     default: return -1;
     }
@@ -131,7 +135,18 @@ static int find_input(struct text path, struct text name) {
         return -1;
     case 50:
         if (name.length == 22 && IS(path, "Livestock::RoughageConsuming::Housing::CFreeFactor") && IS(name, "free_correction_factor"))
-            return AT_ROUGHAGE + R_FREE;
+            return AT_ROUGHAGE + R_LEFT;
+        return -1;
+    case 46:
+        if (name.length == 12 && IS(path, "Livestock::FatteningPigs::Housing::AirScrubber"))
+            return IS(name, "air_scrubber") ? AT_PIGS + P_SCRUBBER : -1;
+        if (name.length == 22 && IS(path, "Livestock::FatteningPigs::Housing::CFreeFactor"))
+            return IS(name, "free_correction_factor") ? AT_PIGS + P_LEFT : -1;
+        return -1;
+    case 52:
+        if (!IS(path, "Livestock::FatteningPigs::Housing::MitigationOptions")) return -1;
+        if (name.length == 24) return IS(name, "mitigation_housing_floor") ? AT_PIGS + P_FLOOR : -1;
+        if (name.length == 22) return IS(name, "mitigation_housing_air") ? AT_PIGS + P_AIR : -1;
         return -1;
     case 37: return IS(path, "Livestock::RoughageConsuming::Grazing") ? offset(days_input(name), AT_ROUGHAGE + R_DAYS) : -1;
     case 33: return IS(path, "Livestock::OtherCattle::Excretion") ? offset(excretion_input(name), AT_CATTLE) : -1;
@@ -194,6 +209,25 @@ static int find_housing(struct text t) {
     }
 }
 
+enum { NO_SCRUBBER, ACID, BIOTRICKLING };
+
+static int find_scrubber(struct text t) {
+    if (t.length == 12) return IS(t, "biotrickling") ? BIOTRICKLING : -1;
+    if (t.length != 4) return -1;
+    if (IS(t, "none")) return NO_SCRUBBER;
+    return IS(t, "acid") ? ACID : -1;
+}
+
+static int find_housing_floor(struct text t) { return t.length == 4 && IS(t, "none") ? 0 : -1; }
+
+static int find_housing_air(struct text t) {
+    switch (t.length) {
+    case 4: return IS(t, "none") ? 0 : -1;
+    case 21: return IS(t, "low_impuls_air_supply") ? 1 : -1;
+    default: return -1;
+    }
+}
+
 static int is_standard(struct text t) {
     if (t.length != 8) return 0;
     for (size_t i = 0; i < 8; i++) {
@@ -227,6 +261,16 @@ static int64_t find_number(struct text t, uint32_t decimals, uint32_t most) {
     return n <= most ? (int64_t)n : -1;
 }
 
+// What a free factor leaves, in percent, or -1. It alone may be below zero.
+static int64_t find_left(struct text t, uint32_t most) {
+    if (t.length == 0 || t.at[0] != '-') {
+        int64_t taken = find_number(t, 0, most);
+        return taken < 0 ? -1 : 100 - taken;
+    }
+    int64_t added = find_number((struct text){t.at + 1, t.length - 1}, 0, most);
+    return added <= 0 ? -1 : 100 + added;
+}
+
 // The value of an input, or the number of the refusal, 6 or 7.
 static uint32_t read_value(const struct input *input, struct text t, uint32_t *value) {
     int64_t found;
@@ -247,6 +291,10 @@ static uint32_t read_value(const struct input *input, struct text t, uint32_t *v
     case YARD: found = find_yard(t); break;
     case FLOOR: found = find_floor(t); break;
     case HOUSING: found = find_housing(t); break;
+    case SCRUBBER: found = find_scrubber(t); break;
+    case HOUSING_FLOOR: found = find_housing_floor(t); break;
+    case HOUSING_AIR: found = find_housing_air(t); break;
+    case FREE: found = find_left(t, input->most); break;
     default: found = find_number(t, input->decimals, input->most);
     }
     if (found < 0) return 7;
@@ -403,13 +451,18 @@ static void pasture(struct figures *f, uint64_t nh3_rate, uint64_t n2o_rate) {
     f->tan_remain = f->tan_pasture - lost;
 }
 
-// The roughage housing's emission rate in billionths (2.85, 2.87).
-static uint64_t housing_rate(uint64_t days, uint64_t hours, uint64_t free) {
+// The roughage housing's emission rate in billionths (2.85, 2.87), before its ceiling and under it.
+static uint64_t housing_rate_before(uint64_t days, uint64_t hours, uint64_t left) {
     const uint64_t one = 1000000000;
     uint64_t c = one;
     if (days * hours < 87600) c = ((365 - days) * 240 * one + days * (240 - hours) * k[hours]) / (87600 - days * hours);
-    uint64_t rate = c * 275 / 1000 * (100 - free) / 100;
-    return rate < one ? rate : one;
+    return c * 275 / 1000 * left / 100;
+}
+
+static uint64_t at_most(uint64_t most, uint64_t n) { return n < most ? n : most; }
+
+static uint64_t housing_rate(uint64_t days, uint64_t hours, uint64_t left) {
+    return at_most(1000000000, housing_rate_before(days, hours, left));
 }
 
 static void roughage(const uint32_t *v, struct figures *f) {
@@ -425,11 +478,16 @@ static void roughage(const uint32_t *v, struct figures *f) {
     pasture(f, 1250, 100);
     f->n_housing = f->n - f->n_pasture;
     f->tan_housing = f->tan - f->tan_pasture;
-    f->nh3_housing = (int64_t)((uint64_t)f->tan_housing * housing_rate(v[R_DAYS], v[R_HOURS], v[R_FREE]) / 1000000000);
+    f->nh3_housing = (int64_t)((uint64_t)f->tan_housing * housing_rate(v[R_DAYS], v[R_HOURS], v[R_LEFT]) / 1000000000);
 }
 
 static const uint8_t yard_tenths[] = {0, 1, 2, 6};
 static const uint8_t floor_hundredths[] = {100, 50, 25, 10};
+
+// The yard's factor in hundred-thousandths, at most 1.
+static uint64_t yard_factor(const uint32_t *v) {
+    return at_most(100000, 7ull * floor_hundredths[v[C_FLOOR]] * v[C_LEFT]);
+}
 
 static void cattle(const uint32_t *v, struct figures *f) {
     uint64_t n = (uint64_t)v[C_ANIMALS] * v[C_EXCRETION], tan = n * v[C_TAN] / 10000;
@@ -442,13 +500,51 @@ static void cattle(const uint32_t *v, struct figures *f) {
     f->tan = (int64_t)tan;
     f->n_yard = (int64_t)(n * yard / 3650);
     f->tan_yard = (int64_t)(tan * yard / 3650);
-    f->nh3_yard = (int64_t)((uint64_t)f->tan_yard * 7 * floor_hundredths[v[C_FLOOR]] * (100 - v[C_FREE]) / 100000);
+    f->nh3_yard = (int64_t)((uint64_t)f->tan_yard * yard_factor(v) / 100000);
     f->n_pasture = (int64_t)(n * out / 876000);
     f->tan_pasture = (int64_t)(tan * out / 876000);
     pasture(f, 830, 200);
     f->n_housing = f->n - f->n_yard - f->n_pasture;
     f->tan_housing = f->tan - f->tan_yard - f->tan_pasture;
     f->nh3_housing = 0;
+}
+
+// A pig house (2.52 to 2.57, 2.62): its rate in thousandths, its indoor part in tenths, is all of it solid, and its
+// gases in ten-thousandths.
+struct house {
+    uint32_t rate, indoor_tenths, solid, n2, no, n2o;
+};
+
+static const struct house houses[] = {
+    {243, 10, 0, 200, 20, 20},
+    {486, 5, 0, 200, 20, 20},
+    {340, 5, 0, 200, 20, 20},
+    {486, 10, 1, 500, 100, 100},
+    {0, 10, 1, 0, 0, 0},
+};
+static const uint8_t scrubber_tenths[] = {0, 9, 7};
+static const uint8_t air_tenths[] = {0, 2};
+
+// The factors of 2.51 in billionths. None gets to 1: the highest rate is 0.486, and a free factor doubles it at most.
+struct pig_factors {
+    uint64_t before, indoor, grazing, whole;
+};
+
+static struct pig_factors pig_factors(const uint32_t *v) {
+    const struct house *house = &houses[v[P_HOUSING]];
+    struct pig_factors e;
+    e.grazing = house->rate * 1000000ull * v[P_LEFT] / 100;
+    e.before = e.grazing * (10 - air_tenths[v[P_AIR]]) / 10;
+    e.indoor = e.before * (10 - scrubber_tenths[v[P_SCRUBBER]]) / 10;
+    e.whole = house->indoor_tenths * e.indoor / 10 + (10 - house->indoor_tenths) * e.grazing / 10;
+    return e;
+}
+
+// The factor in billionths by which a biotrickling filter takes of the TAN; what an acid scrubber takes goes out with
+// the manure.
+static uint64_t scrubbed_factor(const uint32_t *v) {
+    if (v[P_SCRUBBER] != BIOTRICKLING) return 0;
+    return houses[v[P_HOUSING]].indoor_tenths * scrubber_tenths[BIOTRICKLING] * 10000000ull;
 }
 
 static void pigs(const uint32_t *v, struct figures *f) {
@@ -462,7 +558,7 @@ static void pigs(const uint32_t *v, struct figures *f) {
     pasture(f, 2000, 200);
     f->n_housing = f->n - f->n_pasture;
     f->tan_housing = f->tan - f->tan_pasture;
-    f->nh3_housing = 0;
+    f->nh3_housing = (int64_t)((uint64_t)f->tan_housing * pig_factors(v).whole / 1000000000);
 }
 
 static void figures_of(const struct herd *herd, struct figures *f) {
@@ -577,12 +673,36 @@ static uint8_t *list_cattle(uint8_t *out, const uint8_t *label, size_t length, c
     return out;
 }
 
-static uint8_t *list_pigs(uint8_t *out, const uint8_t *label, size_t length, const struct figures *f) {
+// What a biotrickling filter takes: of the TAN excreted first, then by the factor before the scrubber.
+static int64_t scrubbed_tan(const uint32_t *v, const struct figures *f) {
+    uint64_t reached = (uint64_t)f->tan * scrubbed_factor(v) / 1000000000;
+    return (int64_t)(reached * pig_factors(v).before / 1000000000);
+}
+
+static uint8_t *list_pigs(uint8_t *out, const uint8_t *label, size_t length, const uint32_t *v,
+                          const struct figures *f) {
+    const struct house *house = &houses[v[P_HOUSING]];
+    int64_t scrubbed = scrubbed_tan(v, f);
+    int64_t n = f->n_housing - f->nh3_housing - scrubbed, tan = f->tan_housing - f->nh3_housing - scrubbed;
+    int64_t solid = house->solid ? -1 : 0, liquid = ~solid; // all bits or none
+    int64_t n2 = f->n_housing * house->n2 / 10000, no = f->n_housing * house->no / 10000;
+    int64_t n2o = f->n_housing * house->n2o / 10000;
     LINE(",Livestock::FatteningPigs::Excretion,n_excretion,", f->n);
     LINE(",Livestock::FatteningPigs::Excretion,tan_excretion,", f->tan);
     GRAZING("Livestock::FatteningPigs::Grazing");
     LINE(",Livestock::FatteningPigs::Housing,n_into_housing,", f->n_housing);
     LINE(",Livestock::FatteningPigs::Housing,tan_into_housing,", f->tan_housing);
+    LINE(",Livestock::FatteningPigs::Housing,nh3_nhousing,", f->nh3_housing);
+    LINE(",Livestock::FatteningPigs::Housing,n_outhousing_liquid,", n & liquid);
+    LINE(",Livestock::FatteningPigs::Housing,tan_outhousing_liquid,", tan & liquid);
+    LINE(",Livestock::FatteningPigs::Housing,n_outhousing_solid,", n & solid);
+    LINE(",Livestock::FatteningPigs::Housing,tan_outhousing_solid,", tan & solid);
+    LINE(",Livestock::FatteningPigs::NxOx,n2_nsolid,", n2 & solid);
+    LINE(",Livestock::FatteningPigs::NxOx,no_nsolid,", no & solid);
+    LINE(",Livestock::FatteningPigs::NxOx,n2o_nsolid,", n2o & solid);
+    LINE(",Livestock::FatteningPigs::NxOx,n2_nliquid,", n2 & liquid);
+    LINE(",Livestock::FatteningPigs::NxOx,no_nliquid,", no & liquid);
+    LINE(",Livestock::FatteningPigs::NxOx,n2o_nliquid,", n2o & liquid);
     return out;
 }
 
@@ -594,7 +714,7 @@ static __attribute__((noinline)) uint8_t *list_herd(uint8_t *out, const struct h
     switch (herd->kind) {
     case ROUGHAGE: return list_roughage(out, label, length, &f);
     case CATTLE: return list_cattle(out, label, length, &f);
-    default: return list_pigs(out, label, length, &f);
+    default: return list_pigs(out, label, length, herd->values, &f);
     }
 }
 
@@ -638,7 +758,7 @@ static __attribute__((noinline)) uint8_t *list_totals(uint8_t *out, const struct
 static uint8_t *put_notes(uint8_t *out, const struct herd *herd) {
     static const char *const words[] = {"no", "yes"};
     const uint32_t *v = herd->values;
-    int n_off = 0, tan_off = 0, free_factor = 0, lowered = 0;
+    int n_off = 0, tan_off = 0, free_factor = 0, lowered = 0, above = 0;
     uint8_t label[LABEL_ROOM];
     size_t length = printed_label(herd, label);
     if (herd->kind == ROUGHAGE) {
@@ -646,13 +766,16 @@ static uint8_t *put_notes(uint8_t *out, const struct herd *herd) {
         uint64_t tan = v[R_TAN] == STANDARD ? 4000 : v[R_TAN];
         n_off = n * 10 < standard * 7 || n * 10 > standard * 13;
         tan_off = tan < 2000 || tan > 6000;
-        free_factor = v[R_FREE] != 0;
+        free_factor = v[R_LEFT] != 100;
+        above = housing_rate_before(v[R_DAYS], v[R_HOURS], v[R_LEFT]) > 1000000000;
     } else if (herd->kind == CATTLE) {
-        free_factor = v[C_FREE] != 0;
+        free_factor = v[C_LEFT] != 100;
         lowered = v[C_DAYS] + v[C_YARD_DAYS] > 365 && yard_tenths[v[C_YARD]] > 2;
+    } else {
+        free_factor = v[P_LEFT] != 100;
     }
-    return out + sprintf((char *)out, "%.*s,%s,%s,%s,%s\r\n", (int)length, (const char *)label, words[n_off], words[tan_off],
-                         words[free_factor], words[lowered]);
+    return out + sprintf((char *)out, "%.*s,%s,%s,%s,%s,%s\r\n", (int)length, (const char *)label, words[n_off],
+                         words[tan_off], words[free_factor], words[lowered], words[above]);
 }
 
 // A cut: the module behind the kind's, the name, what was cut off, the divisor.
@@ -686,7 +809,7 @@ static uint8_t *put_cuts(uint8_t *out, const struct herd *herd) {
         uint64_t yard = share * (yard_days - both) + on_both * both;
         CUT("Yard,n_into_yard", f.n * yard, 3650);
         CUT("Yard,tan_into_yard", f.tan * yard, 3650);
-        CUT("Yard,nh3_nyard", f.tan_yard * 7000 * floor_hundredths[v[C_FLOOR]] * (100 - v[C_FREE]), 100000000);
+        CUT("Yard,nh3_nyard", f.tan_yard * yard_factor(v) * 1000, 100000000);
         out_time = v[C_HOURS] * (10 * (days - both) + (10 - on_both) * both);
         out_of = 876000;
         nh3 = 830;
@@ -700,7 +823,7 @@ static uint8_t *put_cuts(uint8_t *out, const struct herd *herd) {
     CUT("Grazing,no_ngrazing", f.n_pasture * 55, 10000);
     CUT("Grazing,n2o_ngrazing", f.n_pasture * n2o, 10000);
     if (herd->kind == ROUGHAGE) {
-        uint64_t days = v[R_DAYS], hours = v[R_HOURS], left = 100 - v[R_FREE], c = one;
+        uint64_t days = v[R_DAYS], hours = v[R_HOURS], left = v[R_LEFT], c = one;
         if (out_time < 87600) {
             uint64_t grown = (365 - days) * 240 * one + days * (240 - hours) * k[hours];
             c = grown / (87600 - out_time);
@@ -708,7 +831,31 @@ static uint8_t *put_cuts(uint8_t *out, const struct herd *herd) {
         }
         CUT("Housing,ef_nh3_nhousing:er_housing", c * 275, 1000);
         CUT("Housing,ef_nh3_nhousing:c_free_factor_housing", c * 275 / 1000 * left, 100);
-        CUT("Housing,nh3_nhousing", f.tan_housing * housing_rate(days, hours, v[R_FREE]), one);
+        CUT("Housing,nh3_nhousing", f.tan_housing * housing_rate(days, hours, left), one);
+    }
+    if (herd->kind == PIGS) {
+        const struct house *house = &houses[v[P_HOUSING]];
+        struct pig_factors e = pig_factors(v);
+        uint64_t rate = house->rate * 1000000ull * v[P_LEFT], air = 10 - air_tenths[v[P_AIR]];
+        uint64_t scrubbed = f.tan * scrubbed_factor(v);
+        uint64_t solid = house->solid ? f.n_housing : 0, liquid = f.n_housing - solid;
+        CUT("Housing,ef_housing_indoor_before_air_scrubber:c_free_factor_housing", rate, 100);
+        CUT("Housing,ef_housing_indoor_before_air_scrubber:red_housing_air", rate / 100 * air, 10);
+        CUT("Housing,ef_housing_indoor", e.before * (10 - scrubber_tenths[v[P_SCRUBBER]]), 10);
+        CUT("Housing,ef_housing_grazing:c_free_factor_housing", rate, 100);
+        CUT("Housing,ef_nh3_nhousing:ef_housing_indoor", house->indoor_tenths * e.indoor, 10);
+        CUT("Housing,ef_nh3_nhousing:ef_housing_grazing", (10 - house->indoor_tenths) * e.grazing, 10);
+        CUT("Housing,nh3_nhousing", f.tan_housing * e.whole, one);
+        if (v[P_SCRUBBER] == BIOTRICKLING) {
+            CUT("Housing,tan_air_scrubber:tan_excretion", scrubbed, one);
+            CUT("Housing,tan_air_scrubber:ef_housing_indoor_before_air_scrubber", scrubbed / one * e.before, one);
+        }
+        CUT("NxOx,n2_nsolid", solid * house->n2, 10000);
+        CUT("NxOx,no_nsolid", solid * house->no, 10000);
+        CUT("NxOx,n2o_nsolid", solid * house->n2o, 10000);
+        CUT("NxOx,n2_nliquid", liquid * house->n2, 10000);
+        CUT("NxOx,no_nliquid", liquid * house->no, 10000);
+        CUT("NxOx,n2o_nliquid", liquid * house->n2o, 10000);
     }
     return out;
 }

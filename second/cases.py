@@ -28,12 +28,14 @@ from inputs import (
 from model import HOURS_A_YEAR, c_grazing, housing_nh3_rate, k_grazing
 from reading import LONGEST_LABEL, MOST_BYTES, MOST_HERDS
 from values import (
+    AIR_SCRUBBERS,
     DAYS_A_YEAR,
     FLOOR_REDUCTIONS,
     GRAMS_A_KILOGRAM,
-    HOUSING_TYPES,
+    HOUSING_AIRS,
     LEAST_OF_STANDARD,
     MOST_OF_STANDARD,
+    PIG_HOUSES,
     ROUGHAGE_STANDARD_KILOGRAMS,
     YARD_SHARES,
 )
@@ -48,7 +50,7 @@ TOO_LONG_FILES = 16
 EXAMPLES = {
     ROUGHAGE: ("red_deer", "25", "40.5", STANDARD, "10", "180", "12.5"),
     CATTLE: ("12", "55.125", "60.25", "200", "not_available", "solid_floor", "0", "200", "8"),
-    PIGS: ("10", "13", "70", "Outdoor"),
+    PIGS: ("10", "13", "70", "Outdoor", "none", "none", "none", "0"),
 }
 
 # Animals, kilograms a head and TAN in percent of the largest herd; all its N is TAN.
@@ -187,6 +189,8 @@ def accepted_texts(kind, listed):
     for places in range(1, listed.values.decimals + 1):
         zeros, nines, one = "0" * places, "9" * places, "1".zfill(places)
         texts += [f"0.{zeros}", f"0.{one}", f"1.{zeros}", f"{most - 1}.{nines}", f"{most}.{zeros}"]
+    if listed.values.least < 0:
+        texts += faults.BELOW_ZERO
     if kind.takes_standard and listed.has_standard:
         texts += WORDS_FOR_STANDARD
     return texts
@@ -292,14 +296,52 @@ def every_tenth_of_an_hour():
 
 
 def every_free_factor():
-    """Each reduction of a large roughage herd's housing and of a large cattle herd's yard."""
+    """Each factor of a large roughage herd's housing, a large cattle herd's yard and a large pig house."""
     large = ("9999", "199.999", "99.99")
-    factors = [str(free) for free in range(FREE_FACTOR.most + 1)]
+    factors = [str(free) for free in range(FREE_FACTOR.least, FREE_FACTOR.most + 1)]
     yield from in_farms(
         ROUGHAGE, (("red_deer", *large, free, "211", "17.3") for free in factors)
     )
     yield from in_farms(
         CATTLE, ((*large, "211", PARTLY, "solid_floor", free, "180", "8.7") for free in factors)
+    )
+    yield from in_farms(
+        PIGS,
+        ((*large, "Slurry_Label_Open", "biotrickling", "none", "low_impuls_air_supply", free) for free in factors),
+    )
+
+
+# Grazing days, hours and free factor: the two whose cut factor is nearest to 1 from below, by 8 and
+# 2,878 billionths, the two nearest from above, by 1,639 and 1,765, and the highest factor of all.
+NEAR_THE_CEILING = (
+    ("364", "23.9", "-84"),
+    ("351", "21", "-81"),
+    ("365", "21", "-56"),
+    ("344", "18.8", "-93"),
+    ("365", "23.9", "-100"),
+)
+
+
+def either_side_of_the_ceiling():
+    """Factors of a roughage housing and of a yard just below 1, just above and far above; a year outside."""
+    herds = (LARGEST, ("9999", "199.999", "99.99"), ("1", "0.009", "100"), ("0", "0", "0"))
+    outside = ("365", "24", "-100")
+    yield from in_farms(
+        ROUGHAGE,
+        (
+            ("wapiti", *herd, free, days, hours)
+            for days, hours, free in (*NEAR_THE_CEILING, outside)
+            for herd in herds
+        ),
+    )
+    yield from in_farms(
+        CATTLE,
+        (
+            (*herd, "211", PARTLY, floor, free, "180", "8.7")
+            for herd in herds
+            for floor in FLOOR_REDUCTIONS
+            for free in ("-42", "-43", "-100")
+        ),
     )
 
 
@@ -322,9 +364,31 @@ def every_yard():
     yield from in_farms(CATTLE, [five_grams])
 
 
-def every_housing_type():
-    pigs = (("10", "13", "70"), LARGEST, ("1", "0.001", "0.01"), ("777", "12.345", "0"))
-    yield from in_farms(PIGS, ((*herd, housing) for housing in HOUSING_TYPES for herd in pigs))
+def every_pig_house():
+    """Each house with each scrubber and air supply, at both ends of the free factor and in between."""
+    frees = ("-100", "-99", "-1", "0", "1", "50", "99", "100")
+    odd, others = ("9999", "199.999", "99.97"), (("10", "13", "70"), LARGEST, ("7", "0.143", "33.33"))
+    houses = list(itertools.product(PIG_HOUSES, AIR_SCRUBBERS, HOUSING_AIRS, frees))
+    herds = [(odd, house) for house in houses]
+    herds += [(others[i % len(others)], house) for i, house in enumerate(houses)]
+    yield from in_farms(
+        PIGS,
+        ((*herd, house, scrubber, "none", air, free) for herd, (house, scrubber, air, free) in herds),
+    )
+
+
+def few_grams_of_pigs():
+    """Each number of grams up to a few, where each cut bites."""
+    biting = (("Slurry_Label", "biotrickling"), ("Slurry_Conventional", "biotrickling"), ("Deep_Litter", "none"))
+    yield from in_farms(
+        PIGS,
+        (
+            ("1", f"0.{grams:03}", share, house, scrubber, "none", "low_impuls_air_supply", "3")
+            for house, scrubber in biting
+            for share in ("100", "97.53")
+            for grams in (1, 2, 3, 4, 5, 6, 7, 8, 9, 10, 11, 12, 13, 14, 19, 20, 49, 50, 99, 100, 499, 500)
+        ),
+    )
 
 
 def either_side_of_each_note():
@@ -338,7 +402,7 @@ def either_side_of_each_note():
                 herds.append((category, "10", kilograms, STANDARD, "0", "200", "12"))
     for share in ("19.99", "20", "20.01", "29.99", "50.01", "59.99", "60", "60.01"):
         herds.append(("bison_older_than_3yr", "10", STANDARD, share, "0", "200", "12"))
-    for free in ("0", "1"):
+    for free in ("0", "1", "-1"):
         herds.append(("rabbit_young", "10", STANDARD, STANDARD, free, "200", "12"))
     yield from in_farms(ROUGHAGE, herds)
 
@@ -401,8 +465,10 @@ def every_file():
     yield from labels()
     yield from every_tenth_of_an_hour()
     yield from every_free_factor()
+    yield from either_side_of_the_ceiling()
     yield from every_yard()
-    yield from every_housing_type()
+    yield from every_pig_house()
+    yield from few_grams_of_pigs()
     yield from either_side_of_each_note()
     yield from many_herds(dice)
     yield from pairs_of_faults(dice)

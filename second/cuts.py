@@ -20,10 +20,16 @@ from model import (
     figures,
     housing_nh3_rate,
     k_grazing,
+    left_by_air,
     left_by_free_factor,
+    pig_factors,
+    pig_house,
+    red_air_scrubber,
+    scrubbed_share,
     share_into_pasture,
     share_into_yard,
     tan_share,
+    yard_factor,
 )
 from values import DAYS_A_YEAR, HOURS_A_DAY, PERCENT
 
@@ -76,12 +82,10 @@ def roughage(given, worked):
 
 
 def cattle(given, worked):
-    floor_left = 1 - values.FLOOR_REDUCTIONS[given["floor_properties_exercise_yard"]]
-    rate = values.YARD_NH3_RATE * floor_left * left_by_free_factor(given)
     return [
         excretion(worked, given["tan_fraction"] * PERCENT),
         *into("Yard", "yard", worked, share_into_yard(given), INTO_YARD),
-        Cut("Yard", "nh3_nyard", worked["tan_into_yard"] * rate, YARD_NH3),
+        Cut("Yard", "nh3_nyard", worked["tan_into_yard"] * yard_factor(given), YARD_NH3),
         *into("Grazing", "grazing", worked, share_into_pasture(given), CATTLE_INTO_PASTURE),
         *gases(worked, values.CATTLE_PASTURE),
     ]
@@ -92,6 +96,9 @@ def pigs(given, worked):
     return [
         excretion(worked, given["tan_fraction"] * PERCENT),
         *gases(worked, values.PIG_PASTURE),
+        *pig_factor_cuts(given),
+        *pig_ammonia_cuts(given, worked),
+        *pig_gas_cuts(given, worked),
     ]
 
 
@@ -149,3 +156,58 @@ def housing(days, hours, left, worked):
     in_housing = DAY * DAYS_A_YEAR - days * hours * TENTHS
     grown = c_grazing(days, hours, k, EXACT) * BILLION
     return [Cut("Housing", "c_grazing", grown, int(in_housing)), *made]
+
+
+def pig_factor_cuts(given):
+    """Those of the factors of 2.51; products with 1 or 0, of area and floor, are no cuts."""
+    house, factors = pig_house(given), pig_factors(given, CUTS)
+    with_free_factor = house.er * left_by_free_factor(given)
+    before, indoor, grazing, _ = (factor * BILLION for factor in factors)
+    return [
+        factor_cut("ef_housing_indoor_before_air_scrubber:c_free_factor_housing", with_free_factor * BILLION, HUNDREDTHS),
+        factor_cut(
+            "ef_housing_indoor_before_air_scrubber:red_housing_air",
+            floor(with_free_factor * BILLION) * left_by_air(given),
+            TENTHS,
+        ),
+        factor_cut("ef_housing_indoor", before * (1 - red_air_scrubber(given)), TENTHS),
+        factor_cut("ef_housing_grazing:c_free_factor_housing", with_free_factor * BILLION, HUNDREDTHS),
+        factor_cut("ef_nh3_nhousing:ef_housing_indoor", house.share_indoor * indoor, TENTHS),
+        factor_cut("ef_nh3_nhousing:ef_housing_grazing", (1 - house.share_indoor) * grazing, TENTHS),
+    ]
+
+
+def factor_cut(name, billionths, divisor):
+    return Cut("Housing", name, billionths, divisor)
+
+
+def pig_ammonia_cuts(given, worked):
+    """That of the ammonia, and with a biotrickling filter those of what it takes."""
+    factors = pig_factors(given, CUTS)
+    ammonia = Cut("Housing", "nh3_nhousing", worked["tan_into_housing"] * factors.ef_nh3_nhousing, BILLION)
+    if given["air_scrubber"] != values.BIOTRICKLING:
+        return [ammonia]
+    reached = Cut(
+        "Housing", "tan_air_scrubber:tan_excretion", scrubbed_share(given) * worked["tan_excretion"], BILLION
+    )
+    before = factors.ef_housing_indoor_before_air_scrubber
+    return [
+        ammonia,
+        reached,
+        Cut(
+            "Housing",
+            "tan_air_scrubber:ef_housing_indoor_before_air_scrubber",
+            reached.quotient * before,
+            BILLION,
+        ),
+    ]
+
+
+def pig_gas_cuts(given, worked):
+    house = pig_house(given)
+    fractions = {"solid": 1 - house.share_liquid, "liquid": house.share_liquid}
+    return [
+        Cut("NxOx", f"{gas}_n{fraction}", worked["n_into_housing"] * share * rate, TEN_THOUSANDTHS)
+        for fraction, share in fractions.items()
+        for gas, rate in vars(house.gases).items()
+    ]

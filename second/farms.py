@@ -3,7 +3,7 @@
 from dataclasses import dataclass
 
 from farmfile import COMMA, QUOTE, RECORD_END, SPECIAL
-from inputs import KINDS, STANDARD, Number, module_path
+from inputs import KINDS, MINUS, STANDARD, Number, module_path
 from reading import LABEL_BYTES, LONGEST_LABEL
 
 LETTERS = sorted(LABEL_BYTES)
@@ -33,10 +33,11 @@ def number_text(dice, rule):
     """A number of the rule, often at an end of its range, with any number of decimals."""
     places = dice.below(rule.decimals + 1)
     scale = 10**places
-    most = rule.most * scale
-    value = {0: 0, 1: 1, 2: most, 3: most}.get(dice.below(20), dice.below(most + 1))
-    whole, rest = divmod(value, scale)
-    return f"{whole}.{rest:0{places}}" if places else str(whole)
+    least, most = rule.least * scale, rule.most * scale
+    value = {0: 0, 1: 1, 2: most, 3: least or most}.get(dice.below(20), dice.between(least, most))
+    whole, rest = divmod(abs(value), scale)
+    text = f"{whole}.{rest:0{places}}" if places else str(whole)
+    return MINUS + text if value < 0 else text
 
 
 def odd_case(dice, word):

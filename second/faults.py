@@ -2,7 +2,7 @@
 
 from farmfile import COMMA, QUOTE, RECORD_END
 from farms import as_record, quoted
-from inputs import CATTLE, PIGS, ROUGHAGE, STANDARD, Number, module_path
+from inputs import CATTLE, MINUS, PIGS, ROUGHAGE, STANDARD, Number, module_path
 from reading import FIELDS_A_RECORD, LONGEST_LABEL
 
 BAD_LABELS = (
@@ -51,7 +51,15 @@ UNLISTED = (
     (module_path(PIGS, "Excretion"), "energy_content"),
     (module_path(PIGS, "Housing"), "housing_type"),
     (module_path(PIGS, "Housing::Type"), "animals"),
-    (module_path(PIGS, "Housing::CFreeFactor"), "free_correction_factor"),
+    (module_path(PIGS, "Housing"), "free_correction_factor"),
+    (module_path(PIGS, "Housing::CFreeFactor"), "air_scrubber"),
+    (module_path(PIGS, "Housing::AirScrubber"), "mitigation_housing_air"),
+    (module_path(PIGS, "Housing::MitigationOptions"), "air_scrubber"),
+    (module_path(PIGS, "Housing::MitigationOptions"), "mitigation_housing"),
+    (module_path(PIGS, "Housing::Type"), "mitigation_housing_floor"),
+    (module_path(PIGS, "NxOx"), "n2_nsolid"),
+    (module_path(ROUGHAGE, "Housing::AirScrubber"), "air_scrubber"),
+    (module_path(CATTLE, "Housing::MitigationOptions"), "mitigation_housing_air"),
     (module_path(PIGS, "Grazing"), "grazing_hours"),
     (module_path(ROUGHAGE, "Housing"), "free_correction_factor"),
     (module_path(ROUGHAGE, "Outdoor"), "grazing_days"),
@@ -90,8 +98,29 @@ BENT_NAMES = (
 BAD_NUMBERS = (
     "",
     " ",
-    "-1",
     "-0",
+    "-",
+    "--5",
+    "-05",
+    "-00",
+    "-0.0",
+    "-.5",
+    "-5.",
+    "- 5",
+    " -5",
+    "-5 ",
+    "5-",
+    "-+5",
+    "+-5",
+    "+5",
+    "-1,5",
+    "-1e1",
+    "-\0",
+    "-standard",
+    "\xe2\x88\x925",
+    f"-{2**32 - 5}",
+    f"-{2**64 - 5}",
+    "-1" + "0" * 400,
     "+1",
     "00",
     "01",
@@ -147,6 +176,9 @@ BAD_NUMBERS = (
     f"1.{2**64}",
 )
 
+# Numbers below 0, which one input alone takes.
+BELOW_ZERO = ("-1", "-5", "-9", "-10", "-25", "-99", "-100")
+
 NEARLY_STANDARD = (
     "standar",
     "standards",
@@ -169,13 +201,17 @@ def bad_numbers(rule):
     too_fine = [f"1.{digits}0", f"0.{digits}1", f"{rule.most}.{digits}0"]
     if rule.decimals:
         beyond.append(f"{rule.most}.{digits[:-1]}1")
-    return (*BAD_NUMBERS, *beyond, *too_fine)
+    if rule.least < 0:
+        below = [MINUS + text for text in (*beyond, *too_fine)]
+    else:
+        below = BELOW_ZERO
+    return (*BAD_NUMBERS, *beyond, *too_fine, *below)
 
 
 def bad_names(names):
-    """Texts that are nearly one of the names."""
+    """Texts that are nearly one of the names, or a name of another list."""
     name = names[0]
-    return (
+    texts = (
         "",
         name.upper(),
         name.swapcase(),
@@ -200,6 +236,11 @@ def bad_names(names):
         "outdoor",
         "slurry_label",
         "Slurry",
+        "Acid",
+        "biotrickling_filter",
+        "None",
+        "low_impulse_air_supply",
+        "low_impuls_air",
         "deer",
         "Fallow_Deer",
         "Lama_older_than_2yr",
@@ -209,6 +250,7 @@ def bad_names(names):
         STANDARD,
         "x" * 5000,
     )
+    return tuple(text for text in texts if text not in names)
 
 
 def bad_values(listed):

@@ -7,6 +7,7 @@ from fractions import Fraction
 import values
 
 NUMBER = re.compile(r"(0|[1-9][0-9]*)(?:\.([0-9]+))?")
+MINUS = "-"
 STANDARD = "standard"
 
 
@@ -27,6 +28,25 @@ class Number:
             return None
         number = Fraction(int(whole + decimals), 10 ** len(decimals))
         return number if number <= self.most else None
+
+    @property
+    def least(self):
+        return 0
+
+
+@dataclass(frozen=True)
+class Signed(Number):
+    """The same from `-most` on: below 0 with a leading minus, behind which no 0 stands (request W3)."""
+
+    def read(self, text):
+        if not text.startswith(MINUS):
+            return super().read(text)
+        number = super().read(text.removeprefix(MINUS))
+        return -number if number else None
+
+    @property
+    def least(self):
+        return -self.most
 
 
 @dataclass(frozen=True)
@@ -63,7 +83,8 @@ EXCRETION_NUMBERS = (
 )
 DAYS = Number(values.DAYS_A_YEAR)
 HOURS = Number(values.HOURS_A_DAY, 1)
-FREE_FACTOR = Number(100)
+FREE_FACTOR = Signed(100)
+MITIGATION = "Housing::MitigationOptions"
 
 ROUGHAGE = Kind(
     "Livestock::RoughageConsuming",
@@ -94,7 +115,11 @@ PIGS = Kind(
     False,
     (
         *EXCRETION_NUMBERS,
-        Input("Housing::Type", "housing_type", OneOf(values.HOUSING_TYPES)),
+        Input("Housing::Type", "housing_type", OneOf(tuple(values.PIG_HOUSES))),
+        Input("Housing::AirScrubber", "air_scrubber", OneOf(tuple(values.AIR_SCRUBBERS))),
+        Input(MITIGATION, "mitigation_housing_floor", OneOf(tuple(values.HOUSING_FLOORS))),
+        Input(MITIGATION, "mitigation_housing_air", OneOf(tuple(values.HOUSING_AIRS))),
+        Input("Housing::CFreeFactor", "free_correction_factor", FREE_FACTOR),
     ),
 )
 KINDS = (ROUGHAGE, CATTLE, PIGS)

@@ -26,10 +26,25 @@ GRAZING = (
 INTO_HOUSING = ("Housing", ("n_into_housing", "tan_into_housing"))
 HOUSING_AMMONIA = ("Housing", ("nh3_nhousing", "n_outhousing", "tan_outhousing"))
 
+PIG_HOUSING = (
+    "Housing",
+    (
+        "nh3_nhousing",
+        "n_outhousing_liquid",
+        "tan_outhousing_liquid",
+        "n_outhousing_solid",
+        "tan_outhousing_solid",
+    ),
+)
+PIG_GASES = (
+    "NxOx",
+    ("n2_nsolid", "no_nsolid", "n2o_nsolid", "n2_nliquid", "no_nliquid", "n2o_nliquid"),
+)
+
 HERD_ORDER = {
     ROUGHAGE: (EXCRETION, GRAZING, INTO_HOUSING, HOUSING_AMMONIA),
     CATTLE: (EXCRETION, YARD, GRAZING, INTO_HOUSING),
-    PIGS: (EXCRETION, GRAZING, INTO_HOUSING),
+    PIGS: (EXCRETION, GRAZING, INTO_HOUSING, PIG_HOUSING, PIG_GASES),
 }
 
 FARM_LABEL = ""

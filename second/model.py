@@ -10,6 +10,7 @@ from functools import cache
 from typing import NamedTuple
 
 import values
+from arithmetic import CUTS
 from inputs import CATTLE, PIGS, ROUGHAGE, STANDARD
 from values import DAYS_A_YEAR, HOURS_A_DAY, PERCENT
 
@@ -54,11 +55,14 @@ def pigs(given, sums):
     excreted = excretion(given, given["inp_n_excretion"], given["tan_fraction"] * PERCENT, sums)
     outdoors = Fraction(given["housing_type"] == values.OUTDOOR)
     grazed = into_grazing(excreted, outdoors, sums)
+    housed = into_housing(excreted, grazed)
     return {
         **excreted,
         **grazed,
         **pasture(grazed, values.PIG_PASTURE, sums),
-        **into_housing(excreted, grazed),
+        **housed,
+        **pig_house_ammonia(given, excreted, housed, sums),
+        **pig_house_gases(given, housed, sums),
     }
 
 
@@ -149,10 +153,7 @@ def into_housing(excreted, grazed, yarded=NO_YARD):
 
 
 def yard_ammonia(given, yarded, sums):
-    floor = 1 - values.FLOOR_REDUCTIONS[given["floor_properties_exercise_yard"]]
-    nh3 = sums.grams(
-        yarded["tan_into_yard"] * values.YARD_NH3_RATE * floor * left_by_free_factor(given)
-    )
+    nh3 = sums.grams(yarded["tan_into_yard"] * yard_factor(given))
     return {
         "nh3_nyard": nh3,
         "n_outyard_liquid": yarded["n_into_yard"] - nh3,
@@ -160,7 +161,18 @@ def yard_ammonia(given, yarded, sums):
     }
 
 
+def yard_factor(given):
+    """Not cut by itself: the ammonia of the yard has one cut."""
+    floor = 1 - values.FLOOR_REDUCTIONS[given["floor_properties_exercise_yard"]]
+    return at_most_1(values.YARD_NH3_RATE * floor * left_by_free_factor(given))
+
+
+def at_most_1(factor):
+    return min(factor, values.MOST_FACTOR)
+
+
 def left_by_free_factor(given):
+    """From 0 to 2: a free factor below zero adds to the ammonia."""
     return 1 - given["free_correction_factor"] * PERCENT
 
 
@@ -208,15 +220,22 @@ def c_grazing(days, hours, k, sums):
     )
 
 
-def housing_nh3_rate(c, left, sums):
+def housing_nh3_rate_before_ceiling(c, left, sums):
     rate = sums.billionths(c * values.ROUGHAGE_HOUSING_NH3_RATE)
-    return min(Fraction(1), sums.billionths(rate * left))
+    return sums.billionths(rate * left)
+
+
+def housing_nh3_rate(c, left, sums):
+    return at_most_1(housing_nh3_rate_before_ceiling(c, left, sums))
+
+
+def c_grazing_of(given, sums):
+    days, hours = given["grazing_days"], given["grazing_hours"]
+    return c_grazing(days, hours, k_grazing(hours, sums), sums)
 
 
 def housing_ammonia(given, housed, sums):
-    days, hours = given["grazing_days"], given["grazing_hours"]
-    c = c_grazing(days, hours, k_grazing(hours, sums), sums)
-    rate = housing_nh3_rate(c, left_by_free_factor(given), sums)
+    rate = housing_nh3_rate(c_grazing_of(given, sums), left_by_free_factor(given), sums)
     nh3 = sums.grams(housed["tan_into_housing"] * rate)
     return {
         "nh3_nhousing": nh3,
@@ -225,16 +244,97 @@ def housing_ammonia(given, housed, sums):
     }
 
 
+# Pig houses (2.51 to 2.60, 2.62)
+
+
+class PigFactors(NamedTuple):
+    """The NH3 emission factors of 2.51, under its names."""
+
+    ef_housing_indoor_before_air_scrubber: Fraction
+    ef_housing_indoor: Fraction
+    ef_housing_grazing: Fraction
+    ef_nh3_nhousing: Fraction
+
+
+def pig_house(given):
+    return values.PIG_HOUSES[given["housing_type"]]
+
+
+def red_air_scrubber(given):
+    return values.AIR_SCRUBBERS[given["air_scrubber"]]
+
+
+def left_by_floor(given):
+    return 1 - values.HOUSING_FLOORS[given["mitigation_housing_floor"]]
+
+
+def left_by_air(given):
+    return 1 - values.HOUSING_AIRS[given["mitigation_housing_air"]]
+
+
+def pig_factors(given, sums):
+    """Cut after each product; the area's and the floor's are products with 1 and cut nothing."""
+    house = pig_house(given)
+    left = left_by_free_factor(given)
+    with_free_factor = sums.billionths(house.er * values.C_AREA * left)
+    with_air = sums.billionths(with_free_factor * left_by_floor(given) * left_by_air(given))
+    before = at_most_1(with_air)
+    indoor = at_most_1(sums.billionths(before * (1 - red_air_scrubber(given))))
+    grazing = at_most_1(sums.billionths(house.er * left) * values.C_AREA)
+    inside = sums.billionths(house.share_indoor * indoor)
+    outside = sums.billionths((1 - house.share_indoor) * grazing)
+    return PigFactors(before, indoor, grazing, at_most_1(inside + outside))
+
+
+def scrubbed_share(given):
+    """What a biotrickling filter takes of the ammonia; what an acid scrubber takes stays with the manure."""
+    if given["air_scrubber"] != values.BIOTRICKLING:
+        return Fraction(0)
+    return pig_house(given).share_indoor * red_air_scrubber(given)
+
+
+def pig_house_ammonia(given, excreted, housed, sums):
+    factors = pig_factors(given, sums)
+    nh3 = sums.grams(housed["tan_into_housing"] * factors.ef_nh3_nhousing)
+    reached = sums.grams(scrubbed_share(given) * excreted["tan_excretion"])
+    scrubbed = sums.grams(reached * factors.ef_housing_indoor_before_air_scrubber)
+    n, tan = (housed[f"{part}_into_housing"] - nh3 - scrubbed for part in ("n", "tan"))
+    liquid = pig_house(given).share_liquid
+    n_liquid, tan_liquid = sums.grams(n * liquid), sums.grams(tan * liquid)
+    return {
+        "nh3_nhousing": nh3,
+        "tan_air_scrubber": scrubbed,
+        "n_outhousing": n,
+        "tan_outhousing": tan,
+        "n_outhousing_liquid": n_liquid,
+        "tan_outhousing_liquid": tan_liquid,
+        "n_outhousing_solid": n - n_liquid,
+        "tan_outhousing_solid": tan - tan_liquid,
+    }
+
+
+def pig_house_gases(given, housed, sums):
+    """The gases of both fractions; the fractions themselves are all or nothing, and no cut."""
+    house = pig_house(given)
+    fractions = {"solid": 1 - house.share_liquid, "liquid": house.share_liquid}
+    return {
+        f"{gas}_n{fraction}": sums.grams(housed["n_into_housing"] * share * rate)
+        for fraction, share in fractions.items()
+        for gas, rate in vars(house.gases).items()
+    }
+
+
 # Notes
 
 
 class Notes(NamedTuple):
-    """Four answers, yes or no, that stand beside a herd's figures, in the order of the rules."""
+    """Five answers, yes or no, that stand beside a herd's figures, in the order of the rules and of the requests."""
 
     n_far_from_standard: bool
     tan_far_from_standard: bool
     free_factor: bool
     share_lowered: bool
+    factor_above_1: bool
 
 
 def notes(herd):
@@ -247,7 +347,13 @@ def notes(herd):
         share_lowered=herd.kind is CATTLE
         and days_with_both(given) > 0
         and yard_share(given) > values.MOST_YARD_SHARE_WITH_GRAZING,
+        factor_above_1=herd.kind is ROUGHAGE and housing_factor_above_1(given),
     )
+
+
+def housing_factor_above_1(given):
+    c, left = c_grazing_of(given, CUTS), left_by_free_factor(given)
+    return housing_nh3_rate_before_ceiling(c, left, CUTS) > values.MOST_FACTOR
 
 
 def n_far_from_standard(given):

@@ -21,7 +21,9 @@ from cuts import cuts
 from dice import Dice
 from farms import farm_lines, file_of, herd_lines, line_for, new_labels, written
 from inputs import CATTLE, HOURS, KINDS, PIGS, ROUGHAGE, Number
-from model import Notes, c_grazing, figures, housing_nh3_rate, k_grazing, notes
+from model import (
+    Notes, c_grazing, figures, housing_nh3_rate, k_grazing, notes, pig_house_ammonia, share_into_yard
+)
 from reading import MOST_BYTES, MOST_HERDS, Refused, read_farm
 from totals import totals
 from urvendlo import CUTS_OFF, NOTES, answer
@@ -29,7 +31,10 @@ from values import DAYS_A_YEAR
 
 # Names the text of source document 001, where that is at hand.
 DOCUMENT = "URVENDLO_001"
+# How far a figure may be from its exact value: in houses farther than elsewhere.
 GRAMS_AWAY = 10
+ROUGHAGE_HOUSING_GRAMS_AWAY = 20
+PIG_HOUSE_GRAMS_AWAY = 40
 HERDS_OF_A_KIND = 1500
 FARMS = 60
 PARTLY = "available_roughage_is_partly_supplied_in_the_exercise_yard"
@@ -70,7 +75,12 @@ OUTDOOR_PIGS = {
     "inp_n_excretion": "13",
     "tan_fraction": "70",
     "housing_type": "Outdoor",
+    "air_scrubber": "none",
+    "mitigation_housing_floor": "none",
+    "mitigation_housing_air": "none",
+    "free_correction_factor": "0",
 }
+HOUSED_PIGS = {**OUTDOOR_PIGS, "housing_type": "Slurry_Conventional"}
 
 LARGEST = {"animals": "10000", "inp_n_excretion": "200", "tan_fraction": "100"}
 
@@ -79,7 +89,10 @@ RANGES = {
     "animals": (("0", "10000"), ("10001", "1.0")),
     "inp_n_excretion": (("0", "0.001", "200", "200.000"), ("200.001", "0.0001", "1.0000")),
     "tan_fraction": (("0", "0.01", "100", "100.00"), ("100.01", "0.001", "1.000")),
-    "free_correction_factor": (("0", "100"), ("101", "1.0")),
+    "free_correction_factor": (
+        ("0", "100", "-1", "-9", "-10", "-25", "-100"),
+        ("101", "1.0", "-0", "-", "--5", "-05", "+5", "-5.0", "-101", "-1000", "5-", "- 5", "-25%"),
+    ),
     "yard_days": (("0", "365"), ("366", "1.0")),
     "grazing_days": (("0", "365"), ("366", "1.0")),
     "grazing_hours": (("0", "0.1", "24", "24.0"), ("24.1", "0.01", "1.00")),
@@ -90,6 +103,10 @@ P1,Livestock::FatteningPigs::Excretion,animals,10\r
 P1,Livestock::FatteningPigs::Excretion,inp_n_excretion,13\r
 P1,Livestock::FatteningPigs::Excretion,tan_fraction,70\r
 P1,Livestock::FatteningPigs::Housing::Type,housing_type,Outdoor\r
+P1,Livestock::FatteningPigs::Housing::AirScrubber,air_scrubber,none\r
+P1,Livestock::FatteningPigs::Housing::MitigationOptions,mitigation_housing_floor,none\r
+P1,Livestock::FatteningPigs::Housing::MitigationOptions,mitigation_housing_air,none\r
+P1,Livestock::FatteningPigs::Housing::CFreeFactor,free_correction_factor,0\r
 """
 PIG_LISTING = b"""\
 P1,Livestock::FatteningPigs::Excretion,n_excretion,130.000\r
@@ -104,6 +121,17 @@ P1,Livestock::FatteningPigs::Grazing,n_remain_grazing,108.485\r
 P1,Livestock::FatteningPigs::Grazing,tan_remain_grazing,69.485\r
 P1,Livestock::FatteningPigs::Housing,n_into_housing,0.000\r
 P1,Livestock::FatteningPigs::Housing,tan_into_housing,0.000\r
+P1,Livestock::FatteningPigs::Housing,nh3_nhousing,0.000\r
+P1,Livestock::FatteningPigs::Housing,n_outhousing_liquid,0.000\r
+P1,Livestock::FatteningPigs::Housing,tan_outhousing_liquid,0.000\r
+P1,Livestock::FatteningPigs::Housing,n_outhousing_solid,0.000\r
+P1,Livestock::FatteningPigs::Housing,tan_outhousing_solid,0.000\r
+P1,Livestock::FatteningPigs::NxOx,n2_nsolid,0.000\r
+P1,Livestock::FatteningPigs::NxOx,no_nsolid,0.000\r
+P1,Livestock::FatteningPigs::NxOx,n2o_nsolid,0.000\r
+P1,Livestock::FatteningPigs::NxOx,n2_nliquid,0.000\r
+P1,Livestock::FatteningPigs::NxOx,no_nliquid,0.000\r
+P1,Livestock::FatteningPigs::NxOx,n2o_nliquid,0.000\r
 ,Livestock,n_excretion,130.000\r
 ,Livestock,tan_excretion,91.000\r
 ,Livestock,n_into_housing,0.000\r
@@ -124,6 +152,29 @@ P1,Livestock::FatteningPigs::Housing,tan_into_housing,0.000\r
 ,Livestock,tan_remain_grazing,69.485\r
 """
 
+# The lines that the totals follow.
+PIG_LINES = 23
+
+# The figures of a house behind its door; of pigs the last three are not listed, of roughage herds the
+# first and the last two are.
+HOUSE_FIGURES = {
+    "nh3_nhousing",
+    "n_outhousing_liquid",
+    "tan_outhousing_liquid",
+    "n_outhousing_solid",
+    "tan_outhousing_solid",
+    "n2_nsolid",
+    "no_nsolid",
+    "n2o_nsolid",
+    "n2_nliquid",
+    "no_nliquid",
+    "n2o_nliquid",
+    "tan_air_scrubber",
+    "n_outhousing",
+    "tan_outhousing",
+}
+HOUSING_AMMONIA_TOTALS = {"nh3_nhousing", "nh3_nhousing_and_yard", "nh3_nlivestock"}
+
 # Module and output name of each line of a herd, written out once more from the rules.
 GRAZING_LINES = """
     Grazing n_into_grazing, Grazing tan_into_grazing, Grazing nh3_ngrazing, Grazing n2_ngrazing,
@@ -141,7 +192,11 @@ HERD_LINES = {
     + "Housing n_into_housing, Housing tan_into_housing",
     PIGS: "Excretion n_excretion, Excretion tan_excretion,"
     + GRAZING_LINES
-    + "Housing n_into_housing, Housing tan_into_housing",
+    + "Housing n_into_housing, Housing tan_into_housing,"
+    + "Housing nh3_nhousing, Housing n_outhousing_liquid, Housing tan_outhousing_liquid,"
+    + "Housing n_outhousing_solid, Housing tan_outhousing_solid,"
+    + "NxOx n2_nsolid, NxOx no_nsolid, NxOx n2o_nsolid,"
+    + "NxOx n2_nliquid, NxOx no_nliquid, NxOx n2o_nliquid",
 }
 
 # What goes in on the left comes out as the sum on the right.
@@ -154,10 +209,19 @@ BALANCES = (
     ("n_into_grazing", (*PASTURE_LOSSES, "n_remain_grazing")),
     ("tan_into_grazing", (*PASTURE_LOSSES, "tan_remain_grazing")),
 )
-ROUGHAGE_BALANCES = (
-    ("n_into_housing", ("nh3_nhousing", "n_outhousing")),
-    ("tan_into_housing", ("nh3_nhousing", "tan_outhousing")),
-)
+BALANCES_OF_KIND = {
+    ROUGHAGE: (
+        ("n_into_housing", ("nh3_nhousing", "n_outhousing")),
+        ("tan_into_housing", ("nh3_nhousing", "tan_outhousing")),
+    ),
+    CATTLE: (),
+    PIGS: (
+        ("n_into_housing", ("nh3_nhousing", "tan_air_scrubber", "n_outhousing")),
+        ("tan_into_housing", ("nh3_nhousing", "tan_air_scrubber", "tan_outhousing")),
+        ("n_outhousing", ("n_outhousing_liquid", "n_outhousing_solid")),
+        ("tan_outhousing", ("tan_outhousing_liquid", "tan_outhousing_solid")),
+    ),
+}
 FARM_BALANCES = (
     *(balance for balance in BALANCES if "into_yard" not in balance[0]),
     ("nh3_nhousing_and_yard", ("nh3_nhousing", "nh3_nyard")),
@@ -188,7 +252,7 @@ def refusal(file):
 def largest_roughage_herds():
     """The largest herd for every tenth of an hour, where the cuts of a factor weigh the most."""
     for tenths in range(HOURS.most * 10 + 1):
-        for days, free in (("1", "0"), ("120", "1"), ("364", "50"), ("365", "0")):
+        for days, free in (("1", "0"), ("120", "1"), ("364", "50"), ("365", "0"), ("364", "-97"), ("365", "-31")):
             yield herd(
                 ROUGHAGE,
                 {**DEER, **LARGEST},
@@ -286,13 +350,26 @@ class EdgeHerds(unittest.TestCase):
         # No accepted farm is this long, so that it is read shows in the other refusal.
         file = PIG_FILE[:-2].ljust(MOST_BYTES, b"r")
         self.assertEqual(len(file), 65536)
-        self.assertEqual(refusal(file), (7, 4))
+        self.assertEqual(refusal(file), (7, 8))
         self.assertEqual(refusal(file + b"r"), (1, 0))
 
     def test_row_10_herds(self):
         herds = [lines_of(PIGS, OUTDOOR_PIGS, f"P{i}") for i in range(MOST_HERDS + 1)]
         self.assertEqual(len(read_farm(file_of(itertools.chain(*herds[:64])))), 64)
-        self.assertEqual(refusal(file_of(itertools.chain(*herds))), (9, 64 * 4 + 1))
+        self.assertEqual(refusal(file_of(itertools.chain(*herds))), (9, 64 * 8 + 1))
+
+
+HOUSE_GRAMS_AWAY = {ROUGHAGE: ROUGHAGE_HOUSING_GRAMS_AWAY, CATTLE: GRAMS_AWAY, PIGS: PIG_HOUSE_GRAMS_AWAY}
+
+
+def most_away(kind, name):
+    """The grams that a herd's figure may be from its exact value."""
+    return HOUSE_GRAMS_AWAY[kind] if name in HOUSE_FIGURES else GRAMS_AWAY
+
+
+def most_away_in_total(kind, name):
+    """The same of a total, for each herd of a kind."""
+    return HOUSE_GRAMS_AWAY[kind] if name in HOUSING_AMMONIA_TOTALS else GRAMS_AWAY
 
 
 class WrongReadings(unittest.TestCase):
@@ -340,6 +417,24 @@ class WrongReadings(unittest.TestCase):
         self.assertEqual([right[name] for name in names], [5, 0, 4, 1])
         self.assertEqual([wrong[name] for name in names], [5, 1, 5, -1])
 
+    def test_a_filter_takes_of_the_excretion(self):
+        """Of outdoor pigs nothing falls in the house; the emission rate of 0 is what makes the filter's share 0."""
+        read = herd(PIGS, OUTDOOR_PIGS, air_scrubber="biotrickling")
+        made = {cut.name: cut.quotient for cut in cuts(read)}
+        self.assertEqual(made["tan_air_scrubber:tan_excretion"], 63700)
+        self.assertEqual(made["tan_air_scrubber:ef_housing_indoor_before_air_scrubber"], 0)
+
+    def test_an_acid_scrubber_loses_nothing(self):
+        """What it takes stays with the manure: only the ammonia is less."""
+        worked = figures(herd(PIGS, HOUSED_PIGS, air_scrubber="acid"), CUTS)
+        self.assertEqual(worked["n_outhousing_liquid"], 130000 - worked["nh3_nhousing"])
+
+    def test_gases_are_of_what_comes_in(self):
+        """And they are not taken off what goes out."""
+        worked = figures(herd(PIGS, HOUSED_PIGS), CUTS)
+        self.assertEqual(worked["n2_nliquid"], 2600)
+        self.assertEqual(worked["n_outhousing_liquid"], 130000 - 22113)
+
     def test_tan_below_zero_stays(self):
         lines = answer(file_of(lines_of(CATTLE, ROW_4))).decode().splitlines()
         right = "Grazing,tan_remain_grazing,-5.226"
@@ -351,12 +446,14 @@ class WrongReadings(unittest.TestCase):
 class Figures(unittest.TestCase):
     """Closeness to the exact values, and balances, for herds of every kind."""
 
-    farthest = 0
+    farthest = {}
 
     def corner_texts(self, listed):
         if not isinstance(listed.values, Number):
             return listed.values.names
-        most, places = listed.values.most, listed.values.decimals
+        least, most, places = listed.values.least, listed.values.most, listed.values.decimals
+        if least < 0:
+            return "0", "1", "-1", f"{most}", f"{least}", f"{least + 1}"
         if places == 0:
             return "0", "1", f"{most - 1}", f"{most}"
         return "0", "0." + "1".zfill(places), f"{most - 1}." + "9" * places, f"{most}"
@@ -376,8 +473,7 @@ class Figures(unittest.TestCase):
     def check_herd(self, read):
         cut, exact = figures(read, CUTS), figures(read, EXACT)
         self.assertEqual(cut.keys(), exact.keys())
-        farthest = self.check_distance(cut, exact, GRAMS_AWAY)
-        Figures.farthest = max(Figures.farthest, farthest)
+        self.check_distance(cut, exact, lambda name: most_away(read.kind, name))
         for worked in (cut, exact):
             self.check_balances(read.kind, worked)
         self.assertTrue(all(isinstance(amount, int) for amount in cut.values()))
@@ -385,13 +481,13 @@ class Figures(unittest.TestCase):
         return cut, exact
 
     def check_distance(self, cut, exact, most):
-        distances = {name: abs(amount - exact[name]) for name, amount in cut.items()}
-        farthest = max(distances, key=distances.get)
-        self.assertLessEqual(distances[farthest], most, farthest)
-        return distances[farthest]
+        for name, amount in cut.items():
+            distance, allowed = abs(amount - exact[name]), most(name)
+            self.assertLessEqual(distance, allowed, name)
+            Figures.farthest[allowed] = max(Figures.farthest.get(allowed, 0), distance)
 
     def check_balances(self, kind, worked):
-        for whole, parts in BALANCES + (ROUGHAGE_BALANCES if kind is ROUGHAGE else ()):
+        for whole, parts in BALANCES + BALANCES_OF_KIND[kind]:
             self.assertEqual(worked.get(whole, 0), sum(worked.get(part, 0) for part in parts))
         for name in worked.keys() - MAY_BE_BELOW_ZERO:
             self.assertGreaterEqual(worked[name], 0, name)
@@ -416,7 +512,9 @@ class Figures(unittest.TestCase):
         """The herds of a farm one by one, and their totals."""
         worked = [self.check_herd(read) for read in herds]
         cut, exact = (totals([both[way] for both in worked]) for way in (0, 1))
-        self.check_distance(cut, exact, GRAMS_AWAY * len(herds))
+        for name, amount in cut.items():
+            most = sum(most_away_in_total(read.kind, name) for read in herds)
+            self.assertLessEqual(abs(amount - exact[name]), most, name)
         for farm in (cut, exact):
             for whole, parts in FARM_BALANCES:
                 self.assertEqual(farm[whole], sum(farm[part] for part in parts), whole)
@@ -468,17 +566,137 @@ class WorkedByHand(unittest.TestCase):
             changes = {"floor_properties_exercise_yard": floor, "free_correction_factor": "25"}
             self.assertEqual(figures(herd(CATTLE, C, **changes), CUTS)["nh3_nyard"], nh3)
 
+    def test_yard_ceiling(self):
+        """87,600 g TAN in the yard: a quarter more of 0.7, and never more than all of it."""
+        for floor, free, nh3 in (
+            ("solid_floor", "-25", 76650),
+            ("solid_floor", "-42", 87074),
+            ("solid_floor", "-43", 87600),
+            ("solid_floor", "-100", 87600),
+            ("unpaved_floor", "-100", 61320),
+        ):
+            changes = {"floor_properties_exercise_yard": floor, "free_correction_factor": free}
+            read = herd(CATTLE, C, **changes)
+            self.assertEqual(figures(read, CUTS)["nh3_nyard"], nh3, changes)
+            self.assertEqual(figures(read, CUTS)["tan_outyard_liquid"], 87600 - nh3, changes)
+            self.assertFalse(notes(read).factor_above_1)
+
+    def test_roughage_ceiling(self):
+        """Nearest to 1 from below and from above; above it all TAN in the house is lost as ammonia."""
+        deer = {**DEER, **LARGEST, "animalcategory": "wapiti"}
+        for days, hours, free, factor, noted in (
+            ("364", "23.9", "-84", 999999992, False),
+            ("365", "21", "-56", 1000001639, True),
+            ("365", "23.9", "-100", 1440993776, True),
+            ("365", "24", "-100", 550000000, False),
+            ("0", "0", "-100", 550000000, False),
+        ):
+            read = herd(
+                ROUGHAGE, deer, grazing_days=days, grazing_hours=hours, free_correction_factor=free
+            )
+            made = {cut.name: cut for cut in cuts(read)}
+            self.assertEqual(made["ef_nh3_nhousing:c_free_factor_housing"].quotient, factor, (days, hours, free))
+            self.assertEqual(notes(read).factor_above_1, noted)
+            worked = figures(read, CUTS)
+            tan = worked["tan_into_housing"]
+            self.assertEqual(worked["nh3_nhousing"], tan * min(factor, BILLION) // BILLION)
+            self.assertEqual(made["nh3_nhousing"].cut_off, tan * min(factor, BILLION) % BILLION)
+            if noted:
+                self.assertEqual((worked["nh3_nhousing"], worked["tan_outhousing"]), (tan, 0))
+
     def test_yard_shares(self):
         for name, n in (("not_available", 0), (NOT_SUPPLIED, 73000), (PARTLY, 146000)):
             worked = figures(herd(CATTLE, C, exercise_yard=name), CUTS)
             self.assertEqual(worked["n_into_yard"], n)
 
-    def test_pig_housing(self):
-        for name in ("Slurry_Conventional", "Slurry_Label", "Slurry_Label_Open", "Deep_Litter"):
+    def test_pig_houses(self):
+        """10 pigs, 13 kg, TAN 70 percent, no measures: NH3 of 91,000 g TAN, gases of 130,000 g N."""
+        for name, nh3, n2, no in (
+            ("Slurry_Conventional", 22113, 2600, 260),
+            ("Slurry_Label", 44226, 2600, 260),
+            ("Slurry_Label_Open", 30940, 2600, 260),
+            ("Deep_Litter", 44226, 6500, 1300),
+        ):
             worked = figures(herd(PIGS, OUTDOOR_PIGS, housing_type=name), CUTS)
-            self.assertEqual(worked["n_into_housing"], 130000)
-            self.assertEqual(worked["tan_into_housing"], 91000)
-            self.assertEqual(worked["tan_remain_grazing"], 0)
+            there, not_there = ("solid", "liquid") if name == "Deep_Litter" else ("liquid", "solid")
+            expected = {
+                "n_into_housing": 130000,
+                "tan_into_housing": 91000,
+                "tan_remain_grazing": 0,
+                "nh3_nhousing": nh3,
+                f"n_outhousing_{there}": 130000 - nh3,
+                f"tan_outhousing_{there}": 91000 - nh3,
+                f"n2_n{there}": n2,
+                f"no_n{there}": no,
+                f"n2o_n{there}": no,
+                f"n_outhousing_{not_there}": 0,
+                f"tan_outhousing_{not_there}": 0,
+                f"n2_n{not_there}": 0,
+                f"no_n{not_there}": 0,
+                f"n2o_n{not_there}": 0,
+            }
+            self.assertEqual({figure: worked[figure] for figure in expected}, expected, name)
+
+    def test_air_scrubbers(self):
+        """What is left of 91,000 g TAN, 0.243 of it or 0.486 indoors and out, and what a filter holds back."""
+        for name, scrubber, nh3, held in (
+            ("Slurry_Conventional", "none", 22113, 0),
+            ("Slurry_Conventional", "acid", 2211, 0),
+            ("Slurry_Conventional", "biotrickling", 6633, 15479),
+            ("Slurry_Label", "none", 44226, 0),
+            ("Slurry_Label", "acid", 24324, 0),
+            ("Slurry_Label", "biotrickling", 28746, 15479),
+            ("Outdoor", "biotrickling", 0, 0),
+        ):
+            worked = figures(herd(PIGS, OUTDOOR_PIGS, housing_type=name, air_scrubber=scrubber), CUTS)
+            self.assertEqual((worked["nh3_nhousing"], worked["tan_air_scrubber"]), (nh3, held), (name, scrubber))
+            n, tan = worked["n_into_housing"], worked["tan_into_housing"]
+            self.assertEqual(worked["n_outhousing"], n - nh3 - held)
+            self.assertEqual(worked["tan_outhousing"], tan - nh3 - held)
+
+    def test_low_impulse_air(self):
+        """0.243 x 0.8 indoors; of the other half of a label house nothing is taken off."""
+        for name, nh3 in (("Slurry_Conventional", 17690), ("Slurry_Label", 39803), ("Deep_Litter", 35380)):
+            texts = {"housing_type": name, "mitigation_housing_air": "low_impuls_air_supply"}
+            self.assertEqual(figures(herd(PIGS, OUTDOOR_PIGS, **texts), CUTS)["nh3_nhousing"], nh3)
+
+    def test_free_factor_of_pigs(self):
+        frees = ("-100", 88452), ("-1", 44668), ("0", 44226), ("1", 43783), ("50", 22113), ("99", 442), ("100", 0)
+        for free, nh3 in frees:
+            texts = {"housing_type": "Slurry_Label", "free_correction_factor": free}
+            self.assertEqual(figures(herd(PIGS, OUTDOOR_PIGS, **texts), CUTS)["nh3_nhousing"], nh3)
+
+    def test_pig_houses_by_whole_numbers(self):
+        """The formulas of 2.51 once more: factors in billionths, percent and tenths."""
+        rates = {
+            "Outdoor": (0, 10),
+            "Slurry_Conventional": (243, 10),
+            "Slurry_Label": (486, 5),
+            "Slurry_Label_Open": (340, 5),
+            "Deep_Litter": (486, 10),
+        }
+        scrubbers = {"acid": 9, "biotrickling": 7, "none": 0}
+        airs = {"low_impuls_air_supply": 2, "none": 0}
+        for name, scrubber, air, free in itertools.product(rates, scrubbers, airs, range(-100, 101)):
+            er, indoors = rates[name]
+            tan = 1999000000 + 7 * free
+            read = herd(
+                PIGS,
+                OUTDOOR_PIGS,
+                housing_type=name,
+                air_scrubber=scrubber,
+                mitigation_housing_air=air,
+                free_correction_factor=str(free),
+            )
+            before = er * 10**6 * (100 - free) // 100 * (10 - airs[air]) // 10
+            indoor = before * (10 - scrubbers[scrubber]) // 10
+            grazing = er * 10**6 * (100 - free) // 100
+            factor = indoors * indoor // 10 + (10 - indoors) * grazing // 10
+            housed = {"n_into_housing": tan, "tan_into_housing": tan}
+            worked = pig_house_ammonia(read.given, {"tan_excretion": tan}, housed, CUTS)
+            self.assertEqual(worked["nh3_nhousing"], tan * factor // 10**9)
+            reached = tan * indoors * scrubbers[scrubber] * 10**7 // 10**9 * (scrubber == "biotrickling")
+            self.assertEqual(worked["tan_air_scrubber"], reached * before // 10**9)
 
     def test_housing_cuts(self):
         for read in largest_roughage_herds():
@@ -489,39 +707,50 @@ class WorkedByHand(unittest.TestCase):
             c = 10**9
             if indoors > 0:
                 c = ((365 - days) * 240 * 10**9 + days * (240 - tenths) * k) // indoors
-            rate = c * 275 // 1000 * (100 - free) // 100
+            rate = min(c * 275 // 1000 * (100 - free) // 100, 10**9)
             tan = 2 * 10**9 - 2 * 10**9 * days * tenths // 87600
             self.assertEqual(figures(read, CUTS)["nh3_nhousing"], tan * rate // 10**9)
 
 
 class Notices(unittest.TestCase):
     def test_notes(self):
-        none = Notes(False, False, False, False)
+        none = Notes(False, False, False, False, False)
         for kind, texts, changes, expected in (
             (ROUGHAGE, DEER, {}, none),
             (ROUGHAGE, DEER, {"tan_fraction": "20"}, none),
             (ROUGHAGE, DEER, {"tan_fraction": "60"}, none),
-            (ROUGHAGE, DEER, {"tan_fraction": "19.99"}, Notes(False, True, False, False)),
-            (ROUGHAGE, DEER, {"tan_fraction": "60.01"}, Notes(False, True, False, False)),
-            (ROUGHAGE, DEER, {"free_correction_factor": "1"}, Notes(False, False, True, False)),
-            (ROUGHAGE, DEER, {"inp_n_excretion": "13.999"}, Notes(True, False, False, False)),
-            (CATTLE, C, {"free_correction_factor": "100"}, Notes(False, False, True, False)),
+            (ROUGHAGE, DEER, {"tan_fraction": "19.99"}, Notes(False, True, False, False, False)),
+            (ROUGHAGE, DEER, {"tan_fraction": "60.01"}, Notes(False, True, False, False, False)),
+            (ROUGHAGE, DEER, {"free_correction_factor": "1"}, Notes(False, False, True, False, False)),
+            (ROUGHAGE, DEER, {"inp_n_excretion": "13.999"}, Notes(True, False, False, False, False)),
+            (ROUGHAGE, DEER, {"free_correction_factor": "-1"}, Notes(False, False, True, False, False)),
+            (
+                ROUGHAGE,
+                DEER,
+                {"free_correction_factor": "-100", "grazing_days": "364", "grazing_hours": "23.9"},
+                Notes(False, False, True, False, True),
+            ),
+            (CATTLE, C, {"free_correction_factor": "100"}, Notes(False, False, True, False, False)),
+            (CATTLE, C, {"free_correction_factor": "-100"}, Notes(False, False, True, False, False)),
+            (PIGS, HOUSED_PIGS, {"free_correction_factor": "-100"}, Notes(False, False, True, False, False)),
             (CATTLE, C, {"tan_fraction": "0", "inp_n_excretion": "0"}, none),
             (CATTLE, C, {"exercise_yard": EXCLUSIVELY, "yard_days": "165"}, none),
             (
                 CATTLE,
                 C,
                 {"exercise_yard": EXCLUSIVELY, "yard_days": "166"},
-                Notes(False, False, False, True),
+                Notes(False, False, False, True, False),
             ),
             (PIGS, OUTDOOR_PIGS, {"tan_fraction": "0", "inp_n_excretion": "200"}, none),
+            (PIGS, OUTDOOR_PIGS, {"free_correction_factor": "1"}, Notes(False, False, True, False, False)),
+            (PIGS, HOUSED_PIGS, {"free_correction_factor": "100"}, Notes(False, False, True, False, False)),
         ):
             self.assertEqual(notes(herd(kind, texts, **changes)), expected, changes)
 
     def test_records(self):
         lowered = {**C, "exercise_yard": EXCLUSIVELY}
         farm = file_of(lines_of(CATTLE, lowered, "Heifers") + lines_of(PIGS, OUTDOOR_PIGS, "A,B"))
-        records = b'Heifers,no,no,no,yes\r\n"A,B",no,no,no,no\r\n'
+        records = b'Heifers,no,no,no,yes,no\r\n"A,B",no,no,no,no,no\r\n'
         for file, expected in ((farm, records), (b"", b""), (b"a", b"refused,3,1\r\n")):
             self.assertEqual(answer(file, NOTES), expected, file)
 
@@ -532,7 +761,25 @@ FACTORS = ["ef_nh3_nhousing:er_housing", "ef_nh3_nhousing:c_free_factor_housing"
 CUT_NAMES = {
     ROUGHAGE: ["tan_excretion", *INTO_GRAZING, *GASES, "c_grazing", *FACTORS, "nh3_nhousing"],
     CATTLE: ["tan_excretion", "n_into_yard", "tan_into_yard", "nh3_nyard", *INTO_GRAZING, *GASES],
-    PIGS: ["tan_excretion", *GASES],
+    PIGS: [
+        "tan_excretion",
+        *GASES,
+        "ef_housing_indoor_before_air_scrubber:c_free_factor_housing",
+        "ef_housing_indoor_before_air_scrubber:red_housing_air",
+        "ef_housing_indoor",
+        "ef_housing_grazing:c_free_factor_housing",
+        "ef_nh3_nhousing:ef_housing_indoor",
+        "ef_nh3_nhousing:ef_housing_grazing",
+        "nh3_nhousing",
+        "tan_air_scrubber:tan_excretion",
+        "tan_air_scrubber:ef_housing_indoor_before_air_scrubber",
+        "n2_nsolid",
+        "no_nsolid",
+        "n2o_nsolid",
+        "n2_nliquid",
+        "no_nliquid",
+        "n2o_nliquid",
+    ],
 }
 
 
@@ -559,6 +806,8 @@ class CutOff(unittest.TestCase):
                 due = list(CUT_NAMES[kind])
                 if kind is ROUGHAGE and read.given["grazing_days"] * read.given["grazing_hours"] >= 8760:
                     due.remove("c_grazing")
+                if kind is PIGS and read.given["air_scrubber"] != "biotrickling":
+                    due = [name for name in due if not name.startswith("tan_air_scrubber")]
                 self.assertEqual([cut.name for cut in cuts(read)], due)
 
     def test_one_gram_off(self):
@@ -592,6 +841,42 @@ class CutOff(unittest.TestCase):
         self.assertEqual(made["ef_nh3_nhousing:c_free_factor_housing"], factor)
         tan = figures(read, CUTS)["tan_into_housing"]
         self.assertEqual(made["nh3_nhousing"], divmod_of(tan * factor[0], BILLION))
+
+    def test_pigs(self):
+        """7 pigs, 13.337 kg, TAN 33.33 percent in a label house with filter and low impulse air, free 7."""
+        texts = {
+            "animals": "7",
+            "inp_n_excretion": "13.337",
+            "tan_fraction": "33.33",
+            "housing_type": "Slurry_Label",
+            "air_scrubber": "biotrickling",
+            "mitigation_housing_air": "low_impuls_air_supply",
+            "free_correction_factor": "7",
+        }
+        made = self.made(herd(PIGS, OUTDOOR_PIGS, **texts))
+        n = 7 * 13337
+        tan = n * 3333 // 10000
+        before, grazing = 361584000, 451980000
+        for name, due in (
+            ("tan_excretion", divmod_of(n * 3333, 10000)),
+            ("ef_housing_indoor_before_air_scrubber:c_free_factor_housing", (grazing, 0, 100)),
+            ("ef_housing_indoor_before_air_scrubber:red_housing_air", (before, 0, 10)),
+            ("ef_housing_indoor", (108475200, 0, 10)),
+            ("ef_housing_grazing:c_free_factor_housing", (grazing, 0, 100)),
+            ("ef_nh3_nhousing:ef_housing_indoor", (54237600, 0, 10)),
+            ("ef_nh3_nhousing:ef_housing_grazing", (225990000, 0, 10)),
+            ("nh3_nhousing", divmod_of(tan * 280227600, BILLION)),
+            ("tan_air_scrubber:tan_excretion", divmod_of(tan * 350000000, BILLION)),
+            (
+                "tan_air_scrubber:ef_housing_indoor_before_air_scrubber",
+                divmod_of(tan * 350000000 // BILLION * before, BILLION),
+            ),
+            ("n2_nsolid", (0, 0, 10000)),
+            ("n2_nliquid", divmod_of(n * 200, 10000)),
+            ("no_nliquid", divmod_of(n * 20, 10000)),
+            ("n2o_nliquid", divmod_of(n * 20, 10000)),
+        ):
+            self.assertEqual(made[name], due, name)
 
     def test_whole_year_on_pasture(self):
         for days, hours, made in (("365", "24", False), ("365", "23.9", True), ("364", "24", True)):
@@ -629,7 +914,7 @@ class Listings(unittest.TestCase):
             self.assertTrue(listing.startswith(first))
 
     def test_no_herds(self):
-        expected = [line.rsplit(b",", 1)[0] + b",0.000" for line in PIG_LISTING.splitlines()[12:]]
+        expected = [line.rsplit(b",", 1)[0] + b",0.000" for line in PIG_LISTING.splitlines()[PIG_LINES:]]
         self.assertEqual(answer(b"").splitlines(), expected)
 
 
@@ -663,6 +948,25 @@ class Refusals(unittest.TestCase):
             for text in faults.bad_values(listed):
                 line = line_for(kind, "H", listed, text)
                 self.assertEqual(refusal(file_of([line])), (7, 1), (listed.name, text))
+
+    def test_names_of_pig_houses(self):
+        """The values are the names of the formulas; a list with one name takes no other."""
+        for name, taken, not_taken in (
+            ("air_scrubber", ("acid", "biotrickling", "none"), ("biotrickling_filter", "Acid", "", "0.9")),
+            ("mitigation_housing_floor", ("none",), ("", "None", "low_impuls_air_supply")),
+            ("mitigation_housing_air", ("low_impuls_air_supply", "none"), ("low_impulse_air_supply", "acid", "")),
+        ):
+            for text in taken:
+                self.assertIsNone(refusal(file_of(lines_of(PIGS, {**OUTDOOR_PIGS, name: text}))), text)
+            for text in not_taken:
+                file = file_of(lines_of(PIGS, {**OUTDOOR_PIGS, name: text}))
+                self.assertEqual(refusal(file)[0], 7, text)
+
+    def test_pigs_lack_an_input(self):
+        for place in range(len(PIGS.inputs)):
+            lines = lines_of(PIGS, OUTDOOR_PIGS)
+            del lines[place]
+            self.assertEqual(refusal(file_of(lines)), (12, 1))
 
     def test_ranges(self):
         for kind, texts in ((ROUGHAGE, DEER), (CATTLE, C), (PIGS, OUTDOOR_PIGS)):
@@ -701,10 +1005,10 @@ class Refusals(unittest.TestCase):
             (b"\0,x,y,z", (4, 1)),
             (b"\xff,x,y,z\r\n", (4, 1)),
             (PIG_FILE[:-2], None),
-            (PIG_FILE[:-1], (2, 4)),
-            (PIG_FILE + b"\r\n", (3, 5)),
-            (PIG_FILE + b"\r", (2, 5)),
-            (PIG_FILE + b'"', (2, 5)),
+            (PIG_FILE[:-1], (2, 8)),
+            (PIG_FILE + b"\r\n", (3, 9)),
+            (PIG_FILE + b"\r", (2, 9)),
+            (PIG_FILE + b'"', (2, 9)),
             (PIG_FILE.replace(b"P1", b'"P1"', 2), None),
             (PIG_FILE.replace(b"P1", b'"P""1"'), (4, 1)),
             (PIG_FILE.replace(b",10\r", b',"10"\r'), None),
@@ -869,9 +1173,43 @@ class Mending(unittest.TestCase):
             self.assertNotEqual(refusal(bare), None)
 
 
+# Rows as the table has them, of the sections on pig houses.
+PIG_ROWS = "\n".join(
+    f'prints "{section}" ({place} "{name}") "{text}"'
+    for section, place, name, text in (
+        ("2.52", "out", "share_indoor", "0.5"),
+        ("2.53", "tech", "er", "0.243"),
+        ("2.53", "tech", "share_liquid", "1"),
+        ("2.54", "tech", "er", "0.486"),
+        ("2.54", "tech", "share_liquid", "1"),
+        ("2.55", "tech", "er", "0.34"),
+        ("2.55", "tech", "share_liquid", "1"),
+        ("2.56", "tech", "er", "0.486"),
+        ("2.56", "tech", "share_liquid", "0"),
+        ("2.57", "tech", "er", "0"),
+        ("2.57", "tech", "share_liquid", "0"),
+        ("2.58", "tech", "red_acid_air_scrubber", "0.9"),
+        ("2.58", "tech", "red_biotrickling_filter_air_scrubber", "0.7"),
+        ("2.59", "tech", "red_low_impuls_air_supply", "0.2"),
+        *(
+            ("2.62", "tech", f"er_{gas}_{fraction}_{house}", rate)
+            for gas, slurry, solid in (("n2", "0.02", "0.05"), ("no", "0.002", "0.01"), ("n2o", "0.002", "0.01"))
+            for house, rate in (("Slurry", slurry), ("Solid", solid))
+            for fraction in ("solid", "liquid")
+        ),
+    )
+)
+
+
 @unittest.skipUnless(DOCUMENT in os.environ, f"{DOCUMENT} does not name the text of 001")
 class PrintedNumbers(unittest.TestCase):
     """The table of printed numbers against the document itself."""
+
+    def test_pig_houses(self):
+        document = Path(os.environ[DOCUMENT]).read_text(encoding="utf-8")
+        self.assertEqual(list(printed.faults(PIG_ROWS, document)), [])
+        wrong = PIG_ROWS.replace('"2.54" (tech "er") "0.486"', '"2.54" (tech "er") "0.243"')
+        self.assertEqual(list(printed.faults(wrong, document)), ["2.54: er is not printed as 0.243"])
 
     def test_table(self):
         table = printed.TABLE.read_text(encoding="utf-8")
@@ -887,5 +1225,6 @@ class PrintedNumbers(unittest.TestCase):
 
 if __name__ == "__main__":
     ran = unittest.main(exit=False, verbosity=0).result
-    print(f"farthest figure of a herd from its exact value: {float(Figures.farthest):.3f} grams")
+    for allowed, farthest in sorted(Figures.farthest.items()):
+        print(f"farthest figure of those that may be {allowed} grams from their exact value: {float(farthest):.3f} grams")
     sys.exit(not ran.wasSuccessful())

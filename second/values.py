@@ -12,6 +12,8 @@ DAYS_A_YEAR = 365
 HOURS_A_DAY = 24
 GRAMS_A_KILOGRAM = 1000
 PERCENT = Fraction(1, 100)
+# 2.85 and 2.51: an emission factor above this is lowered to it; by request W3 in the yard as well.
+MOST_FACTOR = Fraction(1)
 
 
 @dataclass(frozen=True)
@@ -22,6 +24,25 @@ class PastureRates:
     n2: Fraction
     no: Fraction
     n2o: Fraction
+
+
+@dataclass(frozen=True)
+class HouseRates:
+    """What leaves a pig house besides NH3, as shares of the N that falls in it."""
+
+    n2: Fraction
+    no: Fraction
+    n2o: Fraction
+
+
+@dataclass(frozen=True)
+class PigHouse:
+    """A housing type: its emission rate, its liquid share, and the part that indoor measures reach."""
+
+    er: Fraction
+    share_liquid: Fraction
+    share_indoor: Fraction
+    gases: HouseRates
 
 
 # 2.34: the share of a day's excretion that falls on the exercise yard.
@@ -55,15 +76,34 @@ PIG_PASTURE = PastureRates(
     nh3=Fraction("0.2"), n2=Fraction(0), no=Fraction("0.0055"), n2o=Fraction("0.02")
 )
 
-# 2.62 (and 2.52): the housing types; 2.61 singles out the first.
+# 2.61 singles this housing type out.
 OUTDOOR = "Outdoor"
-HOUSING_TYPES = (
-    OUTDOOR,
-    "Slurry_Conventional",
-    "Slurry_Label",
-    "Slurry_Label_Open",
-    "Deep_Litter",
-)
+
+# 2.62: what both fractions of a house's manure give off, as shares of the N into it. The rates
+# of the solid and of the liquid fraction are printed one by one and are the same.
+NO_GASES = HouseRates(n2=Fraction(0), no=Fraction(0), n2o=Fraction(0))
+SLURRY_GASES = HouseRates(n2=Fraction("0.02"), no=Fraction("0.002"), n2o=Fraction("0.002"))
+SOLID_GASES = HouseRates(n2=Fraction("0.05"), no=Fraction("0.01"), n2o=Fraction("0.01"))
+
+# 2.52 to 2.57, 2.62: the housing types.
+PIG_HOUSES = {
+    OUTDOOR: PigHouse(Fraction(0), Fraction(0), Fraction(1), NO_GASES),
+    "Slurry_Conventional": PigHouse(Fraction("0.243"), Fraction(1), Fraction(1), SLURRY_GASES),
+    "Slurry_Label": PigHouse(Fraction("0.486"), Fraction(1), Fraction("0.5"), SLURRY_GASES),
+    "Slurry_Label_Open": PigHouse(Fraction("0.34"), Fraction(1), Fraction("0.5"), SLURRY_GASES),
+    "Deep_Litter": PigHouse(Fraction("0.486"), Fraction(0), Fraction(1), SOLID_GASES),
+}
+
+# 2.52: 1 + area_increase * k_area. Animal places count as equal to the animals, so nothing increases.
+C_AREA = 1
+
+# 2.58: by how much an air scrubber lowers the ammonia. What the second one holds back is lost.
+BIOTRICKLING = "biotrickling"
+AIR_SCRUBBERS = {"acid": Fraction("0.9"), BIOTRICKLING: Fraction("0.7"), "none": Fraction(0)}
+
+# 2.59: by how much the floor and the air supply lower it.
+HOUSING_FLOORS = {"none": Fraction(0)}
+HOUSING_AIRS = {"low_impuls_air_supply": Fraction("0.2"), "none": Fraction(0)}
 
 # 2.84: kilograms of N a head and year, and TAN's share of it.
 ROUGHAGE_STANDARD_KILOGRAMS = {

@@ -2,7 +2,7 @@
 -- the N. Assumes nothing.
 use mathlib.Core.Path.{_≡_, refl}
 use Prim.Native.Nat.{ℕ, _+_, _-_, _*_, _/_, _≤_, _<_, _^_}
-use native.Mathlib.Nat.{mul-le-mul-left, le-refl, le-trans, add-mul-div-right}
+use native.Mathlib.Nat.{mul-le-mul-left, le-refl, le-trans, add-mul-div-right, div-le-of-le-mul}
 use native.Mathlib.Omega.{arith}
 use mir.Syntax.{w64}
 use mir.Val.{Fits}
@@ -14,7 +14,7 @@ use Rattle.amounts.specs.Units.{billionths}
 use Rattle.amounts.specs.Arithmetic.{cutting}
 use Rattle.amounts.specs.Portion.{portion}
 use Rattle.amounts.specs.declared.Parts.{Parts}
-use Rattle.amounts.specs.Bounds.{Fit, PortionOf, PortionsOf, Modest, UpTo}
+use Rattle.amounts.specs.Bounds.{Fit, PortionOf, FitTwice, TwiceOf, PortionsOf, Modest, UpTo}
 
 -- ---- the code's step
 
@@ -26,6 +26,17 @@ module _ (amount shares of : ℕ) (fit : Fit amount shares of) where
   is-portion q e = record { cut = e; is = rw e refl; most = rw e (part-le amount shares of (fit .within)) }
 
 pub ruleset portion-steps = (product-fits, is-portion)
+
+-- the same of up to twice the shares
+module _ (amount shares of : ℕ) (fit : FitTwice amount shares of) where
+  pub twice-fits : Fits w64 (amount * shares)
+  twice-fits = mul-fits (2 ^ 32) (billionths + billionths) tt (omega arith) (omega arith)
+
+  pub is-twice : (q : Quotient) → q ≡ quotientOf (amount * shares) of → TwiceOf amount shares of q
+  is-twice q e =
+      record { cut = e; most = rw e (div-le-of-le-mul of (omega (arith, mul-le-mul-left amount (fit .within)))) }
+
+pub ruleset twice-steps = (twice-fits, is-twice)
 
 -- ---- of shares that the code has found
 

@@ -1,7 +1,7 @@
 -- What the contracts of the formulas' code ask and promise of sizes, so that products fit 64 bits and nothing is taken
 -- from less. No figure of 001 is defined here.
 use mathlib.Core.Path.{_≡_}
-use Prim.Native.Nat.{ℕ, _*_, _≤_, _<_, _^_}
+use Prim.Native.Nat.{ℕ, _+_, _*_, _≤_, _<_, _^_}
 use Rattle.cut.specs.declared.Quotient.{Quotient}
 use Rattle.cut.specs.Cut.{quotientOf}
 use Rattle.amounts.specs.declared.Parts.{Parts}
@@ -30,6 +30,17 @@ pub record PortionOf (amount shares of : ℕ) (q : Quotient) : Type 0 where
   pub cut : q ≡ quotientOf (amount * shares) of
   pub is : q .whole ≡ portion cutting amount shares of
   pub most : q .whole ≤ amount
+
+-- what is asked where the shares may be twice the whole (02, W3), and what comes of it: no more than twice the amount
+pub record FitTwice (amount shares of : ℕ) : Type 0 where
+  pub amount-most : amount < 2 ^ 32
+  pub of-most : of ≤ billionths
+  pub above : 0 < of
+  pub within : shares ≤ of + of
+
+pub record TwiceOf (amount shares of : ℕ) (q : Quotient) : Type 0 where
+  pub cut : q ≡ quotientOf (amount * shares) of
+  pub most : q .whole ≤ amount + amount
 
 -- the same portion of the N and of the TAN: the portion of the TAN is in that of the N
 pub record PortionsOf (n tan shares of : ℕ) (r : Parts) : Type 0 where

@@ -1,7 +1,7 @@
 // The units of the formulas, and a portion of an amount with one cut. Every division of the formulas is that of
-// `portion`, but for c_grazing, which cuts a sum.
+// `portion` or of `portion_to_twice`, but for c_grazing, which cuts a sum.
 use cut::Quotient;
-ghost use Rattle.amounts.specs.Bounds.{Modest, Fit, PortionOf, PortionsOf};
+ghost use Rattle.amounts.specs.Bounds.{Modest, Fit, PortionOf, FitTwice, TwiceOf, PortionsOf};
 
 // Days of a year; a day, in tenths of an hour; a year of such days.
 pub const YEAR: u64 = 365;
@@ -31,6 +31,14 @@ pub struct Parts {
 pub fn portion(amount: u64, shares: u64, of: u64) -> Quotient
     requires { ⌜ Fit amount shares of ⌝ }
     ensures { λ q. ⌜ PortionOf amount shares of q ⌝ }
+{
+    cut::cut(amount * shares, of)
+}
+
+// The same of up to twice the shares that make the whole.
+pub fn portion_to_twice(amount: u64, shares: u64, of: u64) -> Quotient
+    requires { ⌜ FitTwice amount shares of ⌝ }
+    ensures { λ q. ⌜ TwiceOf amount shares of q ⌝ }
 {
     cut::cut(amount * shares, of)
 }

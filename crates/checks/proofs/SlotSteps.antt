@@ -5,20 +5,25 @@ use mathlib.Core.Bool.{Bool, true, false, not, _||_}
 use mathlib.Core.List.{_∷_}
 use native.Mathlib.Omega.{arith}
 use lib.Dec.{leb, ltb}
+use lib.IntN.{ℤ, natAbs}
 use lib.ListN.{length, getD, drop}
+use mir.Syntax.{w64}
+use mir.Val.{SFits}
+use mir.Facts.{toZ-ofZ}
+use Rattle.cut.proofs.Signs.{back}
 use Rattle.names.specs.declared.Names.{Names}
 use Rattle.inputs.specs.declared.Kind.{Kind}
 use Rattle.names.specs.Names.{sizeOf}
 use Rattle.inputs.specs.declared.Form.{Form}
-use Rattle.inputs.specs.declared.Form.the-variants.{Number, OrStandard, NoStandard, OneOf}
+use Rattle.inputs.specs.declared.Form.the-variants.{Number, OrStandard, NoStandard, Signed as ASigned, OneOf}
 use Rattle.inputs.specs.Inputs.{rowsOf, countOf, lastOf, rowAt, formOf}
 use Rattle.farm.specs.Limits.{slots}
 use Rattle.farm.proofs.Slots.{count-most}
 use Rattle.farm.specs.declared.Given.{Given}
-use Rattle.farm.specs.declared.Given.the-variants.{Value}
+use Rattle.farm.specs.declared.Given.the-variants.{Value, Signed}
 use Rattle.farm.specs.declared.Herd.{Herd}
 use Rattle.farm.specs.Herds.{isMissing, noSlot}
-use Rattle.checks.specs.Checks.{valueFits, fits, lacksOne, unfitOne, lacks, unfit}
+use Rattle.checks.specs.Checks.{valueFits, signedFits, fits, lacksOne, unfitOne, lacks, unfit}
 use Rattle.farm.proofs.Left.{left-at, left-end}
 
 -- ---- a value and its form
@@ -39,7 +44,17 @@ one-of-fits v e h = rw (e, h)
 pub value-fits : (form : Form) {given : Given} {v : ℕ} → given ≡ Value v → {r : Bool} → r ≡ valueFits form v → r ≡ fits form given
 value-fits form e h = rw e h
 
-pub ruleset fit-steps = (number-fits, or-standard-fits, no-standard-fits, one-of-fits, value-fits)
+-- as the code reads it, the sign with the bits
+pub signed-fits : {form : Form} {most m : ℕ} (v : ℤ) → SFits w64 v → form ≡ ASigned most → m ≡ natAbs (back v)
+    → leb m most ≡ signedFits form v
+signed-fits v f e h = rw (e, h, toZ-ofZ f)
+
+pub given-signed : (form : Form) {given : Given} {v : ℤ} → SFits w64 v → given ≡ Signed v → {r : Bool}
+    → r ≡ signedFits form (back v) → r ≡ fits form given
+given-signed form f e h = rw (e, ← toZ-ofZ f) h
+
+pub ruleset fit-steps =
+    (number-fits, or-standard-fits, no-standard-fits, one-of-fits, value-fits, signed-fits, given-signed)
 
 -- ---- a kind's inputs
 

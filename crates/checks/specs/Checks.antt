@@ -6,14 +6,15 @@ use mathlib.Core.Bool.{Bool, true, false, not, _||_}
 use mathlib.Core.List.{List, [], _∷_, _++_, map}
 use lib.ListN.{take}
 use lib.Dec.{leb, ltb}
+use lib.IntN.{ℤ, natAbs}
 use Rattle.base.specs.First.{Test, _when_, first}
 use Rattle.names.specs.Names.{sizeOf}
 use Rattle.inputs.specs.declared.Form.{Form}
-use Rattle.inputs.specs.declared.Form.the-variants.{Number, OrStandard, NoStandard, OneOf}
+use Rattle.inputs.specs.declared.Form.the-variants.{Number, OrStandard, NoStandard, Signed as ASigned, OneOf}
 use Rattle.inputs.specs.Inputs.{Row, rowsOf}
 use Rattle.farm.specs.declared.Label.{Label}
 use Rattle.farm.specs.declared.Given.{Given}
-use Rattle.farm.specs.declared.Given.the-variants.{Missing, Standard, Value}
+use Rattle.farm.specs.declared.Given.the-variants.{Missing, Standard, Value, Signed}
 use Rattle.farm.specs.declared.Slot.{Slot}
 use Rattle.farm.specs.declared.Herd.{Herd}
 use Rattle.farm.specs.declared.Farm.{Farm}
@@ -29,6 +30,7 @@ abbrev pub standardFits : Form → Bool
 standardFits (OrStandard d m) = true
 standardFits (Number d m) = false
 standardFits (NoStandard d m) = false
+standardFits (ASigned m) = false
 standardFits (OneOf names) = false
 
 -- a number is one of the form: not above the most, or the place of one of the names
@@ -36,12 +38,22 @@ abbrev pub valueFits : Form → ℕ → Bool
 valueFits (Number d m) v = leb v m
 valueFits (OrStandard d m) v = leb v m
 valueFits (NoStandard d m) v = leb v m
+valueFits (ASigned m) v = false
 valueFits (OneOf names) v = ltb v (sizeOf names)
+
+-- a number that may be below zero: not further from zero than the most
+abbrev pub signedFits : Form → ℤ → Bool
+signedFits (Number d m) v = false
+signedFits (OrStandard d m) v = false
+signedFits (NoStandard d m) v = false
+signedFits (ASigned m) v = leb (natAbs v) m
+signedFits (OneOf names) v = false
 
 abbrev pub fits : Form → Given → Bool
 fits form Missing = true
 fits form Standard = standardFits form
 fits form (Value v) = valueFits form v
+fits form (Signed v) = signedFits form v
 
 -- one of the inputs is missing: its slot says so, or there is none
 abbrev pub lacksOne : List Row → List Slot → Bool

@@ -4,14 +4,15 @@ use Prim.Native.Nat.{ℕ, _<_, _≤_}
 use mathlib.Core.Path.{_≡_}
 use mathlib.Core.Bool.{true, false}
 use mathlib.Core.List.{List, [], _∷_}
+use lib.IntN.{ℤ, natAbs}
 use lib.ListN.{length, getD, take}
 use Rattle.names.specs.declared.Names.{Names}
 use Rattle.names.specs.Names.{sizeOf}
 use Rattle.inputs.specs.declared.Form.{Form}
-use Rattle.inputs.specs.declared.Form.the-variants.{Number, OrStandard, NoStandard, OneOf}
+use Rattle.inputs.specs.declared.Form.the-variants.{Number, OrStandard, NoStandard, Signed as ASigned, OneOf}
 use Rattle.inputs.specs.Inputs.{countOf, formOf}
 use Rattle.farm.specs.declared.Given.{Given}
-use Rattle.farm.specs.declared.Given.the-variants.{Missing, Standard, Value}
+use Rattle.farm.specs.declared.Given.the-variants.{Missing, Standard, Value, Signed}
 use Rattle.farm.specs.declared.Herd.{Herd}
 use Rattle.farm.specs.declared.Farm.{Farm}
 use Rattle.farm.specs.declared.Fault.{Fault}
@@ -34,6 +35,14 @@ pub data OutOfRange : Form → Given → Type 0 where
   standard-forbidden : {decimals most : ℕ} → OutOfRange (NoStandard decimals most) Standard
   standard-no-number : {decimals most : ℕ} → OutOfRange (Number decimals most) Standard
   standard-no-name : {names : Names} → OutOfRange (OneOf names) Standard
+  -- 02, W3: further from zero than the most; and a record has a signed number for a signed input, and for no other
+  signed : {most : ℕ} {v : ℤ} → most < natAbs v → OutOfRange (ASigned most) (Signed v)
+  standard-no-signed : {most : ℕ} → OutOfRange (ASigned most) Standard
+  value-no-signed : {most v : ℕ} → OutOfRange (ASigned most) (Value v)
+  signed-no-number : {decimals most : ℕ} {v : ℤ} → OutOfRange (Number decimals most) (Signed v)
+  signed-or-standard : {decimals most : ℕ} {v : ℤ} → OutOfRange (OrStandard decimals most) (Signed v)
+  signed-no-standard : {decimals most : ℕ} {v : ℤ} → OutOfRange (NoStandard decimals most) (Signed v)
+  signed-no-name : {names : Names} {v : ℤ} → OutOfRange (OneOf names) (Signed v)
 
 -- what the herd's slot says
 abbrev pub givenAt : Herd → ℕ → Given

@@ -16,7 +16,7 @@ ghost use lib.ListN.{take};
 ghost use Rattle.base.specs.First.{first};
 ghost use Rattle.farm.specs.declared.Checked.the-variants.{Accepted};
 ghost use Rattle.farm.specs.Limits.{herdsMost};
-ghost use Rattle.checks.specs.Checks.{standardFits, valueFits, fits, lacks, unfit, hasLabel, inputTests, herdTests, checkHerd, checkFarm};
+ghost use Rattle.checks.specs.Checks.{standardFits, valueFits, signedFits, fits, lacks, unfit, hasLabel, inputTests, herdTests, checkHerd, checkFarm};
 
 // Is this a value of the form? What is missing is no wrong value.
 fn fits_form(form: Form, given: Given) -> bool
@@ -26,6 +26,7 @@ fn fits_form(form: Form, given: Given) -> bool
         Given::Missing => true,
         Given::Standard => standard_fits(form),
         Given::Value(v) => value_fits(form, v),
+        Given::Signed(v) => signed_fits(form, v),
     }
 }
 
@@ -36,6 +37,7 @@ fn standard_fits(form: Form) -> bool
         Form::Number(_, _) => false,
         Form::OrStandard(_, _) => true,
         Form::NoStandard(_, _) => false,
+        Form::Signed(_) => false,
         Form::OneOf(_) => false,
     }
 }
@@ -47,7 +49,20 @@ fn value_fits(form: Form, v: u32) -> bool
         Form::Number(_, most) => v <= most,
         Form::OrStandard(_, most) => v <= most,
         Form::NoStandard(_, most) => v <= most,
+        Form::Signed(_) => false,
         Form::OneOf(names) => (v as usize) < names::size_of(names),
+    }
+}
+
+fn signed_fits(form: Form, v: i64) -> bool
+    ensures { λ r. ⌜ r ≡ signedFits form v ⌝ }
+{
+    match form {
+        Form::Number(_, _) => false,
+        Form::OrStandard(_, _) => false,
+        Form::NoStandard(_, _) => false,
+        Form::Signed(most) => cut::magnitude(v) <= most as u64,
+        Form::OneOf(_) => false,
     }
 }
 

@@ -7,7 +7,7 @@ use Rattle.cuts.specs.Names.{rows}
 
 -- section and name, with what stands around them
 abbrev pub longestMiddle : ℕ
-longestMiddle = 48
+longestMiddle = 70
 
 -- two numbers of at most 20 digits, a comma and CRLF
 abbrev pub longestNumbers : ℕ

@@ -22,7 +22,7 @@ ghost use Rattle.cut_lines.specs.Lines.{cutsListing, farmCuts};
 ghost use Rattle.cut_lines.specs.Rooms.{longestCuts, cutsRoom};
 
 // How long a record's parts can be: section and name; two numbers of at most 20 digits, a comma and CRLF.
-const MIDDLE_MOST: usize = 48;
+const MIDDLE_MOST: usize = 70;
 
 const NUMBERS_MOST: usize = 20 + 1 + 20 + 2;
 

@@ -35,7 +35,7 @@ fn put_line(
         return at;
     }
     let a = blocks::put_text(out, at, owner);
-    let b = blocks::put_text(out, a, middle);
+    let b = base::put(out, a, middle);
     put_numbers(out, b, cut_off, divisor)
 }
 

@@ -2,7 +2,7 @@
 // where each starts. A constant table is built anew at each use: a call builds it once and lends it.
 use cuts::names;
 
-pub const MIDDLES: [u8; 353] = *b"\
+pub const MIDDLES: [u8; 868] = *b"\
 ::Excretion,tan_excretion,\
 ::Yard,n_into_yard,\
 ::Yard,tan_into_yard,\
@@ -16,7 +16,21 @@ pub const MIDDLES: [u8; 353] = *b"\
 ::Housing,c_grazing,\
 ::Housing,ef_nh3_nhousing:er_housing,\
 ::Housing,ef_nh3_nhousing:c_free_factor_housing,\
-::Housing,nh3_nhousing,";
+::Housing,ef_housing_indoor_before_air_scrubber:c_free_factor_housing,\
+::Housing,ef_housing_indoor_before_air_scrubber:red_housing_air,\
+::Housing,ef_housing_indoor,\
+::Housing,ef_housing_grazing:c_free_factor_housing,\
+::Housing,ef_nh3_nhousing:ef_housing_indoor,\
+::Housing,ef_nh3_nhousing:ef_housing_grazing,\
+::Housing,nh3_nhousing,\
+::Housing,tan_air_scrubber:tan_excretion,\
+::Housing,tan_air_scrubber:ef_housing_indoor_before_air_scrubber,\
+::NxOx,n2_nsolid,\
+::NxOx,no_nsolid,\
+::NxOx,n2o_nsolid,\
+::NxOx,n2_nliquid,\
+::NxOx,no_nliquid,\
+::NxOx,n2o_nliquid,";
 
 pub const STARTS: [usize; names::COUNT + 1] = [
     0,
@@ -33,7 +47,21 @@ pub const STARTS: [usize; names::COUNT + 1] = [
     245,
     282,
     330,
-    353,
+    400,
+    464,
+    492,
+    543,
+    587,
+    632,
+    655,
+    696,
+    761,
+    778,
+    795,
+    813,
+    831,
+    849,
+    868,
 ];
 
 // The names, in the order in which they are listed.
@@ -51,5 +79,19 @@ pub const LINES: [usize; names::COUNT] = [
     names::C_GRAZING,
     names::EF_NH3_NHOUSING_ER_HOUSING,
     names::EF_NH3_NHOUSING_C_FREE_FACTOR_HOUSING,
+    names::EF_HOUSING_INDOOR_BEFORE_AIR_SCRUBBER_C_FREE_FACTOR_HOUSING,
+    names::EF_HOUSING_INDOOR_BEFORE_AIR_SCRUBBER_RED_HOUSING_AIR,
+    names::EF_HOUSING_INDOOR,
+    names::EF_HOUSING_GRAZING_C_FREE_FACTOR_HOUSING,
+    names::EF_NH3_NHOUSING_EF_HOUSING_INDOOR,
+    names::EF_NH3_NHOUSING_EF_HOUSING_GRAZING,
     names::NH3_NHOUSING,
+    names::TAN_AIR_SCRUBBER_TAN_EXCRETION,
+    names::TAN_AIR_SCRUBBER_EF_HOUSING_INDOOR_BEFORE_AIR_SCRUBBER,
+    names::N2_NSOLID,
+    names::NO_NSOLID,
+    names::N2O_NSOLID,
+    names::N2_NLIQUID,
+    names::NO_NLIQUID,
+    names::N2O_NLIQUID,
 ];

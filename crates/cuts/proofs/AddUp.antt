@@ -19,6 +19,8 @@ use Rattle.amounts.specs.Dividing.{Divided, uncut, division, handed, worth, div
 use Rattle.kinds.specs.declared.Roughage.{Roughage}
 use Rattle.kinds.specs.declared.Cattle.{Cattle}
 use Rattle.kinds.specs.declared.Pigs.{Pigs}
+use Rattle.kinds.specs.declared.AirScrubber.{AirScrubber}
+use Rattle.kinds.specs.declared.AirScrubber.the-variants as scrubber
 use Rattle.kinds.specs.declared.Inputs.{Inputs}
 use Rattle.kinds.specs.declared.Inputs.the-variants as kinds
 use Rattle.cuts.specs.Names.{Told, Row, rows, cutNumber}
@@ -74,7 +76,12 @@ cattle-names c = refl
 
 pigs-names : (p : Pigs) → namesMade (cutsOf (kinds.Pigs p)) ≡ madeNames (kinds.Pigs p)
 unfolding cutsOf
-pigs-names p = refl
+pigs-names p = go (p .«air_scrubber») refl
+  where
+    go : (s : AirScrubber) → p .«air_scrubber» ≡ s → namesMade (cutsOf (kinds.Pigs p)) ≡ madeNames (kinds.Pigs p)
+    go scrubber.Acid e = rw e refl
+    go scrubber.Biotrickling e = rw e refl
+    go scrubber.None e = rw e refl
 
 -- no cut is missing, and none is there that is not made
 pub cuts-named : (i : Inputs) → namesMade (cutsOf i) ≡ madeNames i

@@ -1,6 +1,6 @@
 -- The formulas on the arithmetic that tells of divisions give the figures, number by number: so the quotient of a cut
 -- that has a figure's name is that figure. Assumes nothing.
-use Prim.Native.Nat.{ℕ, zero, suc}
+use Prim.Native.Nat.{ℕ, zero, suc, _-_}
 use Prim.Native.String.{String}
 use mathlib.Core.Path.{_≡_, refl, sym, ap, _∙_}
 use mathlib.Core.List.{List, [], _∷_, map}
@@ -9,38 +9,50 @@ use lib.Dec.{ltb}
 use lib.IntN.{ℤ, pos}
 use Rattle.base.specs.Each.{Each, none, more}
 use Rattle.amounts.specs.Arithmetic.{cutting}
-use Rattle.amounts.specs.Dividing.{Left, dividing}
-use Rattle.kinds.specs.declared.HousingType.{HousingType}
-use Rattle.kinds.specs.declared.HousingType.the-variants as housed
+use Rattle.amounts.specs.Dividing.{Divided, worth, Left, dividing}
+use Rattle.kinds.specs.declared.AirScrubber.{AirScrubber}
+use Rattle.kinds.specs.declared.AirScrubber.the-variants as scrubber
 use Rattle.kinds.specs.declared.Inputs.{Inputs}
 use Rattle.kinds.specs.declared.Inputs.the-variants as kinds
-use Rattle.excretion.specs.Excretion.{excreted}
 use Rattle.housing.proofs.InHousing.{grown-whole}
+use Rattle.pig_house.specs.Parameters.{«share_liquid»}
+use Rattle.pig_house.specs.PigHouse.{allOrNothing, keptBy}
 use Rattle.outputs.specs.Names as outputs
 use Rattle.outputs.specs.Names.{figures, number}
 use Rattle.outputs.specs.Grams.{figure}
-use Rattle.herd.specs.Herd.{pigsOn, figuresIn, figuresOf}
+use Rattle.herd.specs.Herd.{figuresIn, figuresOf}
 use Rattle.cuts.specs.Names.{noFigure, texts}
 use Rattle.cuts.specs.Cuts.{passing}
 use Rattle.cuts.specs.Herd.{quotientUnder}
+use Rattle.cuts.proofs.Steps.{pigs-whole}
 
 abbrev lefts : List Left → List ℤ
 lefts l = map (λ (x : Left). x .left) l
 
-pigs-agree : (t : HousingType) (animals grams fraction : ℕ)
-    → lefts (figures dividing (pigsOn dividing t (excreted dividing animals grams fraction)))
-    ≡ figures cutting (pigsOn cutting t (excreted cutting animals grams fraction))
-pigs-agree housed.Outdoor animals grams fraction = refl
-pigs-agree housed.SlurryConventional animals grams fraction = refl
-pigs-agree housed.SlurryLabel animals grams fraction = refl
-pigs-agree housed.SlurryLabelOpen animals grams fraction = refl
-pigs-agree housed.DeepLitter animals grams fraction = refl
+-- all or nothing is the same on either arithmetic, and so is what a scrubber keeps
+shared-whole : (share : ℕ) (d : Divided) → worth (allOrNothing dividing share d) ≡ allOrNothing cutting share (worth d)
+shared-whole zero d = refl
+shared-whole (suc share) d = refl
+
+kept-whole : (s : AirScrubber) (d : Divided) → worth (keptBy dividing s d) ≡ keptBy cutting s (worth d)
+kept-whole scrubber.Acid d = refl
+kept-whole scrubber.Biotrickling d = refl
+kept-whole scrubber.None d = refl
 
 pub figures-agree : (i : Inputs)
     → lefts (figures dividing (figuresIn dividing i)) ≡ figures cutting (figuresIn cutting i)
 figures-agree (kinds.Roughage r) = rw (grown-whole (r .«grazing_days») (r .«grazing_hours»)) refl
 figures-agree (kinds.Cattle c) = refl
-figures-agree (kinds.Pigs p) = pigs-agree (p .«housing_type») (p .animals) (p .«inp_n_excretion») (p .«tan_fraction»)
+figures-agree (kinds.Pigs p) =
+    rw (
+      pigs-whole (p .«housing_type») _,
+      pigs-whole (p .«housing_type») _,
+      kept-whole (p .«air_scrubber») _,
+      shared-whole («share_liquid» (p .«housing_type»)) _,
+      shared-whole («share_liquid» (p .«housing_type»)) _,
+      shared-whole («share_liquid» (p .«housing_type»)) _,
+      shared-whole (1 - «share_liquid» (p .«housing_type»)) _,
+    ) refl
 
 left-at : (l : List Left) (n : ℕ) → getD (lefts l) n (pos 0) ≡ getD l n noFigure .left
 left-at [] n = refl
@@ -73,4 +85,10 @@ quotients-are-figures i =
     (more (told-figure i "no_ngrazing")
     (more (told-figure i "n2o_ngrazing")
     (more (told-figure i "nh3_nhousing")
-    none))))))))))
+    (more (told-figure i "n2_nsolid")
+    (more (told-figure i "no_nsolid")
+    (more (told-figure i "n2o_nsolid")
+    (more (told-figure i "n2_nliquid")
+    (more (told-figure i "no_nliquid")
+    (more (told-figure i "n2o_nliquid")
+    none))))))))))))))))

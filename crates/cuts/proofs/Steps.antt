@@ -8,7 +8,7 @@ use Rattle.cut.specs.Cut.{undivided}
 use Rattle.amounts.specs.declared.Parts.{Parts}
 use Rattle.amounts.specs.Units.{tenths, percent, tenThousandths, billionths, year, day}
 use Rattle.amounts.specs.Arithmetic.{cutting}
-use Rattle.amounts.specs.Dividing.{Divided, worth, dividing}
+use Rattle.amounts.specs.Dividing.{Divided, uncut, worth, dividing}
 use Rattle.amounts.specs.Bounds.{mostN, Modest, PortionOf, PortionsOf, UpTo}
 use Rattle.kinds.specs.declared.Outdoor.{Outdoor}
 use Rattle.kinds.specs.declared.Roughage.{Roughage}
@@ -28,16 +28,38 @@ use Rattle.yard.specs.Yard.{yardTime, «ef_nh3_nyard»}
 use Rattle.pasture.specs.declared.Gases.{Gases}
 use Rattle.pasture.specs.Pasture.{outdoorGrazingTime, roughageGrazingTime, pigsIntoGrazing}
 use Rattle.pasture.specs.Bounds.{Emitted}
-use Rattle.pasture.proofs.Into.{pigs-pasture-modest}
+use Rattle.pasture.proofs.Into.{pigs-into-le, pigs-pasture-modest}
 use Rattle.housing.specs.declared.Factors.{Factors}
-use Rattle.housing.specs.Housing.{factors, noFactors, handedFactors, «ef_nh3_nhousing»}
+use Rattle.housing.specs.Housing.{factors, noFactors, handedFactors}
+use Rattle.housing.specs.Housing as house
 use Rattle.housing.proofs.InHousing.{grown-whole}
+use Rattle.pig_house.specs.declared.PigFactors.{PigFactors}
+use Rattle.pig_house.specs.declared.Scrubbed.{Scrubbed}
+use Rattle.pig_house.specs.declared.NxOx.{NxOx}
+use Rattle.pig_house.specs.PigHouse.{
+  pigFactors,
+  keptBack,
+  noPigFactors,
+  noScrubbed,
+  handedPigFactors,
+  handedScrubbed,
+  «ef_nh3_nhousing»,
+}
+use Rattle.pig_house.specs.NxOx.{nxOx, noNxOx, handedNxOx}
 use Rattle.cuts.specs.declared.Cuts.{Cuts}
-use Rattle.cuts.specs.Cuts.{cutsFrom, inOrder, noParts}
+use Rattle.cuts.specs.Cuts.{cutsFrom, inOrder, withoutPigHouse, noParts}
 use Rattle.cuts.specs.Herd.{roughageNames, outdoorNames, pigsNames, toldRoughage, toldOutdoor, toldPigs, cutsUnder, cutsOf}
 
 pub are-no-parts : (q : Quotient) → q ≡ undivided 0 → _≡_ {A = Parts} (record { n = q; tan = q }) noParts
 are-no-parts q e = rw e refl
+
+-- a kind without a pig house
+module _ (tan nh3Yard nh3Housing : Quotient) (yard grazing : Parts) (g : Gases) (f : Factors) {h : PigFactors}
+    {k : Scrubbed} {x : NxOx} {c : Cuts} where
+  pub is-without : h ≡ handedPigFactors (noPigFactors dividing) → k ≡ handedScrubbed (noScrubbed dividing)
+      → x ≡ handedNxOx (noNxOx dividing) → c ≡ cutsFrom (inOrder tan yard nh3Yard grazing g f h nh3Housing k x)
+      → c ≡ cutsFrom (withoutPigHouse tan yard nh3Yard grazing g f nh3Housing)
+  is-without eh ek ex ec = ec ∙ rw (eh, ek, ex) refl
 
 -- ---- roughage-consuming animals
 
@@ -46,9 +68,9 @@ module _ (r : Roughage) {n fraction : ℕ} {tan nh3 none : Quotient} {yard into 
   pub is-roughage-from : PortionOf n fraction tenThousandths tan
       → PortionsOf n (tan .whole) (roughageGrazingTime r) (day * year) into
       → RatesOf roughageRates s → Emitted s (into .n .whole) (into .tan .whole) g
-      → PortionOf (tan .whole - into .tan .whole) («ef_nh3_nhousing» cutting r) billionths nh3
+      → PortionOf (tan .whole - into .tan .whole) (house.«ef_nh3_nhousing» cutting r) billionths nh3
       → f ≡ handedFactors (factors dividing r) → yard ≡ noParts → none ≡ undivided 0
-      → c ≡ cutsFrom (inOrder tan yard none into g f nh3)
+      → c ≡ cutsFrom (withoutPigHouse tan yard none into g f nh3)
       → c ≡ cutsUnder roughageNames (toldRoughage r (withTan dividing n fraction))
   is-roughage-from et ei er eg eh ef ey eo ec =
       ec
@@ -91,7 +113,7 @@ module _ (r : Rates) (o : Outdoor) {n fraction : ℕ} {tan nh3 none : Quotient} 
       → PortionsOf n (tan .whole) (outdoorGrazingTime o) (day * (tenths * year)) into
       → Emitted r (into .n .whole) (into .tan .whole) g
       → f ≡ handedFactors (noFactors dividing) → none ≡ undivided 0
-      → c ≡ cutsFrom (inOrder tan yard nh3 into g f none)
+      → c ≡ cutsFrom (withoutPigHouse tan yard nh3 into g f none)
       → c ≡ cutsUnder outdoorNames (toldOutdoor r o (withTan dividing n fraction))
   is-outdoor-from et ey ea ei eg ef eo ec =
       ec
@@ -111,6 +133,9 @@ module _ (t : HousingType) {n tan nInto tanInto : ℕ} (m : Modest n tan) (en : 
   pub pigs-modest : Modest nInto tanInto
   pigs-modest = rw (en, et) (pigs-pasture-modest t n tan m)
 
+pub pigs-in : (t : HousingType) {amount into : ℕ} → into ≡ pigsIntoGrazing cutting t amount → into ≤ amount
+pigs-in t {amount} e = rw e (pigs-into-le t amount)
+
 -- what pigs put on pasture is the same on either arithmetic
 pub pigs-whole : (t : HousingType) (d : Divided)
     → worth (pigsIntoGrazing dividing t d) ≡ pigsIntoGrazing cutting t (worth d)
@@ -120,31 +145,42 @@ pigs-whole housed.SlurryLabel d = refl
 pigs-whole housed.SlurryLabelOpen d = refl
 pigs-whole housed.DeepLitter d = refl
 
-module _ (p : Pigs) {n nInto tanInto : ℕ} {tan none : Quotient} {yard into : Parts} {s : Rates} {g : Gases}
-    {f : Factors} {c : Cuts} where
-  pub is-pigs : UpTo mostN (p .animals * p .«inp_n_excretion») n → PortionOf n (p .«tan_fraction») tenThousandths tan
+module _ (p : Pigs) {n nInto tanInto : ℕ} {tan nh3 none : Quotient} {yard : Parts} {s : Rates} {g : Gases}
+    {f : Factors} {h : PigFactors} {k : Scrubbed} {x : NxOx} {c : Cuts} where
+  pub is-pigs-from : PortionOf n (p .«tan_fraction») tenThousandths tan
       → nInto ≡ pigsIntoGrazing cutting (p .«housing_type») n
       → tanInto ≡ pigsIntoGrazing cutting (p .«housing_type») (tan .whole)
-      → RatesOf pigsRates s → Emitted s nInto tanInto g → f ≡ handedFactors (noFactors dividing)
-      → yard ≡ noParts → into ≡ noParts → none ≡ undivided 0
-      → c ≡ cutsFrom (inOrder tan yard none into g f none) → c ≡ cutsOf (kinds.Pigs p)
-  unfolding cutsOf
-  is-pigs en et ei ej er eg ef ey ea eo ec =
+      → RatesOf pigsRates s → Emitted s nInto tanInto g
+      → h ≡ handedPigFactors (pigFactors dividing p)
+      → PortionOf (tan .whole - tanInto) («ef_nh3_nhousing» cutting p) billionths nh3
+      → k ≡ handedScrubbed (keptBack dividing p (uncut (tan .whole)))
+      → x ≡ handedNxOx (nxOx dividing (p .«housing_type») (uncut (n - nInto)))
+      → f ≡ handedFactors (noFactors dividing) → yard ≡ noParts → none ≡ undivided 0
+      → c ≡ cutsFrom (inOrder tan yard none yard g f h nh3 k x)
+      → c ≡ cutsUnder pigsNames (toldPigs p (withTan dividing n (p .«tan_fraction»)))
+  is-pigs-from et ei ej er eg eh ea ek ex ef ey eo ec =
       ec
       ∙ rw (
         ef,
         ey,
-        ea,
         eo,
+        ex,
+        ek,
+        ea .cut,
+        eh,
         eg .is,
         er .is,
         ei,
         ej,
         et .cut,
-        en .is,
         pigs-whole (p .«housing_type») _,
         pigs-whole (p .«housing_type») _,
       ) refl
+
+pub is-pigs : (p : Pigs) (n : ℕ) (c : Cuts) → UpTo mostN (p .animals * p .«inp_n_excretion») n
+    → c ≡ cutsUnder pigsNames (toldPigs p (withTan dividing n (p .«tan_fraction»))) → c ≡ cutsOf (kinds.Pigs p)
+unfolding cutsOf
+is-pigs p n c en ec = ec ∙ rw (en .is) refl
 
 -- ---- any kind
 

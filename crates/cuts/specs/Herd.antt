@@ -14,14 +14,18 @@ use Rattle.amounts.specs.Units.{year, day}
 use Rattle.amounts.specs.Dividing.{dividing, handed, worth, dividend}
 use Rattle.kinds.specs.declared.Outdoor.{Outdoor}
 use Rattle.kinds.specs.declared.Roughage.{Roughage}
-use Rattle.kinds.specs.declared.HousingType.{HousingType}
+use Rattle.kinds.specs.declared.AirScrubber.{AirScrubber}
+use Rattle.kinds.specs.declared.AirScrubber.the-variants as scrubber
+use Rattle.kinds.specs.declared.Pigs.{Pigs}
 use Rattle.kinds.specs.declared.Inputs.{Inputs}
 use Rattle.kinds.specs.declared.Inputs.the-variants as kinds
 use Rattle.rates.specs.declared.Rates.{Rates}
 use Rattle.excretion.specs.Excretion.{ExcretionIn}
 use Rattle.housing.specs.Housing.{FactorsIn, factors, noFactors}
+use Rattle.pig_house.specs.PigHouse.{PigFactorsIn, ScrubbedIn, pigFactors, keptBack, noPigFactors, noScrubbed}
+use Rattle.outputs.specs.Sections.{FiguresIn}
 use Rattle.outputs.specs.Names.{place}
-use Rattle.herd.specs.Herd.{roughageOn, outdoorOn, pigsOn, figuresIn}
+use Rattle.herd.specs.Herd.{roughageOn, outdoorOn, pigsOn, ofPigs, figuresIn}
 use Rattle.cuts.specs.declared.Cuts.{Cuts}
 use Rattle.cuts.specs.Names.{Told, Row, rows, divisionOf}
 use Rattle.cuts.specs.Cuts.{cutOff, divisorOf, cutsFrom}
@@ -48,40 +52,100 @@ roughageNames = beforeGrowth ++ "c_grazing" ∷ behindGrowth
 abbrev pub outdoorNames : List String
 outdoorNames = "tan_excretion" ∷ "n_into_yard" ∷ "tan_into_yard" ∷ "nh3_nyard" ∷ intoGrazing ++ gases
 
--- what pigs put on pasture is all or nothing, and no cut
+-- 2.51, the factors of a pig house
+abbrev pigFactorNames : List String
+pigFactorNames =
+    "ef_housing_indoor_before_air_scrubber:c_free_factor_housing"
+    ∷ "ef_housing_indoor_before_air_scrubber:red_housing_air"
+    ∷ "ef_housing_indoor"
+    ∷ "ef_housing_grazing:c_free_factor_housing"
+    ∷ "ef_nh3_nhousing:ef_housing_indoor"
+    ∷ "ef_nh3_nhousing:ef_housing_grazing"
+    ∷ []
+
+-- 2.51, tan_air_scrubber
+abbrev scrubberNames : List String
+scrubberNames = "tan_air_scrubber:tan_excretion" ∷ "tan_air_scrubber:ef_housing_indoor_before_air_scrubber" ∷ []
+
+-- 2.62
+abbrev nxOxNames : List String
+nxOxNames = "n2_nsolid" ∷ "no_nsolid" ∷ "n2o_nsolid" ∷ "n2_nliquid" ∷ "no_nliquid" ∷ "n2o_nliquid" ∷ []
+
+-- what pigs put on pasture is all or nothing, and no cut; before the scrubber
+abbrev beforeScrubber : List String
+beforeScrubber = "tan_excretion" ∷ gases ++ pigFactorNames ++ "nh3_nhousing" ∷ []
+
 abbrev pub pigsNames : List String
-pigsNames = "tan_excretion" ∷ gases
+pigsNames = beforeScrubber ++ scrubberNames ++ nxOxNames
 
 abbrev pub namesOf : Inputs → List String
 namesOf (kinds.Roughage r) = roughageNames
 namesOf (kinds.Cattle c) = outdoorNames
 namesOf (kinds.Pigs p) = pigsNames
 
+-- 2.51: only a biotrickling filter keeps something back
+abbrev pub pigsMade : AirScrubber → List String
+pigsMade scrubber.Acid = beforeScrubber ++ nxOxNames
+pigsMade scrubber.Biotrickling = pigsNames
+pigsMade scrubber.None = beforeScrubber ++ nxOxNames
+
 -- which of them are made: a roughage herd that is out for the whole year has c = 1, and no cut for it (2.87)
 abbrev pub madeNames : Inputs → List String
 madeNames (kinds.Roughage r) =
     pick (ltb (r .«grazing_days» * r .«grazing_hours») (year * day)) roughageNames (beforeGrowth ++ behindGrowth)
 madeNames (kinds.Cattle c) = outdoorNames
-madeNames (kinds.Pigs p) = pigsNames
+madeNames (kinds.Pigs p) = pigsMade (p .«air_scrubber»)
 
 -- ---- the formulas of each kind, on the arithmetic that tells of divisions
 
+-- a kind without a pig house
+abbrev told : FiguresIn dividing → FactorsIn dividing → Told
+told figures factors =
+    record {
+      figures = figures;
+      factors = factors;
+      pigFactors = noPigFactors dividing;
+      scrubbed = noScrubbed dividing;
+    }
+
 abbrev pub toldRoughage : Roughage → ExcretionIn dividing → Told
-toldRoughage r e = record { figures = roughageOn dividing r e; factors = factors dividing r }
+toldRoughage r e = told (roughageOn dividing r e) (factors dividing r)
 
 abbrev pub toldOutdoor : Rates → Outdoor → ExcretionIn dividing → Told
-toldOutdoor r o e = record { figures = outdoorOn dividing r o e; factors = noFactors dividing }
+toldOutdoor r o e = told (outdoorOn dividing r o e) (noFactors dividing)
 
-abbrev pub toldPigs : HousingType → ExcretionIn dividing → Told
-toldPigs t e = record { figures = pigsOn dividing t e; factors = noFactors dividing }
+abbrev pub toldPigs : Pigs → ExcretionIn dividing → Told
+toldPigs p e =
+    record {
+      figures = pigsOn dividing p e;
+      factors = noFactors dividing;
+      pigFactors = pigFactors dividing p;
+      scrubbed = keptBack dividing p (e .«tan_excretion»);
+    }
 
 abbrev factorsOf : Inputs → FactorsIn dividing
 factorsOf (kinds.Roughage r) = factors dividing r
 factorsOf (kinds.Cattle c) = noFactors dividing
 factorsOf (kinds.Pigs p) = noFactors dividing
 
+abbrev pigFactorsOf : Inputs → PigFactorsIn dividing
+pigFactorsOf (kinds.Roughage r) = noPigFactors dividing
+pigFactorsOf (kinds.Cattle c) = noPigFactors dividing
+pigFactorsOf (kinds.Pigs p) = pigFactors dividing p
+
+abbrev scrubbedOf : Inputs → ScrubbedIn dividing
+scrubbedOf (kinds.Roughage r) = noScrubbed dividing
+scrubbedOf (kinds.Cattle c) = noScrubbed dividing
+scrubbedOf (kinds.Pigs p) = keptBack dividing p (ofPigs dividing p .excretion .«tan_excretion»)
+
 abbrev pub toldOf : Inputs → Told
-toldOf i = record { figures = figuresIn dividing i; factors = factorsOf i }
+toldOf i =
+    record {
+      figures = figuresIn dividing i;
+      factors = factorsOf i;
+      pigFactors = pigFactorsOf i;
+      scrubbed = scrubbedOf i;
+    }
 
 -- ---- a herd's cuts
 

@@ -9,6 +9,7 @@ use lib.ListN.{getD}
 use lib.IntN.{pos}
 use Rattle.amounts.specs.Dividing.{Divided, uncut, Left, dividing}
 use Rattle.housing.specs.Housing.{FactorsIn}
+use Rattle.pig_house.specs.PigHouse.{PigFactorsIn, ScrubbedIn}
 use Rattle.outputs.specs.Sections.{FiguresIn}
 use Rattle.outputs.specs.Names.{figures, number, sectionOf, place}
 
@@ -16,6 +17,8 @@ use Rattle.outputs.specs.Names.{figures, number, sectionOf, place}
 pub record Told : Type 0 where
   pub figures : FiguresIn dividing
   pub factors : FactorsIn dividing
+  pub pigFactors : PigFactorsIn dividing
+  pub scrubbed : ScrubbedIn dividing
 
 -- a name: its text, its section, and which division it is the name of
 pub record Row : Type 0 where
@@ -37,6 +40,13 @@ figure t = record { text = t; section = sectionOf t; division = λ h. givesFigur
 abbrev factor : String → (FactorsIn dividing → Divided) → Row
 factor t f = record { text = t; section = "Housing"; division = λ h. f (h .factors) }
 
+-- a factor of a pig house, and of what its scrubber keeps
+abbrev pigFactor : String → (PigFactorsIn dividing → Divided) → Row
+pigFactor t f = record { text = t; section = "Housing"; division = λ h. f (h .pigFactors) }
+
+abbrev scrubber : String → (ScrubbedIn dividing → Divided) → Row
+scrubber t f = record { text = t; section = "Housing"; division = λ h. f (h .scrubbed) }
+
 abbrev pub rows : List Row
 rows =
     figure "tan_excretion"
@@ -52,7 +62,23 @@ rows =
     ∷ factor "c_grazing" (λ f. f .«c_grazing»)
     ∷ factor "ef_nh3_nhousing:er_housing" (λ f. f .«times_er_housing»)
     ∷ factor "ef_nh3_nhousing:c_free_factor_housing" (λ f. f .«times_c_free_factor_housing»)
+    ∷ pigFactor "ef_housing_indoor_before_air_scrubber:c_free_factor_housing"
+    (λ f. f .«before_times_c_free_factor_housing»)
+    ∷ pigFactor "ef_housing_indoor_before_air_scrubber:red_housing_air" (λ f. f .«before_times_red_housing_air»)
+    ∷ pigFactor "ef_housing_indoor" (λ f. f .«ef_housing_indoor»)
+    ∷ pigFactor "ef_housing_grazing:c_free_factor_housing" (λ f. f .«grazing_times_c_free_factor_housing»)
+    ∷ pigFactor "ef_nh3_nhousing:ef_housing_indoor" (λ f. f .«times_ef_housing_indoor»)
+    ∷ pigFactor "ef_nh3_nhousing:ef_housing_grazing" (λ f. f .«times_ef_housing_grazing»)
     ∷ figure "nh3_nhousing"
+    ∷ scrubber "tan_air_scrubber:tan_excretion" (λ s. s .«times_tan_excretion»)
+    ∷ scrubber "tan_air_scrubber:ef_housing_indoor_before_air_scrubber"
+    (λ s. s .«times_ef_housing_indoor_before_air_scrubber»)
+    ∷ figure "n2_nsolid"
+    ∷ figure "no_nsolid"
+    ∷ figure "n2o_nsolid"
+    ∷ figure "n2_nliquid"
+    ∷ figure "no_nliquid"
+    ∷ figure "n2o_nliquid"
     ∷ []
 
 -- ---- by number

@@ -38,7 +38,7 @@ fn roughage_from(r: Roughage, n: u64, fraction: u64) -> Cuts
     let gases = pasture::gases_of(rates::roughage_rates(), into.n.whole, into.tan.whole);
     let nh3 = housing::nh3_in_housing(r, tan.whole - into.tan.whole);
     let factors = housing::factors_of(r);
-    parts::by_number(
+    parts::without_pig_house(
         tan,
         no_parts(),
         cut::undivided(0),
@@ -71,7 +71,7 @@ fn outdoor_from(r: Rates, o: Outdoor, n: u64, fraction: u64) -> Cuts
     let into_grazing = pasture::outdoor_into_grazing(o, n, tan.whole);
     let gases = pasture::gases_of(r, into_grazing.n.whole, into_grazing.tan.whole);
     let factors = housing::no_factors();
-    parts::by_number(
+    parts::without_pig_house(
         tan,
         into_yard,
         nh3,
@@ -91,20 +91,42 @@ fn cattle_cuts(c: Cattle) -> Cuts
     outdoor_from(rates::cattle_rates(), outdoor, n, c.tan_fraction)
 }
 
+// Pigs that excrete so much N.
+fn pigs_from(p: Pigs, n: u64) -> Cuts
+    requires { ⌜ SoundPigs p × (n ≤ mostN) ⌝ }
+    ensures { λ c. ⌜ c ≡ cutsUnder pigsNames (toldPigs p (withTan dividing n (p .«tan_fraction»))) ⌝ }
+{
+    let housing_type = p.housing_type;
+    let tan = excretion::tan_excretion(n, p.tan_fraction);
+    let n_into = pasture::pigs_into_grazing(housing_type, n);
+    let tan_into = pasture::pigs_into_grazing(housing_type, tan.whole);
+    let nx_ox = pig_house::gases::nx_ox(housing_type, n - n_into);
+    let on_pasture = pasture::gases_of(rates::pigs_rates(), n_into, tan_into);
+    let pig_factors = pig_house::factors::factors_of(p);
+    let nh3 = pig_house::house::nh3_in_pig_house(p, tan.whole - tan_into);
+    let scrubbed = pig_house::scrubber::kept_back(p, tan.whole);
+    let no_factors = housing::no_factors();
+    let no_parts = no_parts();
+    let none = cut::undivided(0);
+    parts::by_number(
+        tan,
+        no_parts,
+        none,
+        no_parts,
+        on_pasture,
+        no_factors,
+        pig_factors,
+        nh3,
+        scrubbed,
+        nx_ox,
+    )
+}
+
 fn pigs_cuts(p: Pigs) -> Cuts
     requires { ⌜ SoundPigs p ⌝ }
     ensures { λ c. ⌜ c ≡ cutsOf (kinds.Pigs p) ⌝ }
 {
-    let housing_type = p.housing_type;
-    let n = excretion::n_excretion(p.animals, p.inp_n_excretion);
-    let tan = excretion::tan_excretion(n, p.tan_fraction);
-    let n_into = pasture::pigs_into_grazing(housing_type, n);
-    let tan_into = pasture::pigs_into_grazing(housing_type, tan.whole);
-    let gases = pasture::gases_of(rates::pigs_rates(), n_into, tan_into);
-    let factors = housing::no_factors();
-    let no_parts = no_parts();
-    let none = cut::undivided(0);
-    parts::by_number(tan, no_parts, none, no_parts, gases, factors, none)
+    pigs_from(p, excretion::n_excretion(p.animals, p.inp_n_excretion))
 }
 
 pub fn cuts_of(inputs: Inputs) -> Cuts

@@ -25,7 +25,35 @@ pub const EF_NH3_NHOUSING_ER_HOUSING: usize = 11;
 
 pub const EF_NH3_NHOUSING_C_FREE_FACTOR_HOUSING: usize = 12;
 
-pub const NH3_NHOUSING: usize = 13;
+pub const EF_HOUSING_INDOOR_BEFORE_AIR_SCRUBBER_C_FREE_FACTOR_HOUSING: usize = 13;
+
+pub const EF_HOUSING_INDOOR_BEFORE_AIR_SCRUBBER_RED_HOUSING_AIR: usize = 14;
+
+pub const EF_HOUSING_INDOOR: usize = 15;
+
+pub const EF_HOUSING_GRAZING_C_FREE_FACTOR_HOUSING: usize = 16;
+
+pub const EF_NH3_NHOUSING_EF_HOUSING_INDOOR: usize = 17;
+
+pub const EF_NH3_NHOUSING_EF_HOUSING_GRAZING: usize = 18;
+
+pub const NH3_NHOUSING: usize = 19;
+
+pub const TAN_AIR_SCRUBBER_TAN_EXCRETION: usize = 20;
+
+pub const TAN_AIR_SCRUBBER_EF_HOUSING_INDOOR_BEFORE_AIR_SCRUBBER: usize = 21;
+
+pub const N2_NSOLID: usize = 22;
+
+pub const NO_NSOLID: usize = 23;
+
+pub const N2O_NSOLID: usize = 24;
+
+pub const N2_NLIQUID: usize = 25;
+
+pub const NO_NLIQUID: usize = 26;
+
+pub const N2O_NLIQUID: usize = 27;
 
 // How many names there are.
-pub const COUNT: usize = 14;
+pub const COUNT: usize = 28;

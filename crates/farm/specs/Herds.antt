@@ -4,7 +4,7 @@ use mathlib.Core.Bool.{Bool, true, false}
 use lib.ListN.{replicate}
 use Rattle.inputs.specs.declared.Kind.the-variants.{Roughage}
 use Rattle.farm.specs.declared.Given.{Given}
-use Rattle.farm.specs.declared.Given.the-variants.{Missing, Standard, Value}
+use Rattle.farm.specs.declared.Given.the-variants.{Missing, Standard, Value, Signed}
 use Rattle.farm.specs.declared.Slot.{Slot}
 use Rattle.farm.specs.declared.Herd.{Herd}
 use Rattle.farm.specs.declared.Farm.{Farm}
@@ -15,6 +15,7 @@ abbrev pub isMissing : Given → Bool
 isMissing Missing = true
 isMissing Standard = false
 isMissing (Value v) = false
+isMissing (Signed v) = false
 
 abbrev pub noSlot : Slot
 noSlot = record { given = Missing }

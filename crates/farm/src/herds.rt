@@ -17,6 +17,7 @@ pub fn is_missing(given: Given) -> bool
         Given::Missing => true,
         Given::Standard => false,
         Given::Value(_) => false,
+        Given::Signed(_) => false,
     }
 }
 

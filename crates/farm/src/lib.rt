@@ -18,11 +18,13 @@ pub struct Label {
     pub len: usize,
 }
 
-// What a record says of an input: nothing, `standard`, or a number in units of its last decimal, or the place of a name in its list.
+// What a record says of an input: nothing, `standard`, a number in units of its last decimal or the place of a name in its list, or a
+// whole number that may be below zero.
 pub enum Given {
     Missing,
     Standard,
     Value(u32),
+    Signed(i64),
 }
 
 pub struct Slot {

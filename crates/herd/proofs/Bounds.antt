@@ -6,6 +6,7 @@ use lib.IntN.{pos, natAbs, _-ℤ_}
 use Rattle.cut.proofs.Signed.{abs-sub}
 use Rattle.amounts.specs.Arithmetic.{cutting}
 use Rattle.amounts.specs.Bounds.{Modest}
+use Rattle.kinds.specs.declared.HousingType.{HousingType}
 use Rattle.kinds.specs.declared.Inputs.{Inputs}
 use Rattle.kinds.specs.Sound.{Sound}
 use Rattle.rates.specs.declared.Rates.{Rates}
@@ -17,14 +18,25 @@ use Rattle.yard.specs.Yard.{intoYard, throughYard}
 use Rattle.yard.proofs.OnYard.{yard-modest, nh3-on-yard-le}
 use Rattle.pasture.specs.Pasture.{outdoorIntoGrazing, roughageIntoGrazing, pigsIntoGrazing, gas, onPasture, afterGases}
 use Rattle.pasture.proofs.OnPasture.{gases-le}
-use Rattle.pasture.proofs.Into.{outdoor-pasture-modest, roughage-pasture-modest, roughage-housing-modest, pigs-pasture-modest}
-use Rattle.housing.specs.Housing.{throughHousing, throughDoor}
+use Rattle.pasture.proofs.Into.{
+  outdoor-pasture-modest,
+  roughage-pasture-modest,
+  roughage-housing-modest,
+  pigs-pasture-modest,
+}
+use Rattle.housing.specs.Housing.{HousingIn, throughHousing, throughDoor}
 use Rattle.housing.proofs.InHousing.{nh3-in-housing-le}
+use Rattle.pig_house.specs.Parameters.{«share_liquid»}
+use Rattle.pig_house.specs.PigHouse.{throughPigHouse, inFractions, pigHousing, nh3InPigHouse, «tan_air_scrubber»}
+use Rattle.pig_house.specs.NxOx as NxOx
+use Rattle.pig_house.proofs.Fractions.{all-or-nothing-le, nxox-le}
+use Rattle.pig_house.proofs.Through.{pig-house-emits-le}
 use Rattle.outputs.specs.Sections.{FiguresIn}
-use Rattle.outputs.specs.Names.{excretion, yard, grazing, housing}
+use Rattle.outputs.specs.Names.{excretion, yard, grazing, housing, pigHouse, nxOx}
 use Rattle.outputs.specs.Grams.{gramsOf, To}
 use Rattle.outputs.proofs.Bounds.{SectionTo, sections-to}
 use Rattle.herd.specs.Herd.{figuresOf}
+use Rattle.herd.proofs.Housed.{pigs-enter}
 use Rattle.herd.proofs.Made.{Made, of-roughage, of-outdoor, of-pigs, made}
 
 -- what no figure of a sound herd is above
@@ -46,6 +58,26 @@ housing-to m h = omega arith
 door-to : (n tan n′ tan′ : ℕ) → Modest n tan → n′ ≤ n → tan′ ≤ tan
     → SectionTo most housing (throughDoor cutting n′ tan′)
 door-to n tan n′ tan′ m hn ht = omega arith
+
+-- of a pig house: what is emitted and kept back is no more than what goes in
+pig-housing-to : (n tan nh3 scrubbed : ℕ) → Modest n tan → nh3 + scrubbed ≤ tan
+    → SectionTo most housing (throughPigHouse cutting n tan nh3 scrubbed)
+pig-housing-to n tan nh3 scrubbed m h = omega arith
+
+fractions-to : (t : HousingType) (scrubbed : ℕ) (h : HousingIn cutting) → scrubbed ≤ most → h .«n_outhousing» ≤ most
+    → h .«tan_outhousing» ≤ most → SectionTo most pigHouse (inFractions cutting t scrubbed h)
+fractions-to t scrubbed h ks kn kt =
+    let share = «share_liquid» t in
+    omega (
+      arith,
+      all-or-nothing-le share (h .«n_outhousing»),
+      all-or-nothing-le share (h .«tan_outhousing»),
+    )
+
+nxox-to : (t : HousingType) (n : ℕ) → n ≤ most → SectionTo most nxOx (NxOx.nxOx cutting t n)
+nxox-to t n h =
+    let x = nxox-le t n in
+    omega (arith, x .n2-solid, x .no-solid, x .n2o-solid, x .n2-liquid, x .no-liquid, x .n2o-liquid)
 
 -- what is left of the TAN is no larger than the TAN and the gases together
 remain-le : (tan a b c d : ℕ) → natAbs (pos tan -ℤ pos a -ℤ pos b -ℤ pos c -ℤ pos d) ≤ tan + (a + b + c + d)
@@ -76,6 +108,7 @@ made-to (of-roughage r e s m) =
     sections-to most _ (excretion-to e m) (omega arith)
     (pasture-to roughageRates roughage-rates-modest (roughage-pasture-modest r s n tan m))
     (housing-to (roughage-housing-modest r s n tan m) (nh3-in-housing-le r (tan - roughageIntoGrazing cutting r tan)))
+    (omega arith) (omega arith)
 made-to (of-outdoor r o e hr s m) =
     let n = e .«n_excretion» in
     let tan = e .«tan_excretion» in
@@ -84,13 +117,20 @@ made-to (of-outdoor r o e hr s m) =
     (pasture-to r hr (outdoor-pasture-modest o s n tan m))
     (door-to n tan (n - intoYard cutting o n - outdoorIntoGrazing cutting o n)
     (tan - intoYard cutting o tan - outdoorIntoGrazing cutting o tan) m (omega arith) (omega arith))
-made-to (of-pigs t e m) =
-    let n = e .«n_excretion» in
-    let tan = e .«tan_excretion» in
+    (omega arith) (omega arith)
+made-to (of-pigs p e s m) =
+    let t = p .«housing_type» in
+    let excreted = e .«tan_excretion» in
+    let n = e .«n_excretion» - pigsIntoGrazing cutting t (e .«n_excretion») in
+    let tan = excreted - pigsIntoGrazing cutting t excreted in
+    let enters = pigs-enter p (e .«n_excretion») excreted m in
+    let emits = pig-house-emits-le p excreted tan (enters .housed) in
     sections-to most _ (excretion-to e m) (omega arith)
-    (pasture-to pigsRates pigs-rates-modest (pigs-pasture-modest t n tan m))
-    (door-to n tan (n - pigsIntoGrazing cutting t n) (tan - pigsIntoGrazing cutting t tan) m (omega arith)
-    (omega arith))
+    (pasture-to pigsRates pigs-rates-modest (pigs-pasture-modest t (e .«n_excretion») excreted m))
+    (pig-housing-to n tan (nh3InPigHouse cutting p tan) («tan_air_scrubber» cutting p excreted) (enters .modest) emits)
+    (fractions-to t («tan_air_scrubber» cutting p excreted) (pigHousing cutting p excreted n tan)
+    (omega (arith, enters .modest)) (omega (arith, enters .modest)) (omega (arith, enters .modest)))
+    (nxox-to t n (omega (arith, enters .modest)))
 
 pub figures-to : (i : Inputs) → Sound i → To most (figuresOf i .grams)
 unfolding figuresOf

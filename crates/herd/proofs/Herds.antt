@@ -1,11 +1,12 @@
 -- The steps of a herd's figures, each in the form that a place of the code wants: what goes where is no more than there
 -- is, and the sections that the code made are those of the formulas. Assumes nothing.
-use Prim.Native.Nat.{ℕ, _+_, _-_, _≤_}
+use Prim.Native.Nat.{ℕ, _+_, _-_, _≤_, _<_, _^_}
 use mathlib.Core.Path.{_≡_, ap, subst, sym, _∙_}
 use mathlib.Core.List.{List}
 use native.Mathlib.Omega.{arith}
 use lib.IntN.{ℤ}
 use Rattle.amounts.specs.Arithmetic.{cutting}
+use Rattle.amounts.specs.Dividing.{dividing, uncut}
 use Rattle.amounts.specs.Units.{tenThousandths}
 use Rattle.amounts.specs.Bounds.{Modest}
 use Rattle.kinds.specs.declared.Outdoor.{Outdoor}
@@ -14,7 +15,7 @@ use Rattle.kinds.specs.declared.Cattle.{Cattle}
 use Rattle.kinds.specs.declared.Pigs.{Pigs}
 use Rattle.kinds.specs.declared.Inputs.{Inputs}
 use Rattle.kinds.specs.declared.Inputs.the-variants as kinds
-use Rattle.kinds.specs.Sound.{SoundOutdoor, SoundRoughage, SoundCattle, SoundPigs, roughage, pigs, mostGrams}
+use Rattle.kinds.specs.Sound.{SoundOutdoor, SoundRoughage, SoundCattle, SoundPigs, roughage, mostGrams}
 use Rattle.rates.specs.declared.Rates.{Rates}
 use Rattle.rates.specs.Rates.{cattleRates}
 use Rattle.rates.specs.Bounds.{ModestRates, RatesOf}
@@ -28,24 +29,52 @@ use Rattle.pasture.specs.Pasture.{outdoorGrazing, roughageGrazing, pigsGrazing,
 use Rattle.pasture.proofs.Into.{outdoor-into-le, roughage-into-le, roughage-housing-modest, pigs-into-le}
 use Rattle.housing.specs.declared.Housing.{Housing}
 use Rattle.housing.specs.Housing.{inHousing, throughDoor, ofHousing}
+use Rattle.pig_house.specs.declared.PigHouse.{PigHouse}
+use Rattle.pig_house.specs.declared.NxOx.{NxOx}
+use Rattle.pig_house.specs.PigHouse.{pigHousing, pigHouse, noPigHouse, ofPigHouse}
+use Rattle.pig_house.specs.NxOx.{nxOx, noNxOx, handedNxOx, ofNxOx}
+use Rattle.pig_house.specs.Bounds.{Enters}
+use Rattle.pig_house.proofs.Fractions.{gases-are}
 use Rattle.outputs.specs.declared.Figures.{Figures}
 use Rattle.outputs.specs.Sections.{FiguresIn, together}
 use Rattle.outputs.specs.Grams.{gramsOf, To, figureMost}
 use Rattle.outputs.proofs.Adding.{widen}
-use Rattle.herd.specs.Herd.{ofRoughage, roughageOn, outdoorOn, ofCattle, ofPigs, pigsOn, figuresIn, figuresOf}
-use Rattle.herd.proofs.Made.{Made, of-outdoor, made}
+use Rattle.herd.specs.Herd.{
+  plain,
+  ofRoughage,
+  roughageOn,
+  outdoorOn,
+  ofCattle,
+  ofPigs,
+  pigsOn,
+  figuresIn,
+  figuresOf,
+}
+use Rattle.herd.proofs.Housed.{pigs-enter}
+use Rattle.herd.proofs.Made.{Made, of-outdoor, of-pigs, made}
 use Rattle.herd.proofs.Bounds.{most, made-to}
 
 -- sections that are those of some figures are small, and give them
-module _ {f : FiguresIn cutting} (m : Made f) (e : Excretion) (y : Yard) (g : Grazing) (h : Housing)
-    (is : together e y g h ≡ f) where
-  small : To figureMost (gramsOf (together e y g h))
+module _ {f : FiguresIn cutting} (m : Made f) (found : FiguresIn cutting) (is : found ≡ f) where
+  small : To figureMost (gramsOf found)
   small =
       subst (λ (f : FiguresIn cutting). To figureMost (gramsOf f)) (sym is)
       (widen most figureMost (made-to m) (omega arith))
 
-  are-grams : (r : Figures) → r .grams ≡ gramsOf (together e y g h) → r .grams ≡ gramsOf f
+  are-grams : (r : Figures) → r .grams ≡ gramsOf found → r .grams ≡ gramsOf f
   are-grams r q = q ∙ ap gramsOf is
+
+-- the sections of a kind whose house is none of the pigs'
+module _ (e : Excretion) (y : Yard) (g : Grazing) (h : Housing) (p : PigHouse) (x : NxOx)
+    (ep : ofPigHouse p ≡ noPigHouse cutting) (ex : x ≡ handedNxOx (noNxOx dividing)) where
+  is-plain : together e y g h p x ≡ plain e y g h
+  is-plain = cc (ep, ap ofNxOx ex)
+
+  pub plain-small : To figureMost (gramsOf (plain e y g h)) → To figureMost (gramsOf (together e y g h p x))
+  plain-small t = subst (λ (f : FiguresIn cutting). To figureMost (gramsOf f)) (sym is-plain) t
+
+  pub plain-grams : (f : Figures) → f .grams ≡ gramsOf (together e y g h p x) → f .grams ≡ gramsOf (plain e y g h)
+  plain-grams f q = q ∙ ap gramsOf is-plain
 
 -- ---- a herd with a yard
 module _ (r : Rates) (o : Outdoor) (hr : ModestRates r) (s : SoundOutdoor o) (e : Excretion)
@@ -76,7 +105,7 @@ module _ (r : Rates) (o : Outdoor) (hr : ModestRates r) (s : SoundOutdoor o) (e 
   module _ (h : Housing)
       (qh : ofHousing h ≡ throughDoor cutting (e .«n_excretion» - y .«n_into_yard» - g .«n_into_grazing»)
       (e .«tan_excretion» - y .«tan_into_yard» - g .«tan_into_grazing»)) where
-    is-outdoor : together e y g h ≡ outdoorOn cutting r o (ofExcretion e)
+    is-outdoor : plain e y g h ≡ outdoorOn cutting r o (ofExcretion e)
     is-outdoor =
         cc (
           ap (λ x. x .«n_into_yard») qy,
@@ -85,12 +114,12 @@ module _ (r : Rates) (o : Outdoor) (hr : ModestRates r) (s : SoundOutdoor o) (e 
           ap (λ x. x .«tan_into_grazing») qg,
         )
 
-    pub outdoor-small : To figureMost (gramsOf (together e y g h))
-    outdoor-small = small (of-outdoor r o (ofExcretion e) hr s m) e y g h is-outdoor
+    pub outdoor-small : To figureMost (gramsOf (plain e y g h))
+    outdoor-small = small (of-outdoor r o (ofExcretion e) hr s m) (plain e y g h) is-outdoor
 
-    pub outdoor-grams : (f : Figures) → f .grams ≡ gramsOf (together e y g h)
+    pub outdoor-grams : (f : Figures) → f .grams ≡ gramsOf (plain e y g h)
         → f .grams ≡ gramsOf (outdoorOn cutting r o (ofExcretion e))
-    outdoor-grams = are-grams (of-outdoor r o (ofExcretion e) hr s m) e y g h is-outdoor
+    outdoor-grams = are-grams (of-outdoor r o (ofExcretion e) hr s m) (plain e y g h) is-outdoor
 
 -- ---- cattle
 module _ (c : Cattle) (s : SoundCattle c) (e : Excretion)
@@ -135,48 +164,67 @@ module _ (r : Roughage) (s : SoundRoughage r) (grams fraction : ℕ)
       module _ (y : Yard) (h : Housing) (qy : ofYard y ≡ noYard cutting)
           (qh : ofHousing h ≡ inHousing cutting r (e .«n_excretion» - g .«n_into_grazing»)
           (e .«tan_excretion» - g .«tan_into_grazing»)) where
-        is-roughage : together e y g h ≡ ofRoughage cutting r
+        is-roughage : plain e y g h ≡ ofRoughage cutting r
         is-roughage =
-            let d : together e y g h ≡ roughageOn cutting r (ofExcretion e) =
+            let d : plain e y g h ≡ roughageOn cutting r (ofExcretion e) =
             cc (ap (λ x. x .«n_into_grazing») qg, ap (λ x. x .«tan_into_grazing») qg) in
             d ∙ ap (roughageOn cutting r) (rw (← qn, ← qt) q)
 
-        pub roughage-small : To figureMost (gramsOf (together e y g h))
-        roughage-small = small (made (roughage s)) e y g h is-roughage
+        pub roughage-small : To figureMost (gramsOf (plain e y g h))
+        roughage-small = small (made (roughage s)) (plain e y g h) is-roughage
 
-        pub roughage-grams : (f : Figures) → f .grams ≡ gramsOf (together e y g h)
+        pub roughage-grams : (f : Figures) → f .grams ≡ gramsOf (plain e y g h)
             → f .grams ≡ gramsOf (ofRoughage cutting r)
-        roughage-grams = are-grams (made (roughage s)) e y g h is-roughage
+        roughage-grams = are-grams (made (roughage s)) (plain e y g h) is-roughage
 
 -- ---- pigs
+module _ (p : Pigs) (s : SoundPigs p) (e : Excretion) (m : Modest (e .«n_excretion») (e .«tan_excretion»)) (g : Grazing)
+    (qg : ofGrazing g ≡ pigsGrazing cutting (p .«housing_type») (e .«n_excretion») (e .«tan_excretion»)) where
+  pub pigs-n : g .«n_into_grazing» ≤ e .«n_excretion»
+  pigs-n = rw (ap (λ x. x .«n_into_grazing») qg) (pigs-into-le (p .«housing_type») (e .«n_excretion»))
+
+  pub pigs-tan : g .«tan_into_grazing» ≤ e .«tan_excretion»
+  pigs-tan = rw (ap (λ x. x .«tan_into_grazing») qg) (pigs-into-le (p .«housing_type») (e .«tan_excretion»))
+
+  pub pigs-housed : Enters p (e .«tan_excretion») (e .«n_excretion» - g .«n_into_grazing»)
+      (e .«tan_excretion» - g .«tan_into_grazing»)
+  pigs-housed =
+      rw (ap (λ x. x .«n_into_grazing») qg, ap (λ x. x .«tan_into_grazing») qg)
+      (pigs-enter p (e .«n_excretion») (e .«tan_excretion») m)
+
+  pub pigs-n-fits : e .«n_excretion» - g .«n_into_grazing» < 2 ^ 32
+  pigs-n-fits = omega (arith, m .n-most)
+
+  module _ (y : Yard) (h : Housing) (q : PigHouse) (x : NxOx) (qy : ofYard y ≡ noYard cutting)
+      (qh : ofHousing h ≡ pigHousing cutting p (e .«tan_excretion») (e .«n_excretion» - g .«n_into_grazing»)
+      (e .«tan_excretion» - g .«tan_into_grazing»))
+      (qq : ofPigHouse q ≡ pigHouse cutting p (e .«tan_excretion») (e .«n_excretion» - g .«n_into_grazing»)
+      (e .«tan_excretion» - g .«tan_into_grazing»))
+      (qx : x ≡ handedNxOx (nxOx dividing (p .«housing_type») (uncut (e .«n_excretion» - g .«n_into_grazing»)))) where
+    is-pigs : together e y g h q x ≡ pigsOn cutting p (ofExcretion e)
+    is-pigs =
+        cc (
+          ap (λ z. z .«n_into_grazing») qg,
+          ap (λ z. z .«tan_into_grazing») qg,
+          gases-are (p .«housing_type») (e .«n_excretion» - g .«n_into_grazing») x qx,
+        )
+
+    pub pigs-small : To figureMost (gramsOf (together e y g h q x))
+    pigs-small = small (of-pigs p (ofExcretion e) s m) (together e y g h q x) is-pigs
+
+    pub pigs-grams : (f : Figures) → f .grams ≡ gramsOf (together e y g h q x)
+        → f .grams ≡ gramsOf (pigsOn cutting p (ofExcretion e))
+    pigs-grams = are-grams (of-pigs p (ofExcretion e) s m) (together e y g h q x) is-pigs
+
 module _ (p : Pigs) (s : SoundPigs p) (e : Excretion)
     (q : ofExcretion e ≡ excreted cutting (p .animals) (p .«inp_n_excretion») (p .«tan_fraction»)) where
   pub pigs-modest : Modest (e .«n_excretion») (e .«tan_excretion»)
   pigs-modest =
       excretion-modest (p .animals) (p .«inp_n_excretion») (p .«tan_fraction») (s .animals) (s .grams) (s .fraction) e q
 
-  module _ (g : Grazing)
-      (qg : ofGrazing g ≡ pigsGrazing cutting (p .«housing_type») (e .«n_excretion») (e .«tan_excretion»)) where
-    pub pigs-n : g .«n_into_grazing» ≤ e .«n_excretion»
-    pigs-n = rw (ap (λ x. x .«n_into_grazing») qg) (pigs-into-le (p .«housing_type») (e .«n_excretion»))
-
-    pub pigs-tan : g .«tan_into_grazing» ≤ e .«tan_excretion»
-    pigs-tan = rw (ap (λ x. x .«tan_into_grazing») qg) (pigs-into-le (p .«housing_type») (e .«tan_excretion»))
-
-    module _ (y : Yard) (h : Housing) (qy : ofYard y ≡ noYard cutting)
-        (qh : ofHousing h ≡ throughDoor cutting (e .«n_excretion» - g .«n_into_grazing»)
-        (e .«tan_excretion» - g .«tan_into_grazing»)) where
-      is-pigs : together e y g h ≡ ofPigs cutting p
-      is-pigs =
-          let d : together e y g h ≡ pigsOn cutting (p .«housing_type») (ofExcretion e) =
-          cc (ap (λ x. x .«n_into_grazing») qg, ap (λ x. x .«tan_into_grazing») qg) in
-          d ∙ ap (pigsOn cutting (p .«housing_type»)) q
-
-      pub pigs-small : To figureMost (gramsOf (together e y g h))
-      pigs-small = small (made (pigs s)) e y g h is-pigs
-
-      pub pigs-grams : (f : Figures) → f .grams ≡ gramsOf (together e y g h) → f .grams ≡ gramsOf (ofPigs cutting p)
-      pigs-grams = are-grams (made (pigs s)) e y g h is-pigs
+  pub are-pigs : (f : Figures) → f .grams ≡ gramsOf (pigsOn cutting p (ofExcretion e))
+      → f .grams ≡ gramsOf (ofPigs cutting p)
+  are-pigs f r = r ∙ ap (λ x. gramsOf (pigsOn cutting p x)) q
 
 -- ---- any kind
 
@@ -204,9 +252,21 @@ pub ruleset outdoor-steps = (yard-in-n, yard-in-tan, grazing-in-n, grazing-in-ta
 
 pub ruleset cattle-steps = (cattle-modest, cattle-grams)
 
-pub ruleset roughage-steps =
-    (grams-within, fraction-within, roughage-modest, roughage-n, roughage-tan, housed-modest, roughage-small, roughage-grams)
+pub ruleset roughage-steps = (
+  grams-within,
+  fraction-within,
+  roughage-modest,
+  roughage-n,
+  roughage-tan,
+  housed-modest,
+  roughage-small,
+  roughage-grams,
+)
 
-pub ruleset pigs-steps = (pigs-modest, pigs-n, pigs-tan, pigs-small, pigs-grams)
+pub ruleset plain-steps = (plain-small, plain-grams)
+
+pub ruleset pigs-on-steps = (pigs-n, pigs-tan, pigs-housed, pigs-n-fits)
+
+pub ruleset pigs-steps = (pigs-modest, are-pigs)
 
 pub ruleset kind-steps = (figures-of-roughage, figures-of-cattle, figures-of-pigs)

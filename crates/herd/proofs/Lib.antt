@@ -1,3 +1,4 @@
+pub mod Housed
 pub mod Made
 pub mod Bounds
 pub mod Herds

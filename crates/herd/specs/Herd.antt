@@ -6,32 +6,38 @@ use Rattle.kinds.specs.declared.Outdoor.{Outdoor}
 use Rattle.kinds.specs.declared.Roughage.{Roughage}
 use Rattle.kinds.specs.declared.Cattle.{Cattle}
 use Rattle.kinds.specs.declared.Pigs.{Pigs}
-use Rattle.kinds.specs.declared.HousingType.{HousingType}
 use Rattle.kinds.specs.declared.Inputs.{Inputs}
 use Rattle.kinds.specs.declared.Inputs.the-variants as kinds
 use Rattle.rates.specs.declared.Rates.{Rates}
 use Rattle.rates.specs.Rates.{cattleRates}
-use Rattle.excretion.specs.Excretion.{ExcretionIn, excreted, «n_excretion_animal», tanFraction}
-use Rattle.yard.specs.Yard.{YardIn, onYard, noYard}
-use Rattle.pasture.specs.Pasture.{GrazingIn, outdoorGrazing, roughageGrazing, pigsGrazing}
-use Rattle.housing.specs.Housing.{inHousing, throughDoor}
+use Rattle.excretion.specs.declared.Excretion.{Excretion}
+use Rattle.excretion.specs.Excretion.{ExcretionIn, excreted, «n_excretion_animal», tanFraction, ofExcretion}
+use Rattle.yard.specs.declared.Yard.{Yard}
+use Rattle.yard.specs.Yard.{YardIn, onYard, noYard, ofYard}
+use Rattle.pasture.specs.declared.Grazing.{Grazing}
+use Rattle.pasture.specs.Pasture.{GrazingIn, outdoorGrazing, roughageGrazing, pigsGrazing, ofGrazing}
+use Rattle.housing.specs.declared.Housing.{Housing}
+use Rattle.housing.specs.Housing.{HousingIn, inHousing, throughDoor, ofHousing}
+use Rattle.pig_house.specs.PigHouse.{pigHousing, pigHouse, noPigHouse}
+use Rattle.pig_house.specs.NxOx.{nxOx, noNxOx}
 use Rattle.outputs.specs.declared.Figures.{Figures}
 use Rattle.outputs.specs.Sections.{FiguresIn}
 use Rattle.outputs.specs.Grams.{gramsOf}
 
 module _ (A : Arithmetic) where
-  open Arithmetic A using (_⊖_)
+  open Arithmetic A using (Amount, _⊖_)
 
   infixl 6 _⊖_
+  -- a kind whose house is none of the pigs'
+  abbrev pub withoutPigHouse : ExcretionIn A → YardIn A → GrazingIn A → HousingIn A → FiguresIn A
+  withoutPigHouse e y g h =
+      record { excretion = e; yard = y; grazing = g; housing = h; pigHouse = noPigHouse A; nxOx = noNxOx A }
+
   -- 2.84 to 2.88; into the housing (2.85) goes what the pasture leaves
   abbrev pub roughageFrom : Roughage → ExcretionIn A → GrazingIn A → FiguresIn A
   roughageFrom r e g =
-      record {
-        excretion = e;
-        yard = noYard A;
-        grazing = g;
-        housing = inHousing A r (e .«n_excretion» ⊖ g .«n_into_grazing») (e .«tan_excretion» ⊖ g .«tan_into_grazing»);
-      }
+      withoutPigHouse e (noYard A) g
+      (inHousing A r (e .«n_excretion» ⊖ g .«n_into_grazing») (e .«tan_excretion» ⊖ g .«tan_into_grazing»))
 
   abbrev pub roughageOn : Roughage → ExcretionIn A → FiguresIn A
   roughageOn r e =
@@ -47,15 +53,10 @@ module _ (A : Arithmetic) where
   -- leave
   abbrev pub outdoorFrom : ExcretionIn A → YardIn A → GrazingIn A → FiguresIn A
   outdoorFrom e y g =
-      record {
-        excretion = e;
-        yard = y;
-        grazing = g;
-        housing =
-            throughDoor A
-            (e .«n_excretion» ⊖ y .«n_into_yard» ⊖ g .«n_into_grazing»)
-            (e .«tan_excretion» ⊖ y .«tan_into_yard» ⊖ g .«tan_into_grazing»);
-      }
+      withoutPigHouse e y g
+      (throughDoor A
+      (e .«n_excretion» ⊖ y .«n_into_yard» ⊖ g .«n_into_grazing»)
+      (e .«tan_excretion» ⊖ y .«tan_into_yard» ⊖ g .«tan_into_grazing»))
 
   abbrev pub outdoorOn : Rates → Outdoor → ExcretionIn A → FiguresIn A
   outdoorOn r o e =
@@ -67,27 +68,36 @@ module _ (A : Arithmetic) where
   abbrev pub ofCattle : Cattle → FiguresIn A
   ofCattle c = outdoorOn cattleRates (c .outdoor) (excreted A (c .animals) (c .«inp_n_excretion») (c .«tan_fraction»))
 
-  -- 2.50, 2.61; into the housing (2.51) goes what the pasture leaves
-  abbrev pub pigsFrom : ExcretionIn A → GrazingIn A → FiguresIn A
-  pigsFrom e g =
+  -- 2.50, 2.61, 2.62; into the housing (2.51) goes what the pasture leaves
+  abbrev pub pigsFrom : Pigs → ExcretionIn A → GrazingIn A → Amount → Amount → FiguresIn A
+  pigsFrom p e g n tan =
       record {
         excretion = e;
         yard = noYard A;
         grazing = g;
-        housing = throughDoor A (e .«n_excretion» ⊖ g .«n_into_grazing») (e .«tan_excretion» ⊖ g .«tan_into_grazing»);
+        housing = pigHousing A p (e .«tan_excretion») n tan;
+        pigHouse = pigHouse A p (e .«tan_excretion») n tan;
+        nxOx = nxOx A (p .«housing_type») n;
       }
 
-  abbrev pub pigsOn : HousingType → ExcretionIn A → FiguresIn A
-  pigsOn t e =
-      pigsFrom e (pigsGrazing A t (e .«n_excretion») (e .«tan_excretion»))
+  abbrev pub pigsThrough : Pigs → ExcretionIn A → GrazingIn A → FiguresIn A
+  pigsThrough p e g =
+      pigsFrom p e g (e .«n_excretion» ⊖ g .«n_into_grazing») (e .«tan_excretion» ⊖ g .«tan_into_grazing»)
+
+  abbrev pub pigsOn : Pigs → ExcretionIn A → FiguresIn A
+  pigsOn p e = pigsThrough p e (pigsGrazing A (p .«housing_type») (e .«n_excretion») (e .«tan_excretion»))
 
   abbrev pub ofPigs : Pigs → FiguresIn A
-  ofPigs p = pigsOn (p .«housing_type») (excreted A (p .animals) (p .«inp_n_excretion») (p .«tan_fraction»))
+  ofPigs p = pigsOn p (excreted A (p .animals) (p .«inp_n_excretion») (p .«tan_fraction»))
 
   abbrev pub figuresIn : Inputs → FiguresIn A
   figuresIn (kinds.Roughage r) = ofRoughage r
   figuresIn (kinds.Cattle c) = ofCattle c
   figuresIn (kinds.Pigs p) = ofPigs p
+
+-- the code's sections of a kind whose house is none of the pigs', on whole grams
+abbrev pub plain : Excretion → Yard → Grazing → Housing → FiguresIn cutting
+plain e y g h = withoutPigHouse cutting (ofExcretion e) (ofYard y) (ofGrazing g) (ofHousing h)
 
 -- a herd's figures in whole grams, by number
 unfoldable pub figuresOf : Inputs → Figures

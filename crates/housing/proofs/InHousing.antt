@@ -19,10 +19,11 @@ use Rattle.tables.proofs.Growth.{k-most}
 use Rattle.amounts.specs.Units.{percent, thousandths, billionths, year, day}
 use Rattle.amounts.specs.Arithmetic.{cutting}
 use Rattle.amounts.specs.Dividing.{Divided, worth, dividing}
-use Rattle.amounts.specs.Bounds.{Modest, PortionOf, UpTo}
+use Rattle.amounts.specs.Bounds.{Modest, PortionOf, TwiceOf, UpTo}
 use Rattle.kinds.specs.declared.Roughage.{Roughage}
+use Rattle.kinds.specs.Free.{«c_free_factor»}
 use Rattle.housing.specs.declared.Factors.{Factors}
-use Rattle.housing.specs.Housing.{«er_housing», «c_grazing», uncapped, factors, noFactors, handedFactors, «ef_nh3_nhousing», nh3InHousing, throughHousing, inHousing}
+use Rattle.housing.specs.Housing.{«er_housing», «c_grazing», uncapped, factors, noFactors, handedFactors, «ef_nh3_nhousing», aboveCeiling, nh3InHousing, throughHousing, inHousing}
 use Rattle.housing.specs.Bounds.{Grown}
 
 -- ---- 2.87, c_grazing
@@ -79,17 +80,21 @@ uncapped-whole : (r : Roughage) → worth (uncapped dividing r) ≡ uncapped cut
 uncapped-whole r = rw (grown-whole (r .«grazing_days») (r .«grazing_hours»)) refl
 
 module _ (r : Roughage) where
-  pub are-factors : (c rate factor : Quotient) → Grown (r .«grazing_days») (r .«grazing_hours») c
+  pub are-factors : (left : ℕ) (c rate factor : Quotient) → Grown (r .«grazing_days») (r .«grazing_hours») c
       → PortionOf (c .whole) «er_housing» thousandths rate
-      → PortionOf (rate .whole) (percent - r .«free_correction_factor») percent factor
+      → UpTo (percent + percent) («c_free_factor» (r .«free_correction_factor»)) left
+      → TwiceOf (rate .whole) left percent factor
       → _≡_ {A = Factors}
       (record { «c_grazing» = c; «times_er_housing» = rate; «times_c_free_factor_housing» = factor })
       (handedFactors (factors dividing r))
-  are-factors c rate factor g p q = rw (q .cut, p .cut, g .is) refl
+  are-factors left c rate factor g p u q = rw (q .cut, u .is, p .cut, g .is) refl
 
   module _ (f : Factors) (e : f ≡ handedFactors (factors dividing r)) where
     before-ceiling : f .«times_c_free_factor_housing» .whole ≡ uncapped cutting r
     before-ceiling = ap (λ x. x .«times_c_free_factor_housing» .whole) e ∙ uncapped-whole r
+
+    pub is-above : ltb billionths (f .«times_c_free_factor_housing» .whole) ≡ aboveCeiling r
+    is-above = ap (ltb billionths) before-ceiling
 
     pub under-ceiling : f .«times_c_free_factor_housing» .whole ≤ billionths
         → UpTo billionths («ef_nh3_nhousing» cutting r) (f .«times_c_free_factor_housing» .whole)

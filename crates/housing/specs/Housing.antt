@@ -1,12 +1,15 @@
 -- The flow through the housing door, and 2.85 to 2.87: the housing of other roughage-consuming animals and its ammonia.
 use Prim.Native.Nat.{ℕ, _-_, _*_}
+use mathlib.Core.Bool.{Bool}
 use lib.Dec.{ltb}
+use lib.IntN.{ℤ}
 use Rattle.base.specs.Pick.{pick}
 use Rattle.amounts.specs.Units.{percent, thousandths, billionths, year, day}
 use Rattle.amounts.specs.Arithmetic.{Arithmetic, cutting}
 use Rattle.amounts.specs.Dividing.{dividing, handed}
 use Rattle.amounts.specs.Portion.{portion}
 use Rattle.kinds.specs.declared.Roughage.{Roughage}
+use Rattle.kinds.specs.Free.{«c_free_factor»}
 use Rattle.housing.specs.declared.Factors.{Factors}
 use Rattle.housing.specs.declared.Housing.{Housing}
 
@@ -14,9 +17,9 @@ use Rattle.housing.specs.declared.Housing.{Housing}
 abbrev pub «er_housing» : ℕ
 «er_housing» = 275
 
--- 2.86, c_free_factor_housing, in percent: 1 less the free factor
-abbrev pub «c_free_factor_housing» : ℕ → ℕ
-«c_free_factor_housing» free = percent - free
+-- 2.86, c_free_factor_housing, in percent
+abbrev pub «c_free_factor_housing» : ℤ → ℕ
+«c_free_factor_housing» = «c_free_factor»
 
 pub record HousingIn (A : Arithmetic) : Type 0 where
   pub «n_into_housing» : A .Amount
@@ -54,7 +57,7 @@ module _ (A : Arithmetic) where
   abbrev pub uncapped : Roughage → Amount
   uncapped r = portion A (withRate r) («c_free_factor_housing» (r .«free_correction_factor»)) percent
 
-  -- and then the ceiling of 1
+  -- and then the ceiling of 1, which a free factor below zero can reach (02, W3)
   abbrev pub «ef_nh3_nhousing» : Roughage → Amount
   «ef_nh3_nhousing» r = uncapped r atMost billionths
 
@@ -100,6 +103,10 @@ module _ (A : Arithmetic) where
         «n_outhousing» = whole 0;
         «tan_outhousing» = whole 0;
       }
+
+-- 02, W3, the note: the cut factor is above the ceiling
+abbrev pub aboveCeiling : Roughage → Bool
+aboveCeiling r = ltb billionths (uncapped cutting r)
 
 -- ---- the code's structs
 

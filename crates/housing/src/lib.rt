@@ -15,7 +15,7 @@ ghost use Rattle.amounts.specs.Arithmetic.{cutting};
 ghost use Rattle.amounts.specs.Dividing.{dividing};
 ghost use Rattle.amounts.specs.Bounds.{Modest, PortionOf, UpTo};
 ghost use Rattle.kinds.specs.Sound.{SoundRoughage};
-ghost use Rattle.housing.specs.Housing.{«ef_nh3_nhousing», factors, noFactors, handedFactors, inHousing, throughDoor, ofHousing};
+ghost use Rattle.housing.specs.Housing.{«ef_nh3_nhousing», aboveCeiling, factors, noFactors, handedFactors, inHousing, throughDoor, ofHousing};
 ghost use Rattle.housing.specs.Bounds.{Grown};
 
 // What the emission factor is made of: c_grazing, multiplied by er_housing, and then by c_free_factor_housing.
@@ -56,7 +56,8 @@ pub fn factors_of(r: Roughage) -> Factors
 {
     let c = c_grazing(r.grazing_days, r.grazing_hours);
     let rate = amounts::portion(c.whole, ER_HOUSING, THOUSANDTHS);
-    let factor = amounts::portion(rate.whole, PERCENT - r.free_correction_factor, PERCENT);
+    let left = kinds::free::c_free_factor(r.free_correction_factor);
+    let factor = amounts::portion_to_twice(rate.whole, left, PERCENT);
     Factors {
         c_grazing: c,
         times_er_housing: rate,
@@ -74,6 +75,15 @@ pub fn no_factors() -> Factors
         times_er_housing: none,
         times_c_free_factor_housing: none,
     }
+}
+
+// Whether the factor is above the ceiling of 1.
+pub fn above_ceiling(r: Roughage) -> bool
+    requires { ⌜ SoundRoughage r ⌝ }
+    ensures { λ b. ⌜ b ≡ aboveCeiling r ⌝ }
+{
+    let f = factors_of(r);
+    BILLIONTHS < f.times_c_free_factor_housing.whole
 }
 
 // The part of the TAN that the housing emits: the factors, then the ceiling of 1.

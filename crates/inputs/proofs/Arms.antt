@@ -1,9 +1,11 @@
 -- The code's data against the definitions: what an arm of a `match` on a slot, or on a module's place, has is what the list has there. Assumes
 -- nothing.
-use Prim.Native.Nat.{ℕ, zero, suc, _+_, _-_, _≤_}
+use Prim.Native.Nat.{ℕ, zero, suc, _+_, _-_, _<_, _≤_}
 use mathlib.Core.Path.{_≡_, refl, sym, ap, _∙_}
+use mathlib.Core.Bool.{false}
 use mathlib.Core.List.{List, [], _∷_}
 use native.Mathlib.Omega.{arith}
+use lib.Dec.{lit≤, eqb}
 use lib.ListN.{length, getD}
 use borrow.Author.Tests.{ne-eqb}
 use Rattle.names.specs.declared.Found.{Found}
@@ -89,10 +91,47 @@ module _ (name : Found) where
   unfolding findPlaced placedAmong firstRow isPlaced findSlots findWithin
   pigs-housing = refl
 
-pub ruleset stretches = (roughage-excretion, roughage-housing, roughage-grazing, cattle-excretion, cattle-outdoor, pigs-excretion, pigs-housing)
+  pub pigs-air-scrubber : findPlaced (At 7) name ≡ findWithin (Of Pigs 4 5) name
+  unfolding findPlaced placedAmong firstRow isPlaced findSlots findWithin
+  pigs-air-scrubber = refl
 
-pub module-none : (place : ℕ) → NoneOf 7 place → (name : Found) → findPlaced (At place) name ≡ findWithin Nowhere name
+  pub pigs-mitigation : findPlaced (At 8) name ≡ findWithin (Of Pigs 5 7) name
+  unfolding findPlaced placedAmong firstRow isPlaced findSlots findWithin
+  pigs-mitigation = refl
+
+  pub pigs-free-factor : findPlaced (At 9) name ≡ findWithin (Of Pigs 7 8) name
+  unfolding findPlaced placedAmong firstRow isPlaced findSlots findWithin
+  pigs-free-factor = refl
+
+pub ruleset stretches = (
+  roughage-excretion,
+  roughage-housing,
+  roughage-grazing,
+  cattle-excretion,
+  cattle-outdoor,
+  pigs-excretion,
+  pigs-housing,
+  pigs-air-scrubber,
+  pigs-mitigation,
+  pigs-free-factor,
+)
+
+above : (i place : ℕ) → i < 10 → 10 ≤ place → eqb i place ≡ false
+above i place b past = ne-eqb i place (λ e. omega arith)
+
+pub module-none : (place : ℕ) → NoneOf 10 place → (name : Found) → findPlaced (At place) name ≡ findWithin Nowhere name
 unfolding findPlaced placedAmong firstRow isPlaced findWithin
 module-none place o name =
-    let past = none-below 7 place o in
-    simp (ne-eqb 0 place (λ e. omega arith), ne-eqb 1 place (λ e. omega arith), ne-eqb 2 place (λ e. omega arith), ne-eqb 3 place (λ e. omega arith), ne-eqb 4 place (λ e. omega arith), ne-eqb 5 place (λ e. omega arith), ne-eqb 6 place (λ e. omega arith))
+    let past = none-below 10 place o in
+    simp (
+      above 0 place (lit≤ tt) past,
+      above 1 place (lit≤ tt) past,
+      above 2 place (lit≤ tt) past,
+      above 3 place (lit≤ tt) past,
+      above 4 place (lit≤ tt) past,
+      above 5 place (lit≤ tt) past,
+      above 6 place (lit≤ tt) past,
+      above 7 place (lit≤ tt) past,
+      above 8 place (lit≤ tt) past,
+      above 9 place (lit≤ tt) past,
+    )

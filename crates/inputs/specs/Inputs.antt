@@ -7,11 +7,19 @@ use mathlib.Core.Bool.{Bool}
 use mathlib.Core.List.{List, [], _∷_}
 use lib.Dec.{eqb}
 use lib.ListN.{length, getD}
-use Rattle.names.specs.declared.Names.the-variants.{Categories, Yards, Floors, HousingTypes}
+use Rattle.names.specs.declared.Names.the-variants.{
+  Categories,
+  Yards,
+  Floors,
+  HousingTypes,
+  AirScrubbers,
+  HousingFloors,
+  HousingAirs,
+}
 use Rattle.inputs.specs.declared.Kind.{Kind}
 use Rattle.inputs.specs.declared.Kind.the-variants.{Roughage, Cattle, Pigs}
 use Rattle.inputs.specs.declared.Form.{Form}
-use Rattle.inputs.specs.declared.Form.the-variants.{Number, OrStandard, NoStandard, OneOf}
+use Rattle.inputs.specs.declared.Form.the-variants.{Number, OrStandard, NoStandard, Signed, OneOf}
 
 -- ---- 01, "Ranges"
 
@@ -24,8 +32,9 @@ kilograms form = form 3 (200 * 1000)
 abbrev pub percentage : (ℕ → ℕ → Form) → Form
 percentage form = form 2 (100 * 100)
 
+-- 02, W3: "The range becomes −100 to 100, whole"
 abbrev pub reduction : Form
-reduction = Number 0 100
+reduction = Signed 100
 
 abbrev pub days : Form
 days = Number 0 365
@@ -44,6 +53,15 @@ floor = OneOf Floors
 
 abbrev pub housingType : Form
 housingType = OneOf HousingTypes
+
+abbrev pub airScrubber : Form
+airScrubber = OneOf AirScrubbers
+
+abbrev pub housingFloor : Form
+housingFloor = OneOf HousingFloors
+
+abbrev pub housingAir : Form
+housingAir = OneOf HousingAirs
 
 -- ---- the list
 
@@ -82,6 +100,10 @@ rowsOf Pigs =
     ∷ ("Livestock::FatteningPigs::Excretion" has "inp_n_excretion" reads kilograms NoStandard)
     ∷ ("Livestock::FatteningPigs::Excretion" has "tan_fraction" reads percentage NoStandard)
     ∷ ("Livestock::FatteningPigs::Housing::Type" has "housing_type" reads housingType)
+    ∷ ("Livestock::FatteningPigs::Housing::AirScrubber" has "air_scrubber" reads airScrubber)
+    ∷ ("Livestock::FatteningPigs::Housing::MitigationOptions" has "mitigation_housing_floor" reads housingFloor)
+    ∷ ("Livestock::FatteningPigs::Housing::MitigationOptions" has "mitigation_housing_air" reads housingAir)
+    ∷ ("Livestock::FatteningPigs::Housing::CFreeFactor" has "free_correction_factor" reads reduction)
     ∷ []
 
 -- the kinds in the list's order

@@ -20,11 +20,13 @@ pub enum Kind {
 }
 
 // How a value reads: a number, by its decimals and the most it may be in units of the last decimal; such a number for which `standard`
-// may stand; one for which it may not, refusal 6; or a name of a list.
+// may stand; one for which it may not, refusal 6; a whole number that may be below zero, by the most that it may be on either side; or a
+// name of a list.
 pub enum Form {
     Number(usize, u32),
     OrStandard(usize, u32),
     NoStandard(usize, u32),
+    Signed(u32),
     OneOf(Names),
 }
 
@@ -45,7 +47,8 @@ const PERCENTAGE_OR_STANDARD: Form = Form::OrStandard(2, 10000);
 
 const PERCENTAGE: Form = Form::NoStandard(2, 10000);
 
-const REDUCTION: Form = Form::Number(0, 100);
+// 02, W3.
+const REDUCTION: Form = Form::Signed(100);
 
 const DAYS: Form = Form::Number(0, 365);
 
@@ -58,6 +61,12 @@ const YARD: Form = Form::OneOf(Names::Yards);
 const FLOOR: Form = Form::OneOf(Names::Floors);
 
 const HOUSING_TYPE: Form = Form::OneOf(Names::HousingTypes);
+
+const AIR_SCRUBBER: Form = Form::OneOf(Names::AirScrubbers);
+
+const HOUSING_FLOOR: Form = Form::OneOf(Names::HousingFloors);
+
+const HOUSING_AIR: Form = Form::OneOf(Names::HousingAirs);
 
 fn number_of(kind: Kind) -> u64
     ensures { λ r. ⌜ r ≡ numberOf kind ⌝ }
@@ -82,7 +91,7 @@ pub fn count_of(kind: Kind) -> usize
     match kind {
         Kind::Roughage => 7,
         Kind::Cattle => 9,
-        Kind::Pigs => 4,
+        Kind::Pigs => 8,
     }
 }
 
@@ -127,7 +136,11 @@ fn pigs(slot: usize) -> Input
         0 => Input(names::ANIMALS, HEAD_COUNT),
         1 => Input(names::INP_N_EXCRETION, KILOGRAMS),
         2 => Input(names::TAN_FRACTION, PERCENTAGE),
-        _ => Input(names::HOUSING_TYPE, HOUSING_TYPE),
+        3 => Input(names::HOUSING_TYPE, HOUSING_TYPE),
+        4 => Input(names::AIR_SCRUBBER, AIR_SCRUBBER),
+        5 => Input(names::MITIGATION_HOUSING_FLOOR, HOUSING_FLOOR),
+        6 => Input(names::MITIGATION_HOUSING_AIR, HOUSING_AIR),
+        _ => Input(names::FREE_CORRECTION_FACTOR, REDUCTION),
     }
 }
 
@@ -166,6 +179,9 @@ fn module_at(place: usize) -> Module
         names::CATTLE_OUTDOOR => Module::Of(Kind::Cattle, 3, 9),
         names::PIGS_EXCRETION => Module::Of(Kind::Pigs, 0, 3),
         names::PIGS_HOUSING => Module::Of(Kind::Pigs, 3, 4),
+        names::PIGS_AIR_SCRUBBER => Module::Of(Kind::Pigs, 4, 5),
+        names::PIGS_MITIGATION => Module::Of(Kind::Pigs, 5, 7),
+        names::PIGS_FREE_FACTOR => Module::Of(Kind::Pigs, 7, 8),
         _ => Module::Nowhere,
     }
 }

@@ -9,6 +9,12 @@ use Rattle.kinds.specs.declared.Floor.{Floor}
 use Rattle.kinds.specs.declared.Floor.the-variants.{Solid, Unpaved, Perforated, Paddock}
 use Rattle.kinds.specs.declared.HousingType.{HousingType}
 use Rattle.kinds.specs.declared.HousingType.the-variants.{SlurryConventional, SlurryLabel, SlurryLabelOpen, DeepLitter, Outdoor}
+use Rattle.kinds.specs.declared.AirScrubber.{AirScrubber}
+use Rattle.kinds.specs.declared.AirScrubber.the-variants as scrubbed
+use Rattle.kinds.specs.declared.HousingFloor.{HousingFloor}
+use Rattle.kinds.specs.declared.HousingFloor.the-variants as floored
+use Rattle.kinds.specs.declared.HousingAir.{HousingAir}
+use Rattle.kinds.specs.declared.HousingAir.the-variants as aired
 
 pub record Choice (A : Type 0) : Type 0 where
   pub name : String
@@ -49,6 +55,25 @@ housingChoices =
     ∷ "Outdoor" names Outdoor
     ∷ []
 
+-- 2.58, red_air_scrubber: the formula's names, not the text's
+abbrev pub scrubberChoices : List (Choice AirScrubber)
+scrubberChoices =
+    "acid" names scrubbed.Acid
+    ∷ "biotrickling" names scrubbed.Biotrickling
+    ∷ "none" names scrubbed.None
+    ∷ []
+
+-- 2.59, red_housing_floor
+abbrev pub housingFloorChoices : List (Choice HousingFloor)
+housingFloorChoices = "none" names floored.None ∷ []
+
+-- 2.59, red_housing_air
+abbrev pub housingAirChoices : List (Choice HousingAir)
+housingAirChoices =
+    "low_impuls_air_supply" names aired.LowImpulsAirSupply
+    ∷ "none" names aired.None
+    ∷ []
+
 -- the choice at a place; past the last the last
 unfoldable pub yardAt : ℕ → ExerciseYard
 yardAt place = getD (variantsOf yardChoices) place Exclusively
@@ -58,3 +83,12 @@ floorAt place = getD (variantsOf floorChoices) place Paddock
 
 unfoldable pub housingAt : ℕ → HousingType
 housingAt place = getD (variantsOf housingChoices) place Outdoor
+
+unfoldable pub scrubberAt : ℕ → AirScrubber
+scrubberAt place = getD (variantsOf scrubberChoices) place scrubbed.None
+
+unfoldable pub housingFloorAt : ℕ → HousingFloor
+housingFloorAt place = getD (variantsOf housingFloorChoices) place floored.None
+
+unfoldable pub housingAirAt : ℕ → HousingAir
+housingAirAt place = getD (variantsOf housingAirChoices) place aired.None

@@ -1,6 +1,7 @@
 -- What the formulas may count on: each input is in its range (01, "Ranges"). Of every herd that passes the record
 -- checks it is a theorem: `typed-sound` of crate `typed`.
 use Prim.Native.Nat.{ℕ, _≤_}
+use lib.IntN.{natAbs}
 use Rattle.tables.specs.Standards.{_kg}
 use Rattle.amounts.specs.Units.{percent, tenThousandths, year, day}
 use Rattle.kinds.specs.declared.Entered.{Entered}
@@ -28,13 +29,13 @@ pub record SoundRoughage (r : Roughage) : Type 0 where
   pub animals : r .animals ≤ mostAnimals
   pub grams : EnteredTo mostGrams (r .«inp_n_excretion»)
   pub fraction : EnteredTo tenThousandths (r .«tan_fraction»)
-  pub free : r .«free_correction_factor» ≤ percent
+  pub free : natAbs (r .«free_correction_factor») ≤ percent
   pub days : r .«grazing_days» ≤ year
   pub hours : r .«grazing_hours» ≤ day
 
 pub record SoundOutdoor (o : Outdoor) : Type 0 where
   pub yard : o .«yard_days» ≤ year
-  pub free : o .«free_correction_factor» ≤ percent
+  pub free : natAbs (o .«free_correction_factor») ≤ percent
   pub days : o .«grazing_days» ≤ year
   pub hours : o .«grazing_hours» ≤ day
 
@@ -48,6 +49,7 @@ pub record SoundPigs (p : Pigs) : Type 0 where
   pub animals : p .animals ≤ mostAnimals
   pub grams : p .«inp_n_excretion» ≤ mostGrams
   pub fraction : p .«tan_fraction» ≤ tenThousandths
+  pub free : natAbs (p .«free_correction_factor») ≤ percent
 
 pub data Sound : Inputs → Type 0 where
   roughage : {r : Roughage} → SoundRoughage r → Sound (kinds.Roughage r)

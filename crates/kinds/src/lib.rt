@@ -2,6 +2,7 @@
 // them, percent, days of a year, tenths of an hour.
 
 pub mod choices; // the choices by their places in 01's lists
+pub mod free; // what a free factor leaves
 
 // A number that was entered, or `standard` in its place.
 pub enum Entered {
@@ -34,12 +35,30 @@ pub enum HousingType {
     Outdoor,
 }
 
+// 2.58, red_air_scrubber.
+pub enum AirScrubber {
+    Acid,
+    Biotrickling,
+    None,
+}
+
+// 2.59, red_housing_floor.
+pub enum HousingFloor {
+    None,
+}
+
+// 2.59, red_housing_air.
+pub enum HousingAir {
+    LowImpulsAirSupply,
+    None,
+}
+
 // 2.33, the module `Outdoor`: exercise yard and grazing.
 pub struct Outdoor {
     pub yard_days: u64,
     pub exercise_yard: ExerciseYard,
     pub floor_properties_exercise_yard: Floor,
-    pub free_correction_factor: u64,
+    pub free_correction_factor: i64,
     pub grazing_days: u64,
     pub grazing_hours: u64,
 }
@@ -50,7 +69,7 @@ pub struct Roughage {
     pub animals: u64,
     pub inp_n_excretion: Entered,
     pub tan_fraction: Entered,
-    pub free_correction_factor: u64,
+    pub free_correction_factor: i64,
     pub grazing_days: u64,
     pub grazing_hours: u64,
 }
@@ -69,6 +88,10 @@ pub struct Pigs {
     pub inp_n_excretion: u64,
     pub tan_fraction: u64,
     pub housing_type: HousingType,
+    pub air_scrubber: AirScrubber,
+    pub mitigation_housing_floor: HousingFloor,
+    pub mitigation_housing_air: HousingAir,
+    pub free_correction_factor: i64,
 }
 
 pub enum Inputs {

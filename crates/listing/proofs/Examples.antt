@@ -56,6 +56,17 @@ pigLines =
     ∷ "P1,Livestock::FatteningPigs::Grazing,tan_remain_grazing,69.485\r\n"
     ∷ "P1,Livestock::FatteningPigs::Housing,n_into_housing,0.000\r\n"
     ∷ "P1,Livestock::FatteningPigs::Housing,tan_into_housing,0.000\r\n"
+    ∷ "P1,Livestock::FatteningPigs::Housing,nh3_nhousing,0.000\r\n"
+    ∷ "P1,Livestock::FatteningPigs::Housing,n_outhousing_liquid,0.000\r\n"
+    ∷ "P1,Livestock::FatteningPigs::Housing,tan_outhousing_liquid,0.000\r\n"
+    ∷ "P1,Livestock::FatteningPigs::Housing,n_outhousing_solid,0.000\r\n"
+    ∷ "P1,Livestock::FatteningPigs::Housing,tan_outhousing_solid,0.000\r\n"
+    ∷ "P1,Livestock::FatteningPigs::NxOx,n2_nsolid,0.000\r\n"
+    ∷ "P1,Livestock::FatteningPigs::NxOx,no_nsolid,0.000\r\n"
+    ∷ "P1,Livestock::FatteningPigs::NxOx,n2o_nsolid,0.000\r\n"
+    ∷ "P1,Livestock::FatteningPigs::NxOx,n2_nliquid,0.000\r\n"
+    ∷ "P1,Livestock::FatteningPigs::NxOx,no_nliquid,0.000\r\n"
+    ∷ "P1,Livestock::FatteningPigs::NxOx,n2o_nliquid,0.000\r\n"
     ∷ []
 
 computed : herdLines (bytes "P1") Pigs pigFigures ≡ each bytes pigLines

@@ -19,7 +19,7 @@ use Rattle.outputs.specs.declared.Totals.{Totals}
 use Rattle.outputs.specs.Names.{number, totalNumber, totalTexts}
 use Rattle.outputs.specs.Grams.{at}
 use Rattle.listing.specs.Bounds.{longestLabel, longestField, nothing, amountRooms, totalRoom}
-use Rattle.listing.specs.Bounds.{herdRoom, totalsRoom}
+use Rattle.listing.specs.Bounds.{noN2, outdoors, onSlurry, onLitter, herdRoom, totalsRoom}
 use Rattle.listing.specs.HerdLines.{linesOf}
 use Rattle.listing.specs.Listing.{hasComma, labelField, lineOf, each, moduleOf, herdLine, herdLines}
 use Rattle.listing.specs.Listing.{totalPath, totalLine, totalsListing}
@@ -65,26 +65,38 @@ module _ {A : Type 0} (f : A → List ℕ) (room : A → ℕ) where
 -- ---- a herd
 
 -- no amount is longer than its name has room for
-pub record Short (g : List ℤ) : Type 0 where
-  pub amount : (n : ℕ) → length (kilogramsOf (at g n)) ≤ getD amountRooms n nothing
+pub record Short (without : List String) (g : List ℤ) : Type 0 where
+  pub amount : (n : ℕ) → length (kilogramsOf (at g n)) ≤ getD (amountRooms without) n nothing
 
-abbrev lineRoom : Kind → String → ℕ
-lineRoom k n = longestField + length (moduleOf k n) + length (bytes n) + getD amountRooms (number n) nothing + 5
+abbrev lineRoom : List String → Kind → String → ℕ
+lineRoom without k n =
+    longestField + length (moduleOf k n) + length (bytes n) + getD (amountRooms without) (number n) nothing + 5
 
-rooms : (k : Kind) → sumOf (lineRoom k) (linesOf k) ≤ herdRoom
-rooms Roughage = leb→le _ _ tt
-rooms Cattle = leb→le _ _ tt
-rooms Pigs = leb→le _ _ tt
+-- a herd of each kind, and the names under which it has nothing
+pub data Lacks : Kind → List String → Type 0 where
+  roughage : Lacks Roughage noN2
+  cattle : Lacks Cattle noN2
+  pigs-outdoors : Lacks Pigs outdoors
+  pigs-on-slurry : Lacks Pigs onSlurry
+  pigs-on-litter : Lacks Pigs onLitter
 
-pub herd-short : (label : List ℕ) (k : Kind) (f : Figures) → length label ≤ longestLabel → Short (f .grams)
-    → length (herdLines label k f) ≤ herdRoom
-unfolding herdLines
-herd-short label k f h s = le-trans (each-fits (herdLine label k f) (lineRoom k) fits (linesOf k)) (rooms k)
-  where
-    fits : (n : String) → length (herdLine label k f n) ≤ lineRoom k n
-    fits n =
-        let g = at (f .grams) (number n) in
-        omega (arith, line-length label (moduleOf k n) (bytes n) g, field-length label, s .amount (number n))
+rooms : {k : Kind} {without : List String} → Lacks k without → sumOf (lineRoom without k) (linesOf k) ≤ herdRoom
+rooms Lacks.roughage = leb→le _ _ tt
+rooms Lacks.cattle = leb→le _ _ tt
+rooms Lacks.pigs-outdoors = leb→le _ _ tt
+rooms Lacks.pigs-on-slurry = leb→le _ _ tt
+rooms Lacks.pigs-on-litter = leb→le _ _ tt
+
+module _ (label : List ℕ) (k : Kind) (f : Figures) (h : length label ≤ longestLabel) where
+  pub herd-short : {without : List String} → Lacks k without → Short without (f .grams)
+      → length (herdLines label k f) ≤ herdRoom
+  unfolding herdLines
+  herd-short {without} l s = le-trans (each-fits (herdLine label k f) (lineRoom without k) fits (linesOf k)) (rooms l)
+    where
+      fits : (n : String) → length (herdLine label k f n) ≤ lineRoom without k n
+      fits n =
+          let g = at (f .grams) (number n) in
+          omega (arith, line-length label (moduleOf k n) (bytes n) g, field-length label, s .amount (number n))
 
 -- ---- the totals
 

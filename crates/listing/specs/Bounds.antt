@@ -1,10 +1,20 @@
 -- How long a listing can be, and its parts. The code's buffers are this long, and its contracts ask for this room; no reader has to believe it.
 use Prim.Native.Nat.{ℕ, _+_, _*_}
 use Prim.Native.String.{String}
-use mathlib.Core.List.{List, map}
+use mathlib.Core.Bool.{Bool, true, false}
+use mathlib.Core.List.{List, [], _∷_, _++_, map}
 use lib.Text.{eqt}
 use Rattle.base.specs.Pick.{pick}
 use Rattle.outputs.specs.Names.{texts}
+use Rattle.listing.specs.HerdLines.{
+  grazing,
+  intoHousing,
+  liquidOut,
+  solidOut,
+  pigHousing,
+  solidGases,
+  liquidGases,
+}
 
 abbrev pub longestLabel : ℕ
 longestLabel = 16
@@ -22,7 +32,7 @@ longestOwner = longestField + 1 + longestPath
 
 -- section and name, with what stands around them
 abbrev pub longestMiddle : ℕ
-longestMiddle = 29
+longestMiddle = 32
 
 -- a text is copied in blocks of so many bytes, and is at most three of them
 abbrev pub block : ℕ
@@ -41,16 +51,34 @@ nothing = 5
 abbrev pub longestAmount : ℕ
 longestAmount = 11
 
--- there is no N2 from pasture; of the TAN less than nothing may remain there
-abbrev pub amountRoom : String → ℕ
-amountRoom name =
-    pick (eqt name "n2_ngrazing") nothing
+-- The names under which a herd has nothing. No N2 comes from pasture; pigs are outdoors, on slurry or on litter, and
+-- have nothing elsewhere.
+abbrev pub noN2 : List String
+noN2 = "n2_ngrazing" ∷ []
+
+abbrev pub outdoors : List String
+outdoors = noN2 ++ intoHousing ++ pigHousing ++ solidGases ++ liquidGases
+
+abbrev pub onSlurry : List String
+onSlurry = grazing ++ solidOut ++ solidGases
+
+abbrev pub onLitter : List String
+onLitter = grazing ++ liquidOut ++ liquidGases
+
+abbrev pub among : List String → String → Bool
+among [] name = false
+among (t ∷ ts) name = pick (eqt name t) true (among ts name)
+
+-- of the TAN less than nothing may remain on pasture
+abbrev pub amountRoom : List String → String → ℕ
+amountRoom without name =
+    pick (among without name) nothing
     (pick (eqt name "tan_remain_grazing") (longestAmount + 1)
     longestAmount)
 
 -- by the number of the name
-abbrev pub amountRooms : List ℕ
-amountRooms = map amountRoom texts
+abbrev pub amountRooms : List String → List ℕ
+amountRooms without = map (amountRoom without) texts
 
 -- as long as -128000000.000, 64 times as much, and below zero
 abbrev pub totalRoom : ℕ
@@ -58,9 +86,9 @@ totalRoom = 14
 
 -- ---- listings
 
--- the listing of any such herd: seventeen lines, of cattle with a label in quotes (proofs/Lengths.antt)
+-- the listing of any such herd: twenty-three lines, of pigs in a house with a label in quotes (proofs/Lengths.antt)
 abbrev pub herdRoom : ℕ
-herdRoom = 1320
+herdRoom = 1762
 
 -- the listing of any such farm's totals: eighteen lines
 abbrev pub totalsRoom : ℕ

@@ -1,4 +1,4 @@
--- 01, The listing, "Order": the names that a herd of each kind lists, each under the section of its row.
+-- 01, The listing, "Order", and 02, W1: the names that a herd of each kind lists, each under the section of its row.
 use Prim.Native.String.{String}
 use mathlib.Core.List.{List, [], _∷_, _++_}
 use Rattle.inputs.specs.declared.Kind.{Kind}
@@ -16,7 +16,7 @@ excretion = "n_excretion" ∷ "tan_excretion" ∷ []
 abbrev yard : List String
 yard = "n_into_yard" ∷ "tan_into_yard" ∷ "nh3_nyard" ∷ "n_outyard_liquid" ∷ "tan_outyard_liquid" ∷ []
 
-abbrev grazing : List String
+abbrev pub grazing : List String
 grazing =
     "n_into_grazing"
     ∷ "tan_into_grazing"
@@ -28,14 +28,31 @@ grazing =
     ∷ "tan_remain_grazing"
     ∷ []
 
-abbrev intoHousing : List String
+abbrev pub intoHousing : List String
 intoHousing = "n_into_housing" ∷ "tan_into_housing" ∷ []
 
 -- "and for roughage"
 abbrev roughageHousing : List String
 roughageHousing = "nh3_nhousing" ∷ "n_outhousing" ∷ "tan_outhousing" ∷ []
 
+-- 02, W1: "nh3_nhousing, then n_ and tan_outhousing_liquid, n_ and tan_outhousing_solid"
+abbrev pub liquidOut : List String
+liquidOut = "n_outhousing_liquid" ∷ "tan_outhousing_liquid" ∷ []
+
+abbrev pub solidOut : List String
+solidOut = "n_outhousing_solid" ∷ "tan_outhousing_solid" ∷ []
+
+abbrev pub pigHousing : List String
+pigHousing = "nh3_nhousing" ∷ (liquidOut ++ solidOut)
+
+-- "then under NxOx n2_, no_, n2o_nsolid and n2_, no_, n2o_nliquid"
+abbrev pub solidGases : List String
+solidGases = "n2_nsolid" ∷ "no_nsolid" ∷ "n2o_nsolid" ∷ []
+
+abbrev pub liquidGases : List String
+liquidGases = "n2_nliquid" ∷ "no_nliquid" ∷ "n2o_nliquid" ∷ []
+
 abbrev pub linesOf : Kind → List String
 linesOf Roughage = excretion ++ grazing ++ intoHousing ++ roughageHousing
 linesOf Cattle = excretion ++ yard ++ grazing ++ intoHousing
-linesOf Pigs = excretion ++ grazing ++ intoHousing
+linesOf Pigs = excretion ++ grazing ++ intoHousing ++ pigHousing ++ solidGases ++ liquidGases

@@ -31,7 +31,7 @@ const PATH_MOST: usize = 28;
 pub const OWNER_MOST: usize = labels::FIELD_MOST + 1 + PATH_MOST;
 
 // Room for the listing of any herd whose inputs are in their ranges, and for the totals of any farm of such herds.
-pub const HERD_ROOM: usize = 1320;
+pub const HERD_ROOM: usize = 1762;
 
 pub const TOTALS_ROOM: usize = 748;
 

@@ -15,7 +15,7 @@ Livestock::FatteningPigs";
 pub const PATH_STARTS: [usize; KINDS + 1] = [0, 28, 50, 74];
 
 // The lines of each kind.
-pub const LINES: [usize; 44] = [
+pub const LINES: [usize; 55] = [
     // roughage
     names::N_EXCRETION,
     names::TAN_EXCRETION,
@@ -63,12 +63,23 @@ pub const LINES: [usize; 44] = [
     names::TAN_REMAIN_GRAZING,
     names::N_INTO_HOUSING,
     names::TAN_INTO_HOUSING,
+    names::NH3_NHOUSING,
+    names::N_OUTHOUSING_LIQUID,
+    names::TAN_OUTHOUSING_LIQUID,
+    names::N_OUTHOUSING_SOLID,
+    names::TAN_OUTHOUSING_SOLID,
+    names::N2_NSOLID,
+    names::NO_NSOLID,
+    names::N2O_NSOLID,
+    names::N2_NLIQUID,
+    names::NO_NLIQUID,
+    names::N2O_NLIQUID,
 ];
 
-pub const LINE_STARTS: [usize; KINDS + 1] = [0, 15, 32, 44];
+pub const LINE_STARTS: [usize; KINDS + 1] = [0, 15, 32, 55];
 
 // What stands in a herd's line between its owner and its amount, by the number of the name.
-pub const MIDDLES: [u8; 478] = *b"\
+pub const MIDDLES: [u8; 734] = *b"\
 ::Excretion,n_excretion,\
 ::Excretion,tan_excretion,\
 ::Yard,n_into_yard,\
@@ -88,7 +99,18 @@ pub const MIDDLES: [u8; 478] = *b"\
 ::Housing,tan_into_housing,\
 ::Housing,nh3_nhousing,\
 ::Housing,n_outhousing,\
-::Housing,tan_outhousing,";
+::Housing,tan_outhousing,\
+::Housing,tan_air_scrubber,\
+::Housing,n_outhousing_liquid,\
+::Housing,tan_outhousing_liquid,\
+::Housing,n_outhousing_solid,\
+::Housing,tan_outhousing_solid,\
+::NxOx,n2_nsolid,\
+::NxOx,no_nsolid,\
+::NxOx,n2o_nsolid,\
+::NxOx,n2_nliquid,\
+::NxOx,no_nliquid,\
+::NxOx,n2o_nliquid,";
 
 pub const STARTS: [usize; names::COUNT + 1] = [
     0,
@@ -112,6 +134,17 @@ pub const STARTS: [usize; names::COUNT + 1] = [
     430,
     453,
     478,
+    505,
+    535,
+    567,
+    596,
+    627,
+    644,
+    661,
+    679,
+    697,
+    715,
+    734,
 ];
 
 // What the totals' lines begin with: an empty label, and the path.

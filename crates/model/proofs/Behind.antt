@@ -80,7 +80,16 @@ same-typed kinds.Cattle h g front =
     )
 same-typed kinds.Pigs h g front =
     let s = same-given kinds.Pigs h g front in
-    rw (s 0 (omega arith), s 1 (omega arith), s 2 (omega arith), s 3 (omega arith))
+    rw (
+      s 0 (omega arith),
+      s 1 (omega arith),
+      s 2 (omega arith),
+      s 3 (omega arith),
+      s 4 (omega arith),
+      s 5 (omega arith),
+      s 6 (omega arith),
+      s 7 (omega arith),
+    )
 
 -- ---- the answer
 

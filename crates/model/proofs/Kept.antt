@@ -24,9 +24,10 @@ use Rattle.checks.proofs.Accepts.{farm-each}
 use Rattle.amounts.specs.Arithmetic.{cutting}
 use Rattle.amounts.specs.Bounds.{Modest}
 use Rattle.kinds.specs.declared.Roughage.{Roughage}
+use Rattle.kinds.specs.declared.Pigs.{Pigs}
 use Rattle.kinds.specs.declared.Inputs.{Inputs}
 use Rattle.kinds.specs.declared.Inputs.the-variants as typed
-use Rattle.kinds.specs.Sound.{SoundRoughage, Sound}
+use Rattle.kinds.specs.Sound.{SoundRoughage, SoundPigs, Sound}
 use Rattle.rates.specs.Rates.{roughageRates, pigsRates}
 use Rattle.rates.proofs.Modest.{roughage-rates-modest, pigs-rates-modest}
 use Rattle.excretion.specs.Excretion.{ExcretionIn}
@@ -35,17 +36,28 @@ use Rattle.pasture.specs.Pasture.{outdoorIntoGrazing, roughageIntoGrazing, pigs
 use Rattle.pasture.proofs.OnPasture.{pasture-keeps-n, pasture-keeps-tan}
 use Rattle.pasture.proofs.Into.{outdoor-into-le, roughage-into-le, pigs-into-le, outdoor-pasture-modest, roughage-pasture-modest, roughage-housing-modest, pigs-pasture-modest}
 use Rattle.housing.proofs.InHousing.{housing-keeps-n, housing-keeps-tan}
-use Rattle.typed.specs.Typed.{roughageOf, typedOf}
+use Rattle.pig_house.proofs.Through.{pig-house-keeps-n, pig-house-keeps-tan}
+use Rattle.typed.specs.Typed.{roughageOf, pigsOf, typedOf}
 use Rattle.typed.proofs.Sound.{typed-sound}
 use Rattle.outputs.specs.declared.Figures.{Figures}
 use Rattle.outputs.specs.Sections.{FiguresIn}
 use Rattle.outputs.specs.Grams.{gramsOf, figure, total, totalsOf}
 use Rattle.outputs.proofs.Alone.{isAlone, totals-balance}
-use Rattle.herd.specs.Herd.{roughageOn, figuresOf}
-use Rattle.herd.proofs.Made.{Made, of-roughage, of-outdoor, of-pigs, made, roughage-starts}
+use Rattle.herd.specs.Herd.{roughageOn, pigsOn, figuresOf}
+use Rattle.herd.proofs.Housed.{pigs-enter}
+use Rattle.herd.proofs.Made.{Made, of-roughage, of-outdoor, of-pigs, made, roughage-starts, pigs-start}
 use Rattle.model.specs.Answers.{herdFigures, farmAnswer}
-use Rattle.model.proofs.OfKind.{typed-roughage, roughage-sound}
-use Rattle.model.specs.Kept.{Balance, Balanced, farmBalances, yardBalances, Keeps, KeepsHousing, KeepsTotals}
+use Rattle.model.proofs.OfKind.{typed-roughage, typed-pigs, roughage-sound, pigs-sound}
+use Rattle.model.specs.Kept.{
+  Balance,
+  Balanced,
+  farmBalances,
+  yardBalances,
+  Keeps,
+  KeepsHousing,
+  KeepsPigHouse,
+  KeepsTotals,
+}
 
 -- ---- a herd
 
@@ -58,6 +70,9 @@ of-two x a b e = let d : x ≡ 0 + a + b = omega arith in ap pos d
 
 of-three : (x a b c : ℕ) → x ≡ a + b + c → pos x ≡ pos (0 + a + b + c)
 of-three x a b c e = let d : x ≡ 0 + a + b + c = omega arith in ap pos d
+
+of-four : (x a b c d : ℕ) → x ≡ a + b + c + d → pos x ≡ pos (0 + a + b + c + d)
+of-four x a b c d e = let q : x ≡ 0 + a + b + c + d = omega arith in ap pos q
 
 of-five : (x y a b c d : ℕ) → x ≡ y + (a + b + c + d) → pos x ≡ pos (0 + a + b + c + d + y)
 of-five x y a b c d e = let q : x ≡ 0 + a + b + c + d + y = omega arith in ap pos q
@@ -102,7 +117,8 @@ made-keeps (of-outdoor r o e hr s m) =
     (pasture-keeps-n r (outdoorIntoGrazing cutting o n) (outdoorIntoGrazing cutting o tan) hr (outdoor-pasture-modest o s n tan m))
     (pasture-keeps-tan r (outdoorIntoGrazing cutting o n) (outdoorIntoGrazing cutting o tan))
     (yard-keeps-n o s n tan m) (yard-keeps-tan o s n tan)
-made-keeps (of-pigs t e m) =
+made-keeps (of-pigs p e s m) =
+    let t = p .«housing_type» in
     let n = e .«n_excretion» in
     let tan = e .«tan_excretion» in
     keeps-from _ (omega (arith, pigs-into-le t n)) (omega (arith, pigs-into-le t tan))
@@ -133,6 +149,25 @@ roughage-keeps r s = housing-keeps r _ s (roughage-starts r s)
 
 pub kept-in-housing : (h : Herd) → checkHerd h ≡ Accepted → h .kind ≡ kinds.Roughage → KeepsHousing (herdFigures h)
 kept-in-housing h e k = rw (typed-roughage h k) (roughage-keeps (roughageOf h) (roughage-sound h e k))
+
+-- the house of pigs
+pig-house-keeps : (p : Pigs) (e : ExcretionIn cutting) → Modest (e .«n_excretion») (e .«tan_excretion»)
+    → KeepsPigHouse (herdOf (pigsOn cutting p e))
+pig-house-keeps p e m =
+    let t = p .«housing_type» in
+    let excreted = e .«tan_excretion» in
+    let n = e .«n_excretion» - pigsIntoGrazing cutting t (e .«n_excretion») in
+    let tan = excreted - pigsIntoGrazing cutting t excreted in
+    let enters = pigs-enter p (e .«n_excretion») excreted m in
+    more (record { kept = of-four _ _ _ _ _ (pig-house-keeps-n p excreted n tan enters) })
+    (more (record { kept = of-four _ _ _ _ _ (pig-house-keeps-tan p excreted n tan enters) }) none)
+
+pigs-keep : (p : Pigs) → SoundPigs p → KeepsPigHouse (figuresOf (typed.Pigs p))
+unfolding figuresOf
+pigs-keep p s = pig-house-keeps p _ (pigs-start p s)
+
+pub kept-in-pig-house : (h : Herd) → checkHerd h ≡ Accepted → h .kind ≡ kinds.Pigs → KeepsPigHouse (herdFigures h)
+kept-in-pig-house h e k = rw (typed-pigs h k) (pigs-keep (pigsOf h) (pigs-sound h e k))
 
 -- ---- a farm
 

@@ -5,8 +5,8 @@ use Rattle.farm.specs.declared.Herd.{Herd}
 use Rattle.farm.specs.declared.Checked.the-variants.{Accepted}
 use Rattle.checks.specs.Checks.{checkHerd}
 use Rattle.kinds.specs.declared.Inputs.the-variants as typed
-use Rattle.kinds.specs.Sound.{SoundRoughage, SoundCattle}
-use Rattle.kinds.proofs.OfKind.{sound-roughage, sound-cattle}
+use Rattle.kinds.specs.Sound.{SoundRoughage, SoundCattle, SoundPigs}
+use Rattle.kinds.proofs.OfKind.{sound-roughage, sound-cattle, sound-pigs}
 use Rattle.typed.specs.Typed.{roughageOf, cattleOf, pigsOf, typedOf}
 use Rattle.typed.proofs.Sound.{typed-sound}
 
@@ -29,3 +29,6 @@ module _ (h : Herd) where
 
     pub cattle-sound : h .kind ≡ kinds.Cattle → SoundCattle (cattleOf h)
     cattle-sound k = sound-cattle (typedOf h) (typed-sound h accepted) (cattleOf h) (typed-cattle k)
+
+    pub pigs-sound : h .kind ≡ kinds.Pigs → SoundPigs (pigsOf h)
+    pigs-sound k = sound-pigs (typedOf h) (typed-sound h accepted) (pigsOf h) (typed-pigs k)

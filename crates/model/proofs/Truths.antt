@@ -1,9 +1,11 @@
--- The truths of the sections (proofs/Truths of `excretion`, `yard`, `pasture` and `housing`) said of every accepted
--- record, over its figures by name; and that a farm's totals do not depend on the order of its herds. Assumes nothing.
+-- The truths of the sections (proofs/Truths of `excretion`, `yard`, `pasture`, `housing` and `pig_house`) said of every
+-- accepted record, over its figures by name; and that a farm's totals do not depend on the order of its herds. Assumes
+-- nothing.
 use Prim.Native.Nat.{ℕ, _-_, _*_, _/_, _≤_, _<_}
 use mathlib.Core.Path.{_≡_, refl, sym, ap, subst, _∙_}
 use native.Mathlib.Nat.{le-refl, mul-le-mul-left, div-mul-le-self}
 use native.Mathlib.Omega.{arith}
+use borrow.Author.Needs.{zero≤}
 use lib.Dec.{le→leb}
 use lib.IntN.{pos}
 use lib.Signed.{_≤ℤ_, leZ-yes}
@@ -17,6 +19,7 @@ use Rattle.farm.specs.declared.Herd.{Herd}
 use Rattle.farm.specs.declared.Farm.{Farm}
 use Rattle.farm.specs.declared.Checked.the-variants.{Accepted}
 use Rattle.checks.specs.Checks.{checkHerd, checkFarm, herdsOf}
+use Rattle.cut.proofs.Shares.{part-le}
 use Rattle.amounts.specs.Units.{billionths, year}
 use Rattle.amounts.specs.Arithmetic.{cutting}
 use Rattle.amounts.specs.Bounds.{Modest}
@@ -26,13 +29,22 @@ use Rattle.kinds.specs.declared.HousingType.the-variants.{Outdoor}
 use Rattle.kinds.specs.declared.Roughage.{Roughage}
 use Rattle.kinds.specs.declared.Cattle.{Cattle}
 use Rattle.kinds.specs.declared.Pigs.{Pigs}
+use Rattle.kinds.specs.declared.Inputs.{Inputs}
 use Rattle.kinds.specs.declared.Inputs.the-variants as typed
-use Rattle.kinds.specs.Sound.{SoundRoughage, SoundCattle}
+use Rattle.kinds.specs.Sound.{SoundRoughage, SoundCattle, Sound, roughage, cattle}
+use Rattle.kinds.specs.Sound as sound
 use Rattle.rates.specs.Rates.{cattleRates}
 use Rattle.excretion.specs.Excretion.{ExcretionIn, excreted}
-use Rattle.yard.specs.Yard.{YardIn, onYard}
+use Rattle.yard.specs.Yard.{YardIn, onYard, noYard}
 use Rattle.yard.proofs.Truths.{tan-into-yard-in-n, not-available-no-yard}
-use Rattle.pasture.specs.Pasture.{GrazingIn, roughageIntoGrazing, afterGases, outdoorGrazing}
+use Rattle.pasture.specs.Pasture.{
+  GrazingIn,
+  roughageIntoGrazing,
+  pigsIntoGrazing,
+  afterGases,
+  outdoorGrazing,
+  pigsGrazing,
+}
 use Rattle.pasture.proofs.Truths.{
   tan-into-outdoor-grazing-in-n,
   tan-into-roughage-grazing-in-n,
@@ -42,18 +54,41 @@ use Rattle.pasture.proofs.Truths.{
   housed-pigs-no-pasture,
   outdoor-pigs-leave-nothing,
 }
-use Rattle.housing.specs.Housing.{«ef_nh3_nhousing»}
-use Rattle.housing.proofs.Truths.{c-grazing-from-1-to-k, factor-below-073, ceiling-not-reached}
-use Rattle.typed.specs.Typed.{roughageOf, outdoorOf, cattleOf, pigsOf}
+use Rattle.housing.specs.Housing.{HousingIn, throughDoor, «ef_nh3_nhousing»}
+use Rattle.housing.proofs.InHousing.{nh3-in-housing-le}
+use Rattle.housing.proofs.Truths.{c-grazing-from-1-to-k, factor-below-146, factor-below-073, ceiling-not-reached}
+use Rattle.pig_house.specs.PigHouse as pigs
+use Rattle.pig_house.specs.PigHouse.{PigHouseIn, pigHouse, noPigHouse}
+use Rattle.pig_house.specs.NxOx.{NxOxIn, nxOx, noNxOx}
+use Rattle.pig_house.proofs.Factor.{ef-nh3-nhousing-le}
+use Rattle.pig_house.proofs.Truths.{
+  factor-within-0486,
+  outdoor-house-is-empty,
+  outdoor-fractions-are-empty,
+  outdoors-no-gases,
+}
+use Rattle.typed.specs.Typed.{roughageOf, outdoorOf, cattleOf, pigsOf, typedOf}
 use Rattle.typed.proofs.Sound.{typed-sound}
 use Rattle.outputs.specs.declared.Figures.{Figures}
 use Rattle.outputs.specs.Sections.{FiguresIn}
 use Rattle.outputs.specs.Grams.{gramsOf, figure}
 use Rattle.outputs.proofs.Adding.{totals-in-any-order}
-use Rattle.herd.specs.Herd.{outdoorFrom, pigsFrom, pigsOn, figuresOf}
+use Rattle.herd.specs.Herd.{ofRoughage, ofPigs, outdoorFrom, pigsFrom, pigsThrough, pigsOn, figuresIn, figuresOf}
 use Rattle.herd.proofs.Made.{Made, of-roughage, of-outdoor, of-pigs, made}
 use Rattle.model.specs.Answers.{herdFigures, farmAnswer}
-use Rattle.model.specs.Truths.{TanInN, InHousing, EmitsPart, SameButYardDays, Nothing, pastureNames, housingNames}
+use Rattle.model.specs.Truths.{
+  TanInN,
+  freeOf,
+  BelowCeiling,
+  InHousing,
+  EmitsNoMore,
+  EmitsPart,
+  SameButYardDays,
+  Nothing,
+  NotBelowZero,
+  pastureNames,
+  houseNames,
+}
 use Rattle.model.proofs.OfKind.{typed-roughage, typed-cattle, typed-pigs, roughage-sound, cattle-sound}
 
 abbrev herdOf : FiguresIn cutting → Figures
@@ -77,11 +112,12 @@ made-tan-in-n (of-outdoor r o e hr s m) =
       on-yard = no-more (tan-into-yard-in-n o (e .«n_excretion») (e .«tan_excretion») (m .tan-most));
       on-pasture = no-more (tan-into-outdoor-grazing-in-n (e .«n_excretion») (e .«tan_excretion») (m .tan-most) r o);
     }
-made-tan-in-n (of-pigs t e m) =
+made-tan-in-n (of-pigs p e s m) =
     record {
       excreted = no-more (m .tan-most);
       on-yard = no-more (le-refl 0);
-      on-pasture = no-more (tan-into-pigs-grazing-in-n (e .«n_excretion») (e .«tan_excretion») (m .tan-most) t);
+      on-pasture = no-more
+          (tan-into-pigs-grazing-in-n (e .«n_excretion») (e .«tan_excretion») (m .tan-most) (p .«housing_type»));
     }
 
 pub tan-in-n : (h : Herd) → checkHerd h ≡ Accepted → TanInN (herdFigures h)
@@ -89,6 +125,13 @@ unfolding figuresOf
 tan-in-n h accepted = made-tan-in-n (made (typed-sound h accepted))
 
 -- ---- the housing of roughage-consuming animals
+
+below-ceiling : (r : Roughage) → SoundRoughage r → (free : ℕ) → r .«free_correction_factor» ≡ pos free → BelowCeiling r
+below-ceiling r s free e =
+    record {
+      factor-most = rw (ceiling-not-reached r s free e) (factor-below-073 r s free e);
+      no-ceiling = ceiling-not-reached r s free e;
+    }
 
 pub in-housing : (h : Herd) → checkHerd h ≡ Accepted → h .kind ≡ kinds.Roughage → InHousing (roughageOf h)
 in-housing h accepted k =
@@ -98,8 +141,8 @@ in-housing h accepted k =
     record {
       c-least = c .0;
       c-most = c .1;
-      factor-most = rw (ceiling-not-reached r s) (factor-below-073 r s);
-      no-ceiling = ceiling-not-reached r s;
+      before-ceiling = factor-below-146 r s;
+      not-raised = λ free e. below-ceiling r s free e;
     }
 
 part-emitted : (tan factor : ℕ) → factor < 730000000 → 100 * (tan * factor / billionths) ≤ 73 * tan
@@ -107,17 +150,36 @@ part-emitted tan factor h =
     let most : factor ≤ 730000000 = omega arith in
     omega (arith, mul-le-mul-left tan most, div-mul-le-self (tan * factor) billionths)
 
-made-emits : {f : FiguresIn cutting} → Made f → EmitsPart (herdOf f)
+made-emits : {f : FiguresIn cutting} → Made f → EmitsNoMore (herdOf f)
 made-emits (of-roughage r e s m) =
-    let below : «ef_nh3_nhousing» cutting r < 730000000 = rw (ceiling-not-reached r s) (factor-below-073 r s) in
     let tan = e .«tan_excretion» in
-    part-emitted (tan - roughageIntoGrazing cutting r tan) («ef_nh3_nhousing» cutting r) below
-made-emits (of-outdoor r o e hr s m) = omega arith
-made-emits (of-pigs t e m) = omega arith
+    nh3-in-housing-le r (tan - roughageIntoGrazing cutting r tan)
+made-emits (of-outdoor r o e hr s m) = zero≤
+made-emits (of-pigs p e s m) =
+    let tan = e .«tan_excretion» in
+    part-le (tan - pigsIntoGrazing cutting (p .«housing_type») tan) (pigs.«ef_nh3_nhousing» cutting p) billionths
+    (ef-nh3-nhousing-le p)
 
-pub housing-emits : (h : Herd) → checkHerd h ≡ Accepted → EmitsPart (herdFigures h)
+pub housing-emits : (h : Herd) → checkHerd h ≡ Accepted → EmitsNoMore (herdFigures h)
 unfolding figuresOf
 housing-emits h accepted = made-emits (made (typed-sound h accepted))
+
+-- where the free factor is not below zero
+emits-part : {i : Inputs} → Sound i → (free : ℕ) → freeOf i ≡ pos free → EmitsPart (figuresOf i)
+unfolding figuresOf
+emits-part (roughage {r} s) free e =
+    let tan = ofRoughage cutting r .excretion .«tan_excretion» in
+    part-emitted (tan - roughageIntoGrazing cutting r tan) («ef_nh3_nhousing» cutting r)
+    (below-ceiling r s free e .factor-most)
+emits-part (cattle s) free e = omega arith
+emits-part (sound.pigs {p} s) free e =
+    let below : pigs.«ef_nh3_nhousing» cutting p < 730000000 = omega (arith, factor-within-0486 p free e) in
+    let tan = ofPigs cutting p .excretion .«tan_excretion» in
+    part-emitted (tan - pigsIntoGrazing cutting (p .«housing_type») tan) (pigs.«ef_nh3_nhousing» cutting p) below
+
+pub housing-emits-part : (h : Herd) → checkHerd h ≡ Accepted → (free : ℕ) → freeOf (typedOf h) ≡ pos free
+    → EmitsPart (herdFigures h)
+housing-emits-part h accepted free e = emits-part (typed-sound h accepted) free e
 
 -- ---- no yard
 
@@ -172,40 +234,97 @@ module _ (h g : Herd) (same : SameButYardDays h g) where
 
 -- ---- pigs
 
-module _ (e : ExcretionIn cutting) where
-  empty-pasture : Nothing pastureNames (herdOf (pigsFrom cutting e (afterGases cutting 0 0 0 0 0 0)))
-  empty-pasture =
-      each-same (λ t. figure t (herdOf (pigsFrom cutting e (afterGases cutting 0 0 0 0 0 0)))) (λ t. pos 0) pastureNames
-      refl
-
-  empty-housing : Nothing housingNames (herdOf (pigsOn cutting Outdoor e))
-  empty-housing =
-      more (ap pos (outdoor-pigs-leave-nothing (e .«n_excretion»)))
-      (more (ap pos (outdoor-pigs-leave-nothing (e .«tan_excretion»))) (more refl (more refl (more refl none))))
-
 module _ (p : Pigs) where
   abbrev excretion : ExcretionIn cutting
   excretion = excreted cutting (p .animals) (p .«inp_n_excretion») (p .«tan_fraction»)
 
+  -- indoors nothing comes onto the pasture
+  abbrev indoors : FiguresIn cutting
+  indoors = pigsThrough cutting p excretion (afterGases cutting 0 0 0 0 0 0)
+
+  empty-pasture : Nothing pastureNames (herdOf indoors)
+  empty-pasture = each-same (λ t. figure t (herdOf indoors)) (λ t. pos 0) pastureNames refl
+
   no-pasture : (p .«housing_type» ≡ Outdoor → ⊥) → Nothing pastureNames (figuresOf (typed.Pigs p))
   unfolding figuresOf
   no-pasture housed =
-      subst (λ (g : GrazingIn cutting). Nothing pastureNames (herdOf (pigsFrom cutting excretion g)))
+      subst (λ (g : GrazingIn cutting). Nothing pastureNames (herdOf (pigsThrough cutting p excretion g)))
       (sym (housed-pigs-no-pasture (p .«housing_type») (excretion .«n_excretion») (excretion .«tan_excretion») housed))
-      (empty-pasture excretion)
+      empty-pasture
 
-  no-housing : p .«housing_type» ≡ Outdoor → Nothing housingNames (figuresOf (typed.Pigs p))
-  unfolding figuresOf
-  no-housing outdoors =
-      subst (λ (t : HousingType). Nothing housingNames (herdOf (pigsOn cutting t excretion))) (sym outdoors)
-      (empty-housing excretion)
+  -- outdoors the house is empty
+  abbrev pasture : GrazingIn cutting
+  pasture = pigsGrazing cutting (p .«housing_type») (excretion .«n_excretion») (excretion .«tan_excretion»)
+
+  abbrev outdoors : HousingIn cutting → PigHouseIn cutting → NxOxIn cutting → FiguresIn cutting
+  outdoors h q x =
+      record { excretion = excretion; yard = noYard cutting; grazing = pasture; housing = h; pigHouse = q; nxOx = x }
+
+  empty-house : Nothing houseNames (herdOf (outdoors (throughDoor cutting 0 0) (noPigHouse cutting) (noNxOx cutting)))
+  empty-house =
+      each-same
+      (λ t. figure t (herdOf (outdoors (throughDoor cutting 0 0) (noPigHouse cutting) (noNxOx cutting))))
+      (λ t. pos 0) houseNames refl
+
+  module _ (out : p .«housing_type» ≡ Outdoor) where
+    left-over : (x : ℕ) → x - pigsIntoGrazing cutting (p .«housing_type») x ≡ 0
+    left-over x = rw out (outdoor-pigs-leave-nothing x)
+
+    is-empty : pigsOn cutting p excretion
+        ≡ outdoors (throughDoor cutting 0 0) (noPigHouse cutting) (noNxOx cutting)
+    is-empty =
+        let tan = excretion .«tan_excretion» in
+        ap (λ (x : ℕ). pigsFrom cutting p excretion pasture x (tan - pigsIntoGrazing cutting (p .«housing_type») tan))
+        (left-over (excretion .«n_excretion»))
+        ∙ ap (pigsFrom cutting p excretion pasture 0) (left-over tan)
+        ∙ ap (λ (h : HousingIn cutting). outdoors h (pigHouse cutting p tan 0 0) (nxOx cutting (p .«housing_type») 0))
+        (outdoor-house-is-empty p out tan)
+        ∙ ap (λ (q : PigHouseIn cutting). outdoors (throughDoor cutting 0 0) q (nxOx cutting (p .«housing_type») 0))
+        (outdoor-fractions-are-empty p out tan)
+        ∙ ap (λ (t : HousingType). outdoors (throughDoor cutting 0 0) (noPigHouse cutting) (nxOx cutting t 0)) out
+        ∙ ap (outdoors (throughDoor cutting 0 0) (noPigHouse cutting)) (outdoors-no-gases 0)
+
+    no-house : Nothing houseNames (figuresOf (typed.Pigs p))
+    unfolding figuresOf
+    no-house = subst (λ (f : FiguresIn cutting). Nothing houseNames (herdOf f)) (sym is-empty) empty-house
 
 module _ (h : Herd) (k : h .kind ≡ kinds.Pigs) where
   pub housed-pigs : (pigsOf h .«housing_type» ≡ Outdoor → ⊥) → Nothing pastureNames (herdFigures h)
   housed-pigs housed = rw (typed-pigs h k) (no-pasture (pigsOf h) housed)
 
-  pub outdoor-pigs : pigsOf h .«housing_type» ≡ Outdoor → Nothing housingNames (herdFigures h)
-  outdoor-pigs outdoors = rw (typed-pigs h k) (no-housing (pigsOf h) outdoors)
+  pub outdoor-pigs : pigsOf h .«housing_type» ≡ Outdoor → Nothing houseNames (herdFigures h)
+  outdoor-pigs out = rw (typed-pigs h k) (no-house (pigsOf h) out)
+
+-- ---- no figure of a house is below zero
+
+from-zero : (x : ℕ) → pos 0 ≤ℤ pos x
+from-zero x = leZ-yes (le→leb 0 x zero≤)
+
+not-below : (f : FiguresIn cutting) → NotBelowZero houseNames (herdOf f)
+not-below f =
+    let h = f .housing in
+    let q = f .pigHouse in
+    let x = f .nxOx in
+    more (from-zero (h .«n_into_housing»))
+    (more (from-zero (h .«tan_into_housing»))
+    (more (from-zero (h .«nh3_nhousing»))
+    (more (from-zero (h .«n_outhousing»))
+    (more (from-zero (h .«tan_outhousing»))
+    (more (from-zero (q .«tan_air_scrubber»))
+    (more (from-zero (q .«n_outhousing_liquid»))
+    (more (from-zero (q .«tan_outhousing_liquid»))
+    (more (from-zero (q .«n_outhousing_solid»))
+    (more (from-zero (q .«tan_outhousing_solid»))
+    (more (from-zero (x .«n2_nsolid»))
+    (more (from-zero (x .«no_nsolid»))
+    (more (from-zero (x .«n2o_nsolid»))
+    (more (from-zero (x .«n2_nliquid»))
+    (more (from-zero (x .«no_nliquid»))
+    (more (from-zero (x .«n2o_nliquid»)) none)))))))))))))))
+
+pub house-not-below-zero : (h : Herd) → NotBelowZero houseNames (herdFigures h)
+unfolding figuresOf
+house-not-below-zero h = not-below (figuresIn cutting (typedOf h))
 
 -- ---- a farm
 

@@ -1,7 +1,8 @@
 -- 01, Herds on both sides of an edge: the rows marked (P), as one table under one statement (`edges` of
 -- proofs/Edges.antt). With them the c of row 9, which a program runs: no figure shows it, since nothing goes into the
 -- housing there. Then the rows of the notes (crate `notes`, specs/Rows), 01's example of a cut that is no rounding to
--- nearest, and a row for each share and each floor. To be believed.
+-- nearest, a row for each share and each floor, rows of three pig houses (02, W1), and rows of free factors below zero
+-- (02, W3). To be believed.
 use Prim.Native.Nat.{ℕ}
 use Prim.Native.String.{String}
 use mathlib.Core.Path.{_≡_}
@@ -16,10 +17,12 @@ use Rattle.kinds.specs.declared.ExerciseYard.the-variants.{NotAvailable, NotSup
 use Rattle.kinds.specs.declared.Floor.{Floor}
 use Rattle.kinds.specs.declared.Floor.the-variants.{Solid, Unpaved, Perforated, Paddock}
 use Rattle.kinds.specs.declared.HousingType.the-variants as housed
+use Rattle.kinds.specs.declared.AirScrubber.the-variants as scrubber
+use Rattle.kinds.specs.declared.HousingAir.the-variants as air
 use Rattle.kinds.specs.declared.Inputs.{Inputs}
 use Rattle.housing.specs.Housing.{«c_grazing»}
 use Rattle.notes.specs.Rows as notes
-use Rattle.notes.specs.Rows.{Row, told, _gets_, cattle, outdoors, roughage, pigs, category}
+use Rattle.notes.specs.Rows.{Row, told, _gets_, below, cattle, outdoors, roughage, pigsIn, pigs, category}
 use Rattle.outputs.specs.Grams.{figure}
 use Rattle.herd.specs.Herd.{figuresOf}
 
@@ -55,28 +58,48 @@ c-at days hours c = record { given = factor («c_grazing» cutting days hours); 
 -- ---- the herds
 
 -- the cattle rows marked C: "10 head, 73 kg, TAN 60 percent, yard 365 days, solid floor, free 0, 12 hours"
+abbrev freed : ℤ → Floor → ExerciseYard → ℕ → Inputs
+freed free floor yard days = cattle 10 (73 kg) 6000 (outdoors 365 yard floor free days 120)
+
 abbrev onFloor : Floor → ExerciseYard → ℕ → Inputs
-onFloor floor yard days = cattle 10 (73 kg) 6000 (outdoors 365 yard floor 0 days 120)
+onFloor floor yard days = freed (pos 0) floor yard days
 
 abbrev pub C : ExerciseYard → ℕ → Inputs
 C yard days = onFloor Solid yard days
 
 abbrev pub row4 : Inputs
-row4 = cattle 10 (73 kg) 200 (outdoors 0 NotAvailable Solid 0 365 240)
+row4 = cattle 10 (73 kg) 200 (outdoors 0 NotAvailable Solid (pos 0) 365 240)
+
+abbrev deer : ℤ → ℕ → ℕ → Inputs
+deer free days hours = roughage (category "fallow_deer") Standard Standard free days hours
 
 abbrev fallowDeer : Inputs
-fallowDeer = roughage (category "fallow_deer") Standard Standard 0 0 0
+fallowDeer = deer (pos 0) 0 0
 
 abbrev outdoorPigs : Inputs
 outdoorPigs = pigs (13 kg) 7000 housed.Outdoor
 
 -- "5 grams, share 0.1, both counts 365, 24 hours"
 abbrev fiveGrams : Inputs
-fiveGrams = cattle 1 (5 g) 0 (outdoors 365 NotSupplied Solid 0 365 240)
+fiveGrams = cattle 1 (5 g) 0 (outdoors 365 NotSupplied Solid (pos 0) 365 240)
 
 -- 5 grams of N, 4 of them TAN, on yard and pasture a fifth of the year each
 abbrev fourOfFive : Inputs
-fourOfFive = cattle 1 (5 g) 8000 (outdoors 365 Partly Solid 0 365 60)
+fourOfFive = cattle 1 (5 g) 8000 (outdoors 365 Partly Solid (pos 0) 365 60)
+
+-- 02, W1: three pig houses with 130,000 g N and 91,000 g TAN
+abbrev acidHouse : Inputs
+acidHouse = pigsIn (13 kg) 7000 housed.SlurryConventional scrubber.Acid air.None (pos 0)
+
+abbrev filterHouse : Inputs
+filterHouse = pigsIn (13 kg) 7000 housed.SlurryLabel scrubber.Biotrickling air.LowImpulsAirSupply (pos 7)
+
+abbrev litterHouse : Inputs
+litterHouse = pigs (13 kg) 7000 housed.DeepLitter
+
+-- 02, W3: the same with twice its rate
+abbrev litterTwice : Inputs
+litterTwice = pigsIn (13 kg) 7000 housed.DeepLitter scrubber.None air.None (below 100)
 
 -- ---- the table
 
@@ -156,6 +179,43 @@ further =
     ∷ gives (onFloor Unpaved Partly 0) "nh3_nyard" (pos 30660)
     ∷ gives (onFloor Perforated Partly 0) "nh3_nyard" (pos 15330)
     ∷ gives (onFloor Paddock Partly 0) "nh3_nyard" (pos 6132)
+    -- a conventional house with an acid scrubber: 0.243 × 0.1 of the TAN is emitted
+    ∷ gives acidHouse "nh3_nhousing" (pos 2211)
+    ∷ gives acidHouse "tan_air_scrubber" (pos 0)
+    ∷ gives acidHouse "n_outhousing_liquid" (pos 127789)
+    ∷ gives acidHouse "tan_outhousing_liquid" (pos 88789)
+    -- a label house with a filter: 0.486 × 0.93 × 0.8 before the filter, of which half is let out at 0.3; the filter
+    -- keeps 0.35 × that
+    ∷ gives filterHouse "nh3_nhousing" (pos 25500)
+    ∷ gives filterHouse "tan_air_scrubber" (pos 11516)
+    ∷ gives filterHouse "n_outhousing_liquid" (pos 92984)
+    ∷ gives filterHouse "tan_outhousing_liquid" (pos 53984)
+    ∷ gives filterHouse "n_outhousing_solid" (pos 0)
+    ∷ gives filterHouse "n2_nliquid" (pos 2600)
+    ∷ gives filterHouse "no_nliquid" (pos 260)
+    ∷ gives filterHouse "n2o_nliquid" (pos 260)
+    -- deep litter: 0.486, and all of it solid
+    ∷ gives litterHouse "nh3_nhousing" (pos 44226)
+    ∷ gives litterHouse "n_outhousing_liquid" (pos 0)
+    ∷ gives litterHouse "n_outhousing_solid" (pos 85774)
+    ∷ gives litterHouse "tan_outhousing_solid" (pos 46774)
+    ∷ gives litterHouse "n2_nsolid" (pos 6500)
+    ∷ gives litterHouse "no_nsolid" (pos 1300)
+    ∷ gives litterHouse "n2o_nsolid" (pos 1300)
+    -- 02, W3: 25 percent more, of the yard and of the housing
+    ∷ gives (freed (below 25) Solid Partly 0) "nh3_nyard" (pos 76650)
+    ∷ gives (deer (below 25) 0 0) "nh3_nhousing" (pos 27500)
+    -- the yard's ceiling: 0.7 × 1.42 is below 1, 0.7 × 1.43 above
+    ∷ gives (freed (below 42) Solid Partly 0) "nh3_nyard" (pos 87074)
+    ∷ gives (freed (below 43) Solid Partly 0) "nh3_nyard" (pos 87600)
+    ∷ gives (freed (below 43) Solid Partly 0) "tan_outyard_liquid" (pos 0)
+    -- the ceiling of the housing: 1.44 would be emitted
+    ∷ gives (deer (below 100) 365 239) "tan_into_housing" (pos 334)
+    ∷ gives (deer (below 100) 365 239) "nh3_nhousing" (pos 334)
+    ∷ gives (deer (below 100) 365 239) "tan_outhousing" (pos 0)
+    -- deep litter comes to 0.972, and to no ceiling
+    ∷ gives litterTwice "nh3_nhousing" (pos 88452)
+    ∷ gives litterTwice "tan_outhousing_solid" (pos 2548)
     ∷ []
 
 abbrev pub table : List Edge

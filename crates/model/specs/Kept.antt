@@ -40,11 +40,20 @@ yardBalances =
     ∷ "tan_into_yard" goes ("nh3_nyard" ∷ "tan_outyard_liquid" ∷ [])
     ∷ []
 
--- what goes into the housing is emitted there or leaves it: 01 follows it so far for roughage-consuming animals alone
+-- what goes into the housing is emitted there or leaves it: so 01 follows it for roughage-consuming animals
 abbrev pub housingBalances : List Balance
 housingBalances =
     "n_into_housing" goes ("nh3_nhousing" ∷ "n_outhousing" ∷ [])
     ∷ "tan_into_housing" goes ("nh3_nhousing" ∷ "tan_outhousing" ∷ [])
+    ∷ []
+
+-- 02, W1: what goes into a pig house is emitted there, kept back by its scrubber, or leaves it as slurry or as solid
+-- manure
+abbrev pub pigHouseBalances : List Balance
+pigHouseBalances =
+    "n_into_housing" goes ("nh3_nhousing" ∷ "tan_air_scrubber" ∷ "n_outhousing_liquid" ∷ "n_outhousing_solid" ∷ [])
+    ∷ "tan_into_housing"
+    goes ("nh3_nhousing" ∷ "tan_air_scrubber" ∷ "tan_outhousing_liquid" ∷ "tan_outhousing_solid" ∷ [])
     ∷ []
 
 -- every kind of herd
@@ -53,6 +62,9 @@ Keeps f = Each (Balanced (λ (t : String). figure t f)) (farmBalances ++ yardBal
 
 abbrev pub KeepsHousing : Figures → Type 0
 KeepsHousing f = Each (Balanced (λ (t : String). figure t f)) housingBalances
+
+abbrev pub KeepsPigHouse : Figures → Type 0
+KeepsPigHouse f = Each (Balanced (λ (t : String). figure t f)) pigHouseBalances
 
 -- a farm's totals, where 01 lists both sides
 abbrev pub KeepsTotals : Totals → Type 0

@@ -14,7 +14,15 @@ use Rattle.base.specs.Part.{sameBytes}
 use Rattle.base.proofs.Clash.{clash}
 use Rattle.base.proofs.Holds.{same-eq, same-self}
 use Rattle.names.specs.declared.Names.{Names}
-use Rattle.names.specs.declared.Names.the-variants.{Categories, Yards, Floors, HousingTypes}
+use Rattle.names.specs.declared.Names.the-variants.{
+  Categories,
+  Yards,
+  Floors,
+  HousingTypes,
+  AirScrubbers,
+  HousingFloors,
+  HousingAirs,
+}
 use Rattle.names.specs.declared.Found.{Found}
 use Rattle.names.specs.declared.Found.the-variants.{At, Nowhere}
 use Rattle.names.specs.Names.{namesOf}
@@ -117,3 +125,6 @@ names-once Categories = refl
 names-once Yards = refl
 names-once Floors = refl
 names-once HousingTypes = refl
+names-once AirScrubbers = refl
+names-once HousingFloors = refl
+names-once HousingAirs = refl

@@ -12,7 +12,6 @@ use Rattle.base.specs.Text.{bytes}
 use Rattle.base.specs.Part.{part, sameBytes}
 use Rattle.base.proofs.Rest.{rest-at, rest-end}
 use Rattle.names.specs.declared.Names.{Names}
-use Rattle.names.specs.declared.Names.the-variants.{Categories, Yards, Floors, HousingTypes}
 use Rattle.names.specs.declared.Found.{Found}
 use Rattle.names.specs.declared.Found.the-variants.{At, Nowhere}
 use Rattle.names.specs.Names.{namesOf}

@@ -45,6 +45,9 @@ modules =
     ∷ "Livestock::OtherCattle::Outdoor"
     ∷ "Livestock::FatteningPigs::Excretion"
     ∷ "Livestock::FatteningPigs::Housing::Type"
+    ∷ "Livestock::FatteningPigs::Housing::AirScrubber"
+    ∷ "Livestock::FatteningPigs::Housing::MitigationOptions"
+    ∷ "Livestock::FatteningPigs::Housing::CFreeFactor"
     ∷ []
 
 abbrev pub inputNames : List String
@@ -60,6 +63,9 @@ inputNames =
     ∷ "exercise_yard"
     ∷ "floor_properties_exercise_yard"
     ∷ "housing_type"
+    ∷ "air_scrubber"
+    ∷ "mitigation_housing_floor"
+    ∷ "mitigation_housing_air"
     ∷ []
 
 -- what was found so far, or else the place i where the text is the one that stands there

@@ -4,7 +4,15 @@ use Prim.Native.String.{String}
 use mathlib.Core.List.{List, [], _∷_}
 use lib.ListN.{length}
 use Rattle.names.specs.declared.Names.{Names}
-use Rattle.names.specs.declared.Names.the-variants.{Categories, Yards, Floors, HousingTypes}
+use Rattle.names.specs.declared.Names.the-variants.{
+  Categories,
+  Yards,
+  Floors,
+  HousingTypes,
+  AirScrubbers,
+  HousingFloors,
+  HousingAirs,
+}
 
 -- 2.84, the eleven categories
 abbrev pub categories : List String
@@ -39,11 +47,26 @@ floors = "solid_floor" ∷ "unpaved_floor" ∷ "perforated_floor" ∷ "paddock_o
 abbrev pub housingTypes : List String
 housingTypes = "Slurry_Conventional" ∷ "Slurry_Label" ∷ "Slurry_Label_Open" ∷ "Deep_Litter" ∷ "Outdoor" ∷ []
 
+-- 2.58, red_air_scrubber
+abbrev pub airScrubbers : List String
+airScrubbers = "acid" ∷ "biotrickling" ∷ "none" ∷ []
+
+-- 2.59, red_housing_floor
+abbrev pub housingFloors : List String
+housingFloors = "none" ∷ []
+
+-- 2.59, red_housing_air
+abbrev pub housingAirs : List String
+housingAirs = "low_impuls_air_supply" ∷ "none" ∷ []
+
 abbrev pub namesOf : Names → List String
 namesOf Categories = categories
 namesOf Yards = yards
 namesOf Floors = floors
 namesOf HousingTypes = housingTypes
+namesOf AirScrubbers = airScrubbers
+namesOf HousingFloors = housingFloors
+namesOf HousingAirs = housingAirs
 
 abbrev pub sizeOf : Names → ℕ
 sizeOf names = length (namesOf names)

@@ -44,6 +44,12 @@ pub const PIGS_EXCRETION: usize = 5;
 
 pub const PIGS_HOUSING: usize = 6;
 
+pub const PIGS_AIR_SCRUBBER: usize = 7;
+
+pub const PIGS_MITIGATION: usize = 8;
+
+pub const PIGS_FREE_FACTOR: usize = 9;
+
 // Which module a path is.
 pub fn find_module(text: &[u8]) -> Found
     ensures { λ r. ⌜ r ≡ findText modules (now (text .entry)) ⌝ }
@@ -80,11 +86,29 @@ pub fn find_module(text: &[u8]) -> Found
         text,
         b"Livestock::FatteningPigs::Excretion",
     );
-    or_at(
+    let f = or_at(
         f,
         PIGS_HOUSING,
         text,
         b"Livestock::FatteningPigs::Housing::Type",
+    );
+    let f = or_at(
+        f,
+        PIGS_AIR_SCRUBBER,
+        text,
+        b"Livestock::FatteningPigs::Housing::AirScrubber",
+    );
+    let f = or_at(
+        f,
+        PIGS_MITIGATION,
+        text,
+        b"Livestock::FatteningPigs::Housing::MitigationOptions",
+    );
+    or_at(
+        f,
+        PIGS_FREE_FACTOR,
+        text,
+        b"Livestock::FatteningPigs::Housing::CFreeFactor",
     )
 }
 
@@ -112,6 +136,12 @@ pub const FLOOR_PROPERTIES_EXERCISE_YARD: usize = 9;
 
 pub const HOUSING_TYPE: usize = 10;
 
+pub const AIR_SCRUBBER: usize = 11;
+
+pub const MITIGATION_HOUSING_FLOOR: usize = 12;
+
+pub const MITIGATION_HOUSING_AIR: usize = 13;
+
 // Which input name a text is.
 pub fn find_input_name(text: &[u8]) -> Found
     ensures { λ r. ⌜ r ≡ findText inputNames (now (text .entry)) ⌝ }
@@ -132,7 +162,15 @@ pub fn find_input_name(text: &[u8]) -> Found
         text,
         b"floor_properties_exercise_yard",
     );
-    or_at(f, HOUSING_TYPE, text, b"housing_type")
+    let f = or_at(f, HOUSING_TYPE, text, b"housing_type");
+    let f = or_at(f, AIR_SCRUBBER, text, b"air_scrubber");
+    let f = or_at(
+        f,
+        MITIGATION_HOUSING_FLOOR,
+        text,
+        b"mitigation_housing_floor",
+    );
+    or_at(f, MITIGATION_HOUSING_AIR, text, b"mitigation_housing_air")
 }
 
 // ---- the names that a value may be
@@ -144,6 +182,9 @@ pub enum Names {
     Yards,
     Floors,
     HousingTypes,
+    AirScrubbers,
+    HousingFloors,
+    HousingAirs,
 }
 
 // How many names a list has.
@@ -155,6 +196,9 @@ pub fn size_of(names: Names) -> usize
         Names::Yards => 4,
         Names::Floors => 4,
         Names::HousingTypes => 5,
+        Names::AirScrubbers => 3,
+        Names::HousingFloors => 1,
+        Names::HousingAirs => 2,
     }
 }
 
@@ -210,5 +254,8 @@ pub fn find_name(names: Names, text: &[u8]) -> Found
             b"Slurry_Conventional Slurry_Label Slurry_Label_Open Deep_Litter Outdoor",
             &[19, 12, 17, 11, 7],
         ),
+        Names::AirScrubbers => find_word(text, b"acid biotrickling none", &[4, 12, 4]),
+        Names::HousingFloors => find_word(text, b"none", &[4]),
+        Names::HousingAirs => find_word(text, b"low_impuls_air_supply none", &[21, 4]),
     }
 }

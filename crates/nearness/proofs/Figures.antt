@@ -9,8 +9,10 @@ use Rattle.cut.proofs.Near.{Near, near-whole}
 use Rattle.amounts.specs.Arithmetic.{Arithmetic, cutting}
 use Rattle.yard.specs.Yard.{noYard}
 use Rattle.housing.specs.Housing.{throughDoor}
+use Rattle.pig_house.specs.PigHouse.{noPigHouse}
+use Rattle.pig_house.specs.NxOx.{noNxOx}
 use Rattle.outputs.specs.Sections.{FiguresIn}
-use Rattle.outputs.specs.Names.{Field, yard, housing, figures, texts}
+use Rattle.outputs.specs.Names.{Field, yard, housing, pigHouse, nxOx, figures, texts}
 use Rattle.outputs.specs.Grams.{gramsOf, at}
 use Rattle.nearness.specs.ByName.{Entry, saidAt}
 use Rattle.nearness.specs.Errors.{Errors, exactly}
@@ -59,6 +61,12 @@ nothing (suc k) = near-whole 0 then nothing k
 
 abbrev pub near-no-yard : NearSection yard (noYard cutting) (noYard exact)
 near-no-yard = nothing (length yard)
+
+abbrev pub near-no-pig-house : NearSection pigHouse (noPigHouse cutting) (noPigHouse exact)
+near-no-pig-house = nothing (length pigHouse)
+
+abbrev pub near-no-nx-ox : NearSection nxOx (noNxOx cutting) (noNxOx exact)
+near-no-nx-ox = nothing (length nxOx)
 
 -- of the housing only what goes through the door
 abbrev pub near-door : {lo hi lo′ hi′ n tan : ℕ} {N TAN : Frac} → Near lo hi (pos n) N → Near lo′ hi′ (pos tan) TAN

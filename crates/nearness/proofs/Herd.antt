@@ -27,7 +27,7 @@ near-herd (kinds.Roughage r) (roughage s) =
     near-roughage r s _ _
     (near-excreted _ _ _ (s .animals) (roughage-grams-le r s) (roughage-fraction-le r s))
 near-herd (kinds.Cattle c) (cattle s) = near-cattle c s _ _ (near-excreted _ _ _ (s .animals) (s .grams) (s .fraction))
-near-herd (kinds.Pigs p) (pigs s) = near-pigs (p .«housing_type») _ _ (near-excreted _ _ _ (s .animals) (s .grams) (s .fraction))
+near-herd (kinds.Pigs p) (pigs s) = near-pigs p _ _ (near-excreted _ _ _ (s .animals) (s .grams) (s .fraction))
 
 pub within-herd : (i : Inputs) → Sound i → (n : ℕ) → Within (promisedAt i n) (at (figuresOf i .grams) n) (exactAt i n)
 within-herd i s n =

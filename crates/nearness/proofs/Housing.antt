@@ -19,10 +19,11 @@ use Rattle.amounts.specs.Arithmetic.{Arithmetic, cutting}
 use Rattle.amounts.specs.Portion.{portion}
 use Rattle.kinds.specs.declared.Roughage.{Roughage}
 use Rattle.kinds.specs.Sound.{SoundRoughage, mostAnimals, mostGrams}
-use Rattle.housing.specs.Housing.{«er_housing», «c_grazing», «ef_nh3_nhousing», nh3InHousing}
+use Rattle.kinds.proofs.Leaves.{free-le}
+use Rattle.housing.specs.Housing.{«er_housing», «c_free_factor_housing», «c_grazing», «ef_nh3_nhousing», nh3InHousing}
 use Rattle.housing.proofs.InHousing.{factor-le}
 use Rattle.nearness.specs.Exact.{exact}
-use Rattle.nearness.proofs.Laws.{near-share, near-rate, near-k}
+use Rattle.nearness.proofs.Laws.{near-twice, near-rate, near-k}
 
 -- what goes into the housing on other days, on grazing days, and on all, in tenths of an hour
 abbrev otherDays : ℕ → ℕ
@@ -68,7 +69,8 @@ module _ (days hours : ℕ) (hd : days ≤ year) (hh : hours ≤ day) where
 
 -- ef_nh3_nhousing before its ceiling, from c_grazing
 abbrev uncapped : (A : Arithmetic) → Roughage → A .Amount → A .Amount
-uncapped A r c = portion A (portion A c «er_housing» thousandths) (percent - r .«free_correction_factor») percent
+uncapped A r c =
+    portion A (portion A c «er_housing» thousandths) («c_free_factor_housing» (r .«free_correction_factor»)) percent
 
 -- the exact factor is not below zero
 not-below-by : (r : Roughage) (b : Bool) (n d : ℕ) → dn ((uncapped exact r (pick b (per n d) (whole billionths)) atMost billionths) .num) ≡ 0
@@ -78,10 +80,12 @@ not-below-by r false n d = refl
 not-below : (r : Roughage) → dn («ef_nh3_nhousing» exact r .num) ≡ 0
 not-below r = not-below-by r (ltb (r .«grazing_days» * r .«grazing_hours») (year * day)) _ _
 
-near-ef : (r : Roughage) → SoundRoughage r → Near 2412500 137500 (pos («ef_nh3_nhousing» cutting r)) («ef_nh3_nhousing» exact r)
+near-ef : (r : Roughage) → SoundRoughage r
+    → Near 3825000 275000 (pos («ef_nh3_nhousing» cutting r)) («ef_nh3_nhousing» exact r)
 near-ef r s =
     near-at-most billionths
-    (near-share (percent - r .«free_correction_factor») percent (lit< tt) (omega arith)
+    (near-twice («c_free_factor_housing» (r .«free_correction_factor»)) percent (lit< tt)
+    (free-le (r .«free_correction_factor») (s .free))
     (near-rate «er_housing» thousandths (lit< tt)
     (near-c (r .«grazing_days») (r .«grazing_hours») (s .days) (s .hours))))
 
@@ -90,6 +94,7 @@ abbrev mostTan : ℕ
 mostTan = mostAnimals * mostGrams
 
 pub near-nh3-in-housing : (r : Roughage) → SoundRoughage r → {lo hi tan : ℕ} {TAN : Frac} → tan ≤ mostTan → Near lo hi (pos tan) TAN
-    → Near ((mostTan * 2412500 + lo * (billionths + 3)) / billionths + 1000001) ((mostTan * 137500 + hi * (billionths + 3)) / billionths + 1)
+    → Near ((mostTan * 3825000 + lo * (billionths + 4)) / billionths + 1000001)
+    ((mostTan * 275000 + hi * (billionths + 4)) / billionths + 1)
     (pos (nh3InHousing cutting r tan)) (nh3InHousing exact r TAN)
 near-nh3-in-housing r s h near = near-factor mostTan billionths (lit< tt) h (factor-le r) (not-below r) near (near-ef r s)

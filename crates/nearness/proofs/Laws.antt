@@ -2,7 +2,7 @@
 -- ceiling and a product, have their laws in crate `cut`.) Assumes nothing.
 use mathlib.Core.Path.{_≡_, refl}
 use Prim.Native.Nat.{ℕ, zero, suc, _+_, _-_, _*_, _/_, _≤_, _<_, zero-le}
-use native.Mathlib.Nat.{mul-one, one-mul, mul-zero, zero-mul, zero-div, mul-pos, lt-div-mul-add}
+use native.Mathlib.Nat.{mul-one, one-mul, mul-zero, zero-mul, zero-div, mul-pos, mul-le-mul-left, lt-div-mul-add}
 use native.Mathlib.Omega.{arith}
 use lib.IntN.{ℤ, pos, negsuc, _*ℤ_}
 use Rattle.cut.specs.Frac.{Frac, per, whole, _⊗_}
@@ -29,6 +29,14 @@ apart q n d {lo} {hi} {x} h = near-shares2 q n 1 1 d (rw (mul-one, one-mul) h)
 pub near-share : (n d : ℕ) {lo hi x : ℕ} {q : Frac} → 0 < d → n ≤ d
     → Near lo hi (pos x) q → Near (lo + 1000000) hi (pos (portion cutting x n d)) (portion exact q n d)
 near-share n d {q} hd h near = apart q n d (near-part n d hd h near)
+
+-- up to twice the amount: the errors double too
+pub near-twice : (n d : ℕ) {lo hi x : ℕ} {q : Frac} → 0 < d → n ≤ d + d
+    → Near lo hi (pos x) q → Near (lo + lo + 1000000) (hi + hi) (pos (portion cutting x n d)) (portion exact q n d)
+near-twice n d {lo} {hi} {q} hd h near =
+    apart q n d
+    (near-cut-to (lo + lo + 1000000) (hi + hi) n d hd
+    (omega (arith, mul-le-mul-left lo h)) (omega (arith, mul-le-mul-left hi h)) near)
 
 -- by a rate in numerals the errors shrink, and compute
 

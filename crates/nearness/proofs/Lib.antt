@@ -1,10 +1,12 @@
 pub mod Laws
+pub mod Exactly
 pub mod Figures
 pub mod Excretion
 pub mod Pasture
 pub mod Housing
 pub mod Roughage
 pub mod Outdoor
+pub mod PigHouse
 pub mod Pigs
 pub mod Table
 pub mod Herd

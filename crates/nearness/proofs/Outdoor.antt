@@ -30,7 +30,16 @@ use Rattle.herd.specs.Herd.{outdoorOn}
 use Rattle.nearness.specs.Errors.{cattleErrors}
 use Rattle.nearness.specs.Exact.{exact}
 use Rattle.nearness.proofs.Laws.{near-share}
-use Rattle.nearness.proofs.Figures.{NearAll, _then_, near-at, NearFigures, _and_, near-door}
+use Rattle.nearness.proofs.Figures.{
+  NearAll,
+  _then_,
+  near-at,
+  NearFigures,
+  _and_,
+  near-no-pig-house,
+  near-no-nx-ox,
+  near-door,
+}
 use Rattle.nearness.proofs.Excretion.{NearExcretion}
 use Rattle.nearness.proofs.Pasture.{near-grazing}
 
@@ -85,6 +94,8 @@ module _ (r : Rates) (hr : ModestRates r) (o : Outdoor) (s : SoundOutdoor o) (e 
       then near-rest (nh3-on-yard-le o s _) tan-yard (near-nh3-yard o s tan-yard)
       then near-grazing r n-on tan-on hr pasture
       and near-door (through-door o s (near .n-near)) (through-door o s (near .tan-near))
+      and near-no-pig-house
+      and near-no-nx-ox
 
 pub near-cattle : (c : Cattle) → SoundCattle c → (e : ExcretionIn cutting) (e′ : ExcretionIn exact) → NearExcretion e e′
     → NearFigures cattleErrors (outdoorOn cutting cattleRates (c .outdoor) e) (outdoorOn exact cattleRates (c .outdoor) e′)

@@ -1,46 +1,72 @@
 -- Fattening pigs: each figure is as near its exact value as the table says. Assumes nothing.
-use Prim.Native.Nat.{ℕ, zero-le}
+use Prim.Native.Nat.{ℕ, _-_}
 use lib.IntN.{pos}
-use Rattle.cut.specs.Frac.{Frac}
-use Rattle.cut.proofs.Near.{Near, near-whole, near-weaken, near-rest}
+use Rattle.cut.specs.Frac.{Frac, _⊖_}
+use Rattle.cut.proofs.Near.{Near}
 use Rattle.amounts.specs.Arithmetic.{cutting}
 use Rattle.kinds.specs.declared.HousingType.{HousingType}
-use Rattle.kinds.specs.declared.HousingType.the-variants.{SlurryConventional, SlurryLabel, SlurryLabelOpen, DeepLitter, Outdoor}
+use Rattle.kinds.specs.declared.HousingType.the-variants.{
+  SlurryConventional,
+  SlurryLabel,
+  SlurryLabelOpen,
+  DeepLitter,
+  Outdoor,
+}
+use Rattle.kinds.specs.declared.Pigs.{Pigs}
 use Rattle.rates.specs.Rates.{pigsRates}
 use Rattle.rates.proofs.Modest.{pigs-rates-modest}
 use Rattle.excretion.specs.Excretion.{ExcretionIn}
 use Rattle.pasture.specs.Pasture.{pigsIntoGrazing}
-use Rattle.pasture.proofs.Into.{pigs-into-le, pigs-pasture-modest}
+use Rattle.pasture.proofs.Into.{pigs-pasture-modest}
 use Rattle.herd.specs.Herd.{pigsOn}
+use Rattle.herd.proofs.Housed.{pigs-enter}
 use Rattle.nearness.specs.Errors.{pigsErrors}
 use Rattle.nearness.specs.Exact.{exact}
-use Rattle.nearness.proofs.Figures.{_then_, near-at, NearFigures, _and_, near-no-yard, near-door}
+use Rattle.nearness.proofs.Figures.{_then_, near-at, NearFigures, _and_, near-no-yard}
 use Rattle.nearness.proofs.Excretion.{NearExcretion}
 use Rattle.nearness.proofs.Pasture.{near-grazing}
+use Rattle.nearness.proofs.PigHouse.{
+  near-nothing,
+  less-nothing,
+  less-itself,
+  near-pig-housing,
+  near-pig-house,
+  near-nx-ox,
+}
 
--- onto the pasture goes all or nothing
-near-into-grazing : (t : HousingType) {lo hi x : ℕ} {q : Frac} → Near lo hi (pos x) q
-    → Near lo hi (pos (pigsIntoGrazing cutting t x)) (pigsIntoGrazing exact t q)
-near-into-grazing Outdoor h = h
-near-into-grazing SlurryConventional h = near-weaken zero-le zero-le (near-whole 0)
-near-into-grazing SlurryLabel h = near-weaken zero-le zero-le (near-whole 0)
-near-into-grazing SlurryLabelOpen h = near-weaken zero-le zero-le (near-whole 0)
-near-into-grazing DeepLitter h = near-weaken zero-le zero-le (near-whole 0)
+-- ---- where an amount goes, N as TAN: all onto the pasture or all into the house
 
-module _ (t : HousingType) (e : ExcretionIn cutting) (e′ : ExcretionIn exact) (near : NearExcretion e e′) where
-  n-on : Near 0 0 (pos (pigsIntoGrazing cutting t (e .«n_excretion»))) (pigsIntoGrazing exact t (e′ .«n_excretion»))
-  n-on = near-into-grazing t (near .n-near)
+module _ {lo hi x : ℕ} {q : Frac} (near : Near lo hi (pos x) q) where
+  onto-pasture : (t : HousingType) → Near lo hi (pos (pigsIntoGrazing cutting t x)) (pigsIntoGrazing exact t q)
+  onto-pasture Outdoor = near
+  onto-pasture SlurryConventional = near-nothing near
+  onto-pasture SlurryLabel = near-nothing near
+  onto-pasture SlurryLabelOpen = near-nothing near
+  onto-pasture DeepLitter = near-nothing near
 
-  tan-on : Near 1000000 0 (pos (pigsIntoGrazing cutting t (e .«tan_excretion»))) (pigsIntoGrazing exact t (e′ .«tan_excretion»))
-  tan-on = near-into-grazing t (near .tan-near)
+  through-door : (t : HousingType)
+      → Near lo hi (pos (x - pigsIntoGrazing cutting t x)) (q ⊖ pigsIntoGrazing exact t q)
+  through-door Outdoor = less-itself near
+  through-door SlurryConventional = less-nothing near
+  through-door SlurryLabel = less-nothing near
+  through-door SlurryLabelOpen = less-nothing near
+  through-door DeepLitter = less-nothing near
 
-  pub near-pigs : NearFigures pigsErrors (pigsOn cutting t e) (pigsOn exact t e′)
-  near-pigs =
-      near-at
-      (near .n-near
-      then near .tan-near
-      then near-no-yard
-      and near-grazing pigsRates n-on tan-on pigs-rates-modest (pigs-pasture-modest t _ _ (near .modest))
-      and near-door
-      (near-rest (pigs-into-le t (e .«n_excretion»)) (near .n-near) n-on)
-      (near-rest (pigs-into-le t (e .«tan_excretion»)) (near .tan-near) tan-on))
+-- ---- the figures
+
+pub near-pigs : (p : Pigs) (e : ExcretionIn cutting) (e′ : ExcretionIn exact) → NearExcretion e e′
+    → NearFigures pigsErrors (pigsOn cutting p e) (pigsOn exact p e′)
+near-pigs p e e′ near =
+    let t = p .«housing_type» in
+    let n-inside = through-door (near .n-near) t in
+    let tan-inside = through-door (near .tan-near) t in
+    let enters = pigs-enter p _ _ (near .modest) in
+    near-at
+    (near .n-near
+    then near .tan-near
+    then near-no-yard
+    and near-grazing pigsRates (onto-pasture (near .n-near) t) (onto-pasture (near .tan-near) t) pigs-rates-modest
+    (pigs-pasture-modest t _ _ (near .modest))
+    and near-pig-housing p (near .tan-near) n-inside tan-inside enters
+    and near-pig-house p (near .tan-near) n-inside tan-inside enters
+    and near-nx-ox t n-inside)

@@ -23,7 +23,15 @@ use Rattle.nearness.specs.ByName.{said}
 use Rattle.nearness.specs.Errors.{exactly, roughageErrors}
 use Rattle.nearness.specs.Exact.{exact}
 use Rattle.nearness.proofs.Laws.{NearBy, near-share}
-use Rattle.nearness.proofs.Figures.{end, _then_, near-at, NearFigures, _and_, near-no-yard}
+use Rattle.nearness.proofs.Figures.{
+  _then_,
+  near-at,
+  NearFigures,
+  _and_,
+  near-no-yard,
+  near-no-pig-house,
+  near-no-nx-ox,
+}
 use Rattle.nearness.proofs.Excretion.{NearExcretion}
 use Rattle.nearness.proofs.Pasture.{near-grazing}
 use Rattle.nearness.proofs.Housing.{near-nh3-in-housing}
@@ -81,4 +89,5 @@ module _ (r : Roughage) (s : SoundRoughage r) (e : ExcretionIn cutting) (e′ : 
       then nh3
       then near-rest (le-trans (nh3-in-housing-le r _) (housing .tan-most)) n-inside nh3
       then near-rest (nh3-in-housing-le r _) tan-inside nh3
-      then end)
+      then near-no-pig-house
+      and near-no-nx-ox)

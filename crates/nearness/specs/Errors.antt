@@ -38,9 +38,9 @@ roughageErrors =
     ∷ "tan_remain_grazing" is 2_000_000 below 3_265_500 above
     ∷ "n_into_housing" is 0 below 1_000_000 above
     ∷ "tan_into_housing" is 1_000_000 below 2_000_000 above
-    ∷ "nh3_nhousing" is 6_825_001 below 2_275_001 above
-    ∷ "n_outhousing" is 2_275_001 below 7_825_001 above
-    ∷ "tan_outhousing" is 3_275_001 below 8_825_001 above
+    ∷ "nh3_nhousing" is 9_650_001 below 2_550_001 above
+    ∷ "n_outhousing" is 2_550_001 below 10_650_001 above
+    ∷ "tan_outhousing" is 3_550_001 below 11_650_001 above
     ∷ []
 
 abbrev pub cattleErrors : List (Entry Errors)
@@ -71,7 +71,21 @@ pigsErrors =
     ∷ "n2o_ngrazing" is 1_000_000 below 0 above
     ∷ "n_remain_grazing" is 0 below 3_200_000 above
     ∷ "tan_remain_grazing" is 1_000_000 below 3_200_000 above
-    ∷ "tan_into_housing" is 1_000_000 below 1_000_000 above
+    ∷ "tan_into_housing" is 1_000_000 below 0 above
+    ∷ "nh3_nhousing" is 2_000_000 below 0 above
+    ∷ "n_outhousing" is 0 below 5_000_000 above
+    ∷ "tan_outhousing" is 1_000_000 below 5_000_000 above
+    ∷ "tan_air_scrubber" is 3_000_000 below 0 above
+    ∷ "n_outhousing_liquid" is 0 below 5_000_000 above
+    ∷ "tan_outhousing_liquid" is 1_000_000 below 5_000_000 above
+    ∷ "n_outhousing_solid" is 0 below 5_000_000 above
+    ∷ "tan_outhousing_solid" is 1_000_000 below 5_000_000 above
+    ∷ "n2_nsolid" is 1_000_000 below 0 above
+    ∷ "no_nsolid" is 1_000_000 below 0 above
+    ∷ "n2o_nsolid" is 1_000_000 below 0 above
+    ∷ "n2_nliquid" is 1_000_000 below 0 above
+    ∷ "no_nliquid" is 1_000_000 below 0 above
+    ∷ "n2o_nliquid" is 1_000_000 below 0 above
     ∷ []
 
 -- a herd's

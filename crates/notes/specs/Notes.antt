@@ -1,20 +1,23 @@
--- 01, "Notes": each a yes or no beside a herd's figures. `standard` gives none, and a kind that lacks the input gives
--- none.
+-- 01, "Notes", and that of 02, W3: each a yes or no beside a herd's figures. `standard` gives none, and a kind that lacks
+-- the input gives none.
 use Prim.Native.Nat.{ℕ, _+_, _*_}
 use mathlib.Core.Bool.{Bool, false, not, _||_}
 use mathlib.Core.List.{List, [], _∷_}
 use lib.Dec.{ltb, eqb}
+use lib.IntN.{ℤ, natAbs}
 use lib.ListN.{length}
 use Rattle.tables.specs.Standards.{standardOf, «share_Nsol»}
 use Rattle.kinds.specs.declared.Entered.{Entered}
 use Rattle.kinds.specs.declared.Entered.the-variants.{Standard, Number}
 use Rattle.kinds.specs.declared.Roughage.{Roughage}
 use Rattle.kinds.specs.declared.Cattle.{Cattle}
+use Rattle.kinds.specs.declared.Pigs.{Pigs}
 use Rattle.kinds.specs.declared.Inputs.{Inputs}
 use Rattle.kinds.specs.declared.Inputs.the-variants as kinds
 use Rattle.amounts.specs.Units.{tenths}
 use Rattle.excretion.specs.Excretion.{leastOfStandard, mostOfStandard, mostOffShare}
 use Rattle.yard.specs.Yard.{shareLowered}
+use Rattle.housing.specs.Housing.{aboveCeiling}
 use Rattle.notes.specs.declared.Notes.{Notes}
 
 -- 2.84, n_excretion_animal: below 0.7 or above 1.3 of the standard, in tenths
@@ -30,35 +33,49 @@ offShare Standard = false
 offShare (Number fraction) =
     ltb (fraction + mostOffShare) «share_Nsol» || ltb («share_Nsol» + mostOffShare) fraction
 
--- 2.33, 2.86: the free factor is not 0
-abbrev pub freeEntered : ℕ → Bool
-freeEntered free = not (eqb free 0)
+-- 2.33, 2.60, 2.86: the free factor is not 0, and below zero it is not either
+abbrev pub freeEntered : ℤ → Bool
+freeEntered free = not (eqb (natAbs free) 0)
 
-abbrev pub noted : Bool → Bool → Bool → Bool → Notes
-noted n tan free share =
-    record { «n_off_standard» = n; «tan_off_standard» = tan; «free_factor» = free; «share_lowered» = share }
+-- the fifth: the housing's factor is above the ceiling (02, W3)
+abbrev pub noted : Bool → Bool → Bool → Bool → Bool → Notes
+noted n tan free share above =
+    record {
+      «n_off_standard» = n;
+      «tan_off_standard» = tan;
+      «free_factor» = free;
+      «share_lowered» = share;
+      «factor_above_1» = above;
+    }
 
 abbrev pub roughageNotes : Roughage → Notes
 roughageNotes r =
     noted (offStandard (r .animalcategory) (r .«inp_n_excretion»)) (offShare (r .«tan_fraction»))
-    (freeEntered (r .«free_correction_factor»)) false
+    (freeEntered (r .«free_correction_factor»)) false (aboveCeiling r)
 
 -- the share is lowered: 2.34, share_excretion_with_grazing
 abbrev pub cattleNotes : Cattle → Notes
-cattleNotes c = noted false false (freeEntered (c .outdoor .«free_correction_factor»)) (shareLowered (c .outdoor))
+cattleNotes c =
+    noted false false (freeEntered (c .outdoor .«free_correction_factor»)) (shareLowered (c .outdoor)) false
 
+-- neither standards nor a yard
+abbrev pub pigsNotes : Pigs → Notes
+pigsNotes p = noted false false (freeEntered (p .«free_correction_factor»)) false false
+
+-- of a record that is refused
 abbrev pub noNotes : Notes
-noNotes = noted false false false false
+noNotes = noted false false false false false
 
 unfoldable pub notesOf : Inputs → Notes
 notesOf (kinds.Roughage r) = roughageNotes r
 notesOf (kinds.Cattle c) = cattleNotes c
-notesOf (kinds.Pigs p) = noNotes
+notesOf (kinds.Pigs p) = pigsNotes p
 
--- ---- the notes one after the other, in 01's order
+-- ---- the notes one after the other, in 01's order, and then that of 02, W3
 
 abbrev pub inOrder : Notes → List Bool
-inOrder n = n .«n_off_standard» ∷ n .«tan_off_standard» ∷ n .«free_factor» ∷ n .«share_lowered» ∷ []
+inOrder n =
+    n .«n_off_standard» ∷ n .«tan_off_standard» ∷ n .«free_factor» ∷ n .«share_lowered» ∷ n .«factor_above_1» ∷ []
 
 -- how many there are
 abbrev pub noteCount : ℕ

@@ -1,4 +1,4 @@
--- 01, Notes, on both sides of every edge: herds, and the notes that each gets, by name; of a herd that gets none the
+-- 01, Notes, and that of 02, W3, on both sides of every edge: herds, and the notes that each gets, by name; of a herd that gets none the
 -- list is empty. Row 8 of 01 is among them (Herds on both sides of an edge), and all are lines of the one table of crate
 -- `model`, specs/Edges. proofs/Rows.antt computes them from the definitions. To be believed.
 use Prim.Native.Nat.{ℕ, _+_, _-_}
@@ -6,6 +6,7 @@ use Prim.Native.String.{String}
 use mathlib.Core.Bool.{Bool}
 use mathlib.Core.List.{List, [], _∷_, _++_}
 use mathlib.Core.Path.{_≡_}
+use lib.IntN.{ℤ, pos, _-ℤ_}
 use lib.Text.{eqt}
 use Rattle.base.specs.Pick.{pick}
 use Rattle.tables.specs.Standards.{Standard, «standard_N_excretion», _kg, _g}
@@ -17,6 +18,11 @@ use Rattle.kinds.specs.declared.Floor.{Floor}
 use Rattle.kinds.specs.declared.Floor.the-variants.{Solid}
 use Rattle.kinds.specs.declared.HousingType.{HousingType}
 use Rattle.kinds.specs.declared.HousingType.the-variants as housed
+use Rattle.kinds.specs.declared.AirScrubber.{AirScrubber}
+use Rattle.kinds.specs.declared.AirScrubber.the-variants as scrubbed
+use Rattle.kinds.specs.declared.HousingFloor.the-variants as floored
+use Rattle.kinds.specs.declared.HousingAir.{HousingAir}
+use Rattle.kinds.specs.declared.HousingAir.the-variants as aired
 use Rattle.kinds.specs.declared.Outdoor.{Outdoor}
 use Rattle.kinds.specs.declared.Inputs.{Inputs}
 use Rattle.kinds.specs.declared.Inputs.the-variants as kinds
@@ -31,7 +37,7 @@ cattle animals grams tan outdoor =
     kinds.Cattle (record { animals = animals; «inp_n_excretion» = grams; «tan_fraction» = tan; outdoor = outdoor })
 
 -- yard days, the yard, its floor and free factor, grazing days and tenths of an hour
-abbrev pub outdoors : ℕ → ExerciseYard → Floor → ℕ → ℕ → ℕ → Outdoor
+abbrev pub outdoors : ℕ → ExerciseYard → Floor → ℤ → ℕ → ℕ → Outdoor
 outdoors yard-days yard floor free days hours =
     record {
       «yard_days» = yard-days;
@@ -44,7 +50,7 @@ outdoors yard-days yard floor free days hours =
 
 -- 10 head of a category: grams a head and ten-thousandths of TAN as entered, free factor, grazing days and tenths of an
 -- hour
-abbrev pub roughage : ℕ → Entered → Entered → ℕ → ℕ → ℕ → Inputs
+abbrev pub roughage : ℕ → Entered → Entered → ℤ → ℕ → ℕ → Inputs
 roughage category n tan free days hours =
     kinds.Roughage (record {
       animalcategory = category;
@@ -56,10 +62,23 @@ roughage category n tan free days hours =
       «grazing_hours» = hours;
     })
 
--- 10 head, grams a head and ten-thousandths of TAN
+-- 10 head, grams a head and ten-thousandths of TAN; the type of their house, its scrubber, its air and its free factor
+abbrev pub pigsIn : ℕ → ℕ → HousingType → AirScrubber → HousingAir → ℤ → Inputs
+pigsIn grams tan housing scrubber air free =
+    kinds.Pigs (record {
+      animals = 10;
+      «inp_n_excretion» = grams;
+      «tan_fraction» = tan;
+      «housing_type» = housing;
+      «air_scrubber» = scrubber;
+      «mitigation_housing_floor» = floored.None;
+      «mitigation_housing_air» = air;
+      «free_correction_factor» = free;
+    })
+
+-- with nothing that lowers an emission
 abbrev pub pigs : ℕ → ℕ → HousingType → Inputs
-pigs grams tan housing =
-    kinds.Pigs (record { animals = 10; «inp_n_excretion» = grams; «tan_fraction» = tan; «housing_type» = housing })
+pigs grams tan housing = pigsIn grams tan housing scrubbed.None aired.None (pos 0)
 
 -- a category by its name
 abbrev categoryAmong : String → List Standard → ℕ
@@ -81,6 +100,7 @@ namesOf n =
     ++ said (n .«tan_off_standard») "tan_off_standard"
     ++ said (n .«free_factor») "free_factor"
     ++ said (n .«share_lowered») "share_lowered"
+    ++ said (n .«factor_above_1») "factor_above_1"
 
 pub record Row : Type 0 where
   pub herd : Inputs
@@ -100,7 +120,7 @@ Right r = told r ≡ r .notes
 -- ---- N entered, for roughage: below 0.7 or above 1.3 of the standard
 
 abbrev enters : String → ℕ → Inputs
-enters name grams = roughage (category name) (entered.Number grams) entered.Standard 0 0 0
+enters name grams = roughage (category name) (entered.Number grams) entered.Standard (pos 0) 0 0
 
 -- 0.7 and 1.3 of the standard, and a gram beyond either
 abbrev edgesOf : String → ℕ → ℕ → List Row
@@ -119,7 +139,7 @@ ofN =
     ∷ enters "red_deer" 27999 gets ("n_off_standard" ∷ [])
     ∷ enters "red_deer" 52001 gets ("n_off_standard" ∷ [])
     -- standard
-    ∷ roughage (category "red_deer") entered.Standard entered.Standard 0 0 0 gets []
+    ∷ roughage (category "red_deer") entered.Standard entered.Standard (pos 0) 0 0 gets []
     ∷ edgesOf "fallow_deer" (14 kg) (26 kg)
     ++ edgesOf "wapiti" (56 kg) (104 kg)
     ++ edgesOf "bison_older_than_3yr" (42 kg) (78 kg)
@@ -134,7 +154,7 @@ ofN =
 -- ---- TAN entered, for roughage: off 0.4 by more than 0.2
 
 abbrev entersTan : ℕ → Inputs
-entersTan tan = roughage (category "wapiti") entered.Standard (entered.Number tan) 0 0 0
+entersTan tan = roughage (category "wapiti") entered.Standard (entered.Number tan) (pos 0) 0 0
 
 abbrev ofTan : List Row
 ofTan =
@@ -144,30 +164,46 @@ ofTan =
     ∷ entersTan 6001 gets ("tan_off_standard" ∷ [])
     ∷ []
 
--- ---- free factor not 0, for roughage and cattle
+-- ---- free factor not 0, for each kind
 
-abbrev roughageFree : ℕ → Inputs
+-- a number below zero
+abbrev pub below : ℕ → ℤ
+below n = pos 0 -ℤ pos n
+
+abbrev roughageFree : ℤ → Inputs
 roughageFree free = roughage (category "rabbit_young") entered.Standard entered.Standard free 0 0
 
 -- without a yard
-abbrev cattleFree : ℕ → Inputs
+abbrev cattleFree : ℤ → Inputs
 cattleFree free = cattle 10 (73 kg) 6000 (outdoors 0 NotAvailable Solid free 0 0)
+
+abbrev pigsFree : HousingType → ℤ → Inputs
+pigsFree housing free = pigsIn (13 kg) 7000 housing scrubbed.None aired.None free
 
 abbrev ofFree : List Row
 ofFree =
-    roughageFree 0 gets []
-    ∷ roughageFree 1 gets ("free_factor" ∷ [])
-    ∷ roughageFree 100 gets ("free_factor" ∷ [])
-    ∷ cattleFree 0 gets []
-    ∷ cattleFree 1 gets ("free_factor" ∷ [])
-    ∷ cattleFree 100 gets ("free_factor" ∷ [])
+    roughageFree (pos 0) gets []
+    ∷ roughageFree (pos 1) gets ("free_factor" ∷ [])
+    ∷ roughageFree (pos 100) gets ("free_factor" ∷ [])
+    ∷ roughageFree (below 1) gets ("free_factor" ∷ [])
+    ∷ cattleFree (pos 0) gets []
+    ∷ cattleFree (pos 1) gets ("free_factor" ∷ [])
+    ∷ cattleFree (pos 100) gets ("free_factor" ∷ [])
+    ∷ cattleFree (below 100) gets ("free_factor" ∷ [])
+    ∷ pigsFree housed.SlurryLabel (pos 0) gets []
+    ∷ pigsFree housed.SlurryLabel (pos 1) gets ("free_factor" ∷ [])
+    ∷ pigsFree housed.SlurryLabel (pos 100) gets ("free_factor" ∷ [])
+    ∷ pigsFree housed.SlurryLabel (below 100) gets ("free_factor" ∷ [])
+    -- of outdoor pigs too, which have no house
+    ∷ pigsFree housed.Outdoor (pos 0) gets []
+    ∷ pigsFree housed.Outdoor (pos 1) gets ("free_factor" ∷ [])
     ∷ []
 
 -- ---- share lowered, for cattle: days with both, and a share above 0.2
 
 -- so many yard days and 200 grazing days; from 166 yard days on there are days with both
 abbrev grazing : ExerciseYard → ℕ → Inputs
-grazing yard yard-days = cattle 10 (73 kg) 6000 (outdoors yard-days yard Solid 0 200 120)
+grazing yard yard-days = cattle 10 (73 kg) 6000 (outdoors yard-days yard Solid (pos 0) 200 120)
 
 abbrev ofShare : List Row
 ofShare =
@@ -178,20 +214,38 @@ ofShare =
     ∷ grazing NotAvailable 166 gets []
     ∷ []
 
+-- ---- the housing's factor above 1, for roughage (02, W3): no days, hours and free factor give exactly 1; these two are
+-- the nearest to it
+
+abbrev inHousing : ℤ → ℕ → ℕ → Inputs
+inHousing free days hours = roughage (category "wapiti") entered.Standard entered.Standard free days hours
+
+abbrev ofCeiling : List Row
+ofCeiling =
+    inHousing (below 84) 364 239 gets ("free_factor" ∷ [])
+    ∷ inHousing (below 56) 365 210 gets ("free_factor" ∷ "factor_above_1" ∷ [])
+    ∷ inHousing (below 100) 365 239 gets ("free_factor" ∷ "factor_above_1" ∷ [])
+    -- without grazing 0.275, twice
+    ∷ inHousing (below 100) 0 240 gets ("free_factor" ∷ [])
+    ∷ []
+
 -- ---- what a kind is not told, at values that another kind would be told of
 
 abbrev ofOthers : List Row
 ofOthers =
     -- cattle have no standard
-    cattle 10 0 0 (outdoors 0 NotAvailable Solid 0 0 0) gets []
-    ∷ cattle 10 (200 kg) 10000 (outdoors 0 NotAvailable Solid 0 0 0) gets []
+    cattle 10 0 0 (outdoors 0 NotAvailable Solid (pos 0) 0 0) gets []
+    ∷ cattle 10 (200 kg) 10000 (outdoors 0 NotAvailable Solid (pos 0) 0 0) gets []
+    -- nor a housing of which more than the flow is known, and the yard's ceiling is no note
+    ∷ cattle 10 (73 kg) 6000 (outdoors 365 Exclusively Solid (below 100) 0 0) gets ("free_factor" ∷ [])
     -- roughage-consuming animals have no yard
-    ∷ roughage (category "wapiti") entered.Standard entered.Standard 0 365 240 gets []
-    -- pigs have none of the four
+    ∷ roughage (category "wapiti") entered.Standard entered.Standard (pos 0) 365 240 gets []
+    -- pigs have neither, and what their house lowers is no note
     ∷ pigs 0 0 housed.Outdoor gets []
     ∷ pigs (200 kg) 10000 housed.Outdoor gets []
     ∷ pigs (200 kg) 10000 housed.DeepLitter gets []
+    ∷ pigsIn (200 kg) 10000 housed.SlurryConventional scrubbed.Acid aired.LowImpulsAirSupply (pos 0) gets []
     ∷ []
 
 abbrev pub table : List Row
-table = ofN ++ ofTan ++ ofFree ++ ofShare ++ ofOthers
+table = ofN ++ ofTan ++ ofFree ++ ofShare ++ ofCeiling ++ ofOthers

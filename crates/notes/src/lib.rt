@@ -1,23 +1,26 @@
-// 01, Notes: what an adviser is told beside the figures.
+// 01, Notes, and 02, W3: what an adviser is told beside the figures.
 use amounts::TENTHS;
 use kinds::Cattle;
 use kinds::Entered;
 use kinds::Inputs;
+use kinds::Pigs;
 use kinds::Roughage;
 ghost use mathlib.Core.Path.{_≡_};
 ghost use Rattle.amounts.specs.Units.{tenThousandths};
 ghost use Rattle.kinds.specs.Sound.{EnteredTo, SoundRoughage, SoundCattle, Sound, mostGrams};
-ghost use Rattle.notes.specs.Notes.{offStandard, offShare, roughageNotes, cattleNotes, noNotes, notesOf, inOrder};
+ghost use Rattle.notes.specs.Notes.{offStandard, offShare, freeEntered, roughageNotes, cattleNotes, pigsNotes, noNotes};
+ghost use Rattle.notes.specs.Notes.{notesOf, inOrder};
 
 pub struct Notes {
     pub n_off_standard: bool,
     pub tan_off_standard: bool,
     pub free_factor: bool,
     pub share_lowered: bool,
+    pub factor_above_1: bool,
 }
 
 // How many notes there are.
-pub const COUNT: usize = 4;
+pub const COUNT: usize = 5;
 
 // Below 0.7 or above 1.3 of the standard, in tenths; off the share by more than 0.2, in ten-thousandths.
 const LOW: u64 = 7;
@@ -53,6 +56,12 @@ fn tan_off_standard(entered: Entered) -> bool
     tables::SHARE_NSOL + OFF < fraction
 }
 
+fn free_entered(free: i64) -> bool
+    ensures { λ r. ⌜ r ≡ freeEntered free ⌝ }
+{
+    free != 0
+}
+
 fn roughage_notes(r: Roughage) -> Notes
     requires { ⌜ SoundRoughage r ⌝ }
     ensures { λ n. ⌜ n ≡ roughageNotes r ⌝ }
@@ -62,8 +71,9 @@ fn roughage_notes(r: Roughage) -> Notes
     Notes {
         n_off_standard: n_off_standard(r.animalcategory, entered_n),
         tan_off_standard: tan_off_standard(entered_tan),
-        free_factor: r.free_correction_factor != 0,
+        free_factor: free_entered(r.free_correction_factor),
         share_lowered: false, // no yard
+        factor_above_1: housing::above_ceiling(r),
     }
 }
 
@@ -75,8 +85,21 @@ fn cattle_notes(c: Cattle) -> Notes
     Notes {
         n_off_standard: false, // no standard
         tan_off_standard: false,
-        free_factor: outdoor.free_correction_factor != 0,
+        free_factor: free_entered(outdoor.free_correction_factor),
         share_lowered: yard::share_lowered(outdoor),
+        factor_above_1: false, // a yard alone
+    }
+}
+
+fn pigs_notes(p: Pigs) -> Notes
+    ensures { λ n. ⌜ n ≡ pigsNotes p ⌝ }
+{
+    Notes {
+        n_off_standard: false,
+        tan_off_standard: false,
+        free_factor: free_entered(p.free_correction_factor),
+        share_lowered: false, // pigs have no yard
+        factor_above_1: false, // none is asked of a pig house
     }
 }
 
@@ -88,6 +111,7 @@ pub fn no_notes() -> Notes
         tan_off_standard: false,
         free_factor: false,
         share_lowered: false,
+        factor_above_1: false,
     }
 }
 
@@ -98,11 +122,11 @@ pub fn notes_of(inputs: Inputs) -> Notes
     match inputs {
         Inputs::Roughage(r) => roughage_notes(r),
         Inputs::Cattle(c) => cattle_notes(c),
-        Inputs::Pigs(_) => no_notes(),
+        Inputs::Pigs(p) => pigs_notes(p),
     }
 }
 
-// The notes one after the other, in 01's order.
+// The notes one after the other, in 01's order, and then that of 02, W3.
 pub fn in_order(n: Notes) -> [bool; COUNT]
     ensures { λ r. ⌜ r ≡ inOrder n ⌝ }
 {
@@ -111,5 +135,6 @@ pub fn in_order(n: Notes) -> [bool; COUNT]
         n.tan_off_standard,
         n.free_factor,
         n.share_lowered,
+        n.factor_above_1,
     ]
 }

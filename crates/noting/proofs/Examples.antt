@@ -7,10 +7,10 @@ use Rattle.listing.specs.Listing.{hasComma, labelField}
 use Rattle.noting.specs.Records.{notesRecord}
 
 -- the share is lowered, the fourth of 01's notes
-pub heifers-noted : notesRecord (bytes "Heifers") (noted false false false true) ≡ bytes "Heifers,no,no,no,yes\r\n"
+pub heifers-noted : notesRecord (bytes "Heifers") (noted false false false true false) ≡ bytes "Heifers,no,no,no,yes,no\r\n"
 unfolding notesRecord labelField hasComma
 heifers-noted = refl
 
-pub comma-noted : notesRecord (bytes "A,B") (noted true false false false) ≡ bytes "\"A,B\",yes,no,no,no\r\n"
+pub comma-noted : notesRecord (bytes "A,B") (noted true false false false true) ≡ bytes "\"A,B\",yes,no,no,no,yes\r\n"
 unfolding notesRecord labelField hasComma
 comma-noted = refl

@@ -1,5 +1,5 @@
 -- A farm's notes as records: of each herd its label, quoted as in the listing, then `yes` or `no` for each of 01's notes
--- in their order, and CRLF, as in `Heifers,no,no,no,yes`. To be believed.
+-- in their order and for that of 02, W3, and CRLF, as in `Heifers,no,no,no,yes,no`. To be believed.
 use Prim.Native.Nat.{ℕ}
 use mathlib.Core.Bool.{Bool, true, false}
 use mathlib.Core.List.{List, _∷_, _++_, map}
@@ -32,6 +32,6 @@ herdNotes h = notesRecord (text (h .label)) (notesOf (typedOf h))
 unfoldable pub farmNotes : Farm → List ℕ
 farmNotes f = each herdNotes (herdsOf f)
 
--- what they say as a file: a record of five fields for each herd
+-- what they say as a file: a record of six fields for each herd
 abbrev pub herdFields : Herd → List (List ℕ)
 herdFields h = text (h .label) ∷ map word (inOrder (notesOf (typedOf h)))

@@ -5,7 +5,7 @@ use native.Mathlib.Omega.{arith}
 use lib.IntN.{ℤ, natAbs}
 use Rattle.amounts.specs.Arithmetic.{Arithmetic, cutting}
 use Rattle.outputs.specs.Sections.{FiguresIn}
-use Rattle.outputs.specs.Names.{Field, excretion, yard, grazing, housing}
+use Rattle.outputs.specs.Names.{Field, excretion, yard, grazing, housing, pigHouse, nxOx}
 use Rattle.outputs.specs.Grams.{at, gramsOf, To}
 
 -- none of these is larger than k
@@ -34,11 +34,16 @@ all-to k (x ∷ g) a = record { most = λ n. go (all-to k g (a .1)) n }
 
 -- from those of the sections, those of the herd
 pub sections-to : (k : ℕ) (f : FiguresIn cutting) → SectionTo k excretion (f .excretion) → SectionTo k yard (f .yard)
-    → SectionTo k grazing (f .grazing) → SectionTo k housing (f .housing) → To k (gramsOf f)
-sections-to k f e y g h =
-    let past-yard = of grazing (f .grazing) ++ of housing (f .housing) in
+    → SectionTo k grazing (f .grazing) → SectionTo k housing (f .housing) → SectionTo k pigHouse (f .pigHouse)
+    → SectionTo k nxOx (f .nxOx) → To k (gramsOf f)
+sections-to k f e y g h p x =
+    let past-housing = of pigHouse (f .pigHouse) ++ of nxOx (f .nxOx) in
+    let past-grazing = of housing (f .housing) ++ past-housing in
+    let past-yard = of grazing (f .grazing) ++ past-grazing in
     let past-excretion = of yard (f .yard) ++ past-yard in
     all-to k (gramsOf f)
     (all-append k (of excretion (f .excretion)) past-excretion e
     (all-append k (of yard (f .yard)) past-yard y
-    (all-append k (of grazing (f .grazing)) (of housing (f .housing)) g h)))
+    (all-append k (of grazing (f .grazing)) past-grazing g
+    (all-append k (of housing (f .housing)) past-housing h
+    (all-append k (of pigHouse (f .pigHouse)) (of nxOx (f .nxOx)) p x)))))

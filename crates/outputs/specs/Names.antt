@@ -12,6 +12,8 @@ use Rattle.excretion.specs.Excretion.{ExcretionIn}
 use Rattle.yard.specs.Yard.{YardIn}
 use Rattle.pasture.specs.Pasture.{GrazingIn}
 use Rattle.housing.specs.Housing.{HousingIn}
+use Rattle.pig_house.specs.PigHouse.{PigHouseIn}
+use Rattle.pig_house.specs.NxOx.{NxOxIn}
 use Rattle.outputs.specs.Sections.{FiguresIn}
 
 -- a name: its text, its section, and its figure in any arithmetic
@@ -75,12 +77,34 @@ housing =
     ∷ amount "tan_outhousing" (λ A h. h .«tan_outhousing»)
     ∷ []
 
+-- 2.51, of a pig house alone
+abbrev pub pigHouse : List (Field PigHouseIn)
+pigHouse =
+    amount "tan_air_scrubber" (λ A h. h .«tan_air_scrubber»)
+    ∷ amount "n_outhousing_liquid" (λ A h. h .«n_outhousing_liquid»)
+    ∷ amount "tan_outhousing_liquid" (λ A h. h .«tan_outhousing_liquid»)
+    ∷ amount "n_outhousing_solid" (λ A h. h .«n_outhousing_solid»)
+    ∷ amount "tan_outhousing_solid" (λ A h. h .«tan_outhousing_solid»)
+    ∷ []
+
+abbrev pub nxOx : List (Field NxOxIn)
+nxOx =
+    amount "n2_nsolid" (λ A x. x .«n2_nsolid»)
+    ∷ amount "no_nsolid" (λ A x. x .«no_nsolid»)
+    ∷ amount "n2o_nsolid" (λ A x. x .«n2o_nsolid»)
+    ∷ amount "n2_nliquid" (λ A x. x .«n2_nliquid»)
+    ∷ amount "no_nliquid" (λ A x. x .«no_nliquid»)
+    ∷ amount "n2o_nliquid" (λ A x. x .«n2o_nliquid»)
+    ∷ []
+
 abbrev pub rows : List Row
 rows =
     section "Excretion" (λ A f. f .excretion) excretion
     ++ section "Yard" (λ A f. f .yard) yard
     ++ section "Grazing" (λ A f. f .grazing) grazing
     ++ section "Housing" (λ A f. f .housing) housing
+    ++ section "Housing" (λ A f. f .pigHouse) pigHouse
+    ++ section "NxOx" (λ A f. f .nxOx) nxOx
 
 -- ---- by number
 

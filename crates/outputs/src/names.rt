@@ -39,5 +39,27 @@ pub const N_OUTHOUSING: usize = 18;
 
 pub const TAN_OUTHOUSING: usize = 19;
 
+pub const TAN_AIR_SCRUBBER: usize = 20;
+
+pub const N_OUTHOUSING_LIQUID: usize = 21;
+
+pub const TAN_OUTHOUSING_LIQUID: usize = 22;
+
+pub const N_OUTHOUSING_SOLID: usize = 23;
+
+pub const TAN_OUTHOUSING_SOLID: usize = 24;
+
+pub const N2_NSOLID: usize = 25;
+
+pub const NO_NSOLID: usize = 26;
+
+pub const N2O_NSOLID: usize = 27;
+
+pub const N2_NLIQUID: usize = 28;
+
+pub const NO_NLIQUID: usize = 29;
+
+pub const N2O_NLIQUID: usize = 30;
+
 // How many names there are.
-pub const COUNT: usize = 20;
+pub const COUNT: usize = 31;

@@ -3,14 +3,16 @@ use crate::Figures;
 use excretion::Excretion;
 use housing::Housing;
 use pasture::Grazing;
+use pig_house::NxOx;
+use pig_house::PigHouse;
 use yard::Yard;
 ghost use mathlib.Core.Path.{_≡_};
 ghost use Rattle.outputs.specs.Sections.{together};
 ghost use Rattle.outputs.specs.Grams.{gramsOf, To, figureMost};
 
-pub fn by_number(e: Excretion, y: Yard, g: Grazing, h: Housing) -> Figures
-    requires { ⌜ To figureMost (gramsOf (together e y g h)) ⌝ }
-    ensures { λ r. ⌜ r .grams ≡ gramsOf (together e y g h) ⌝ }
+pub fn by_number(e: Excretion, y: Yard, g: Grazing, h: Housing, p: PigHouse, x: NxOx) -> Figures
+    requires { ⌜ To figureMost (gramsOf (together e y g h p x)) ⌝ }
+    ensures { λ r. ⌜ r .grams ≡ gramsOf (together e y g h p x) ⌝ }
 {
     Figures {
         grams: [
@@ -34,6 +36,17 @@ pub fn by_number(e: Excretion, y: Yard, g: Grazing, h: Housing) -> Figures
             h.nh3_nhousing as i64,
             h.n_outhousing as i64,
             h.tan_outhousing as i64,
+            p.tan_air_scrubber as i64,
+            p.n_outhousing_liquid as i64,
+            p.tan_outhousing_liquid as i64,
+            p.n_outhousing_solid as i64,
+            p.tan_outhousing_solid as i64,
+            x.n2_nsolid.whole as i64,
+            x.no_nsolid.whole as i64,
+            x.n2o_nsolid.whole as i64,
+            x.n2_nliquid.whole as i64,
+            x.no_nliquid.whole as i64,
+            x.n2o_nliquid.whole as i64,
         ],
     }
 }

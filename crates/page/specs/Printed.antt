@@ -1,7 +1,8 @@
 -- The numbers that 001 prints, as it prints them, in its order of sections: each with its name there and the parameter
 -- that the formulas use. Of these sections every technical parameter is here but k_grazing_a, 0.9989, which stands in
--- no formula, and of the numbers inside their formulas those that have a name in ours. The theorem over the table is
--- `every-parameter-printed` of proofs/Printed; `second/printed.py` looks each name and text up in 001.
+-- no formula, and k_area, 0.5, whose area_increase is 0 (02, W1); and of the numbers inside their formulas those that
+-- have a name in ours. The theorem over the table is `every-parameter-printed` of proofs/Printed; `second/printed.py`
+-- looks each name and text up in 001.
 use Prim.Native.Nat.{ℕ, _^_}
 use Prim.Native.String.{String}
 use mathlib.Core.List.{List, [], _∷_, _++_}
@@ -11,9 +12,13 @@ use Rattle.decimal.specs.declared.Number.the-variants.{Value}
 use Rattle.decimal.specs.Reading.{numberOf}
 use Rattle.tables.specs.Standards.{Standard, _kg, standardOf, «share_Nsol»}
 use Rattle.tables.specs.Growth.{«k_grazing_b»}
-use Rattle.amounts.specs.Units.{tenths, percent, thousandths, tenThousandths, year, day}
+use Rattle.amounts.specs.Units.{tenths, percent, thousandths, tenThousandths, billionths, year, day}
 use Rattle.kinds.specs.declared.ExerciseYard.the-variants.{NotAvailable}
 use Rattle.kinds.specs.declared.Floor.the-variants.{Solid, Unpaved, Perforated, Paddock}
+use Rattle.kinds.specs.declared.HousingType.the-variants as housed
+use Rattle.kinds.specs.declared.AirScrubber.the-variants as scrubber
+use Rattle.kinds.specs.declared.HousingFloor.the-variants as floor
+use Rattle.kinds.specs.declared.HousingAir.the-variants as air
 use Rattle.rates.specs.Rates.{cattleRates, pigsRates, roughageRates}
 use Rattle.excretion.specs.Excretion.{leastOfStandard, mostOfStandard, mostOffShare}
 use Rattle.yard.specs.Yard.{
@@ -25,6 +30,16 @@ use Rattle.yard.specs.Yard.{
   «share_available_roughage_is_not_supplied_in_the_exercise_yard»,
 }
 use Rattle.housing.specs.Housing.{«er_housing»}
+use Rattle.pig_house.specs.Parameters as pigs
+use Rattle.pig_house.specs.Parameters.{
+  «share_liquid»,
+  «share_indoor»,
+  «c_area»,
+  «red_air_scrubber»,
+  «red_housing_floor»,
+  «red_housing_air»,
+}
+use Rattle.pig_house.specs.NxOx.{slurryRates, solidRates, ratesOf}
 
 -- a unit that the formulas count in: the decimals of a number that counts in it, and how many make 1
 pub record Unit : Type 0 where
@@ -45,6 +60,9 @@ inThousandths = record { decimals = 3; inOne = thousandths }
 
 abbrev pub inTenThousandths : Unit
 inTenThousandths = record { decimals = 4; inOne = tenThousandths }
+
+abbrev pub inBillionths : Unit
+inBillionths = record { decimals = 9; inOne = billionths }
 
 -- kilograms, in grams
 abbrev pub inGrams : Unit
@@ -96,6 +114,44 @@ cattleGrazing =
     ∷ prints "2.35" (tech "er_n2o_cattle_grazing") "0.02" inTenThousandths (cattleRates .n2o)
     ∷ []
 
+-- 2.52
+abbrev pub pigHouses : List Printed
+pigHouses =
+    prints "2.52" (out "share_indoor") "1" inTenths («share_indoor» housed.SlurryConventional)
+    ∷ prints "2.52" (out "share_indoor") "0.5" inTenths («share_indoor» housed.SlurryLabel)
+    ∷ prints "2.52" (out "share_indoor") "0.5" inTenths («share_indoor» housed.SlurryLabelOpen)
+    ∷ prints "2.52" (out "share_indoor") "1" inTenths («share_indoor» housed.DeepLitter)
+    ∷ prints "2.52" (out "share_indoor") "1" inTenths («share_indoor» housed.Outdoor)
+    ∷ prints "2.52" (out "c_area") "1" wholes «c_area»
+    ∷ []
+
+-- 2.53 to 2.57, a section a type
+abbrev pub pigHouseTypes : List Printed
+pigHouseTypes =
+    prints "2.53" (tech "er") "0.243" inBillionths (pigs.«er_housing» housed.SlurryConventional)
+    ∷ prints "2.53" (tech "share_liquid") "1" wholes («share_liquid» housed.SlurryConventional)
+    ∷ prints "2.54" (tech "er") "0.486" inBillionths (pigs.«er_housing» housed.SlurryLabel)
+    ∷ prints "2.54" (tech "share_liquid") "1" wholes («share_liquid» housed.SlurryLabel)
+    ∷ prints "2.55" (tech "er") "0.34" inBillionths (pigs.«er_housing» housed.SlurryLabelOpen)
+    ∷ prints "2.55" (tech "share_liquid") "1" wholes («share_liquid» housed.SlurryLabelOpen)
+    ∷ prints "2.56" (tech "er") "0.486" inBillionths (pigs.«er_housing» housed.DeepLitter)
+    ∷ prints "2.56" (tech "share_liquid") "0" wholes («share_liquid» housed.DeepLitter)
+    ∷ prints "2.57" (tech "er") "0" inBillionths (pigs.«er_housing» housed.Outdoor)
+    ∷ prints "2.57" (tech "share_liquid") "0" wholes («share_liquid» housed.Outdoor)
+    ∷ []
+
+-- 2.58 and 2.59
+abbrev pub pigMitigation : List Printed
+pigMitigation =
+    prints "2.58" (out "red_air_scrubber") "0" inTenths («red_air_scrubber» scrubber.None)
+    ∷ prints "2.58" (tech "red_acid_air_scrubber") "0.9" inTenths («red_air_scrubber» scrubber.Acid)
+    ∷ prints "2.58" (tech "red_biotrickling_filter_air_scrubber") "0.7" inTenths
+    («red_air_scrubber» scrubber.Biotrickling)
+    ∷ prints "2.59" (out "red_housing_floor") "0" wholes («red_housing_floor» floor.None)
+    ∷ prints "2.59" (out "red_housing_air") "0" inTenths («red_housing_air» air.None)
+    ∷ prints "2.59" (tech "red_low_impuls_air_supply") "0.2" inTenths («red_housing_air» air.LowImpulsAirSupply)
+    ∷ []
+
 -- 2.61
 abbrev pub pigsGrazing : List Printed
 pigsGrazing =
@@ -103,6 +159,29 @@ pigsGrazing =
     ∷ prints "2.61" (tech "er_n2_fattening_pig_grazing") "0.0" inTenThousandths (pigsRates .n2)
     ∷ prints "2.61" (tech "er_no_fattening_pig_grazing") "0.0055" inTenThousandths (pigsRates .no)
     ∷ prints "2.61" (tech "er_n2o_fattening_pig_grazing") "0.02" inTenThousandths (pigsRates .n2o)
+    ∷ []
+
+-- 2.62
+abbrev pub pigNxOx : List Printed
+pigNxOx =
+    prints "2.62" (out "er_n2_nsolid") "0" inTenThousandths (ratesOf housed.Outdoor .«er_n2_nsolid»)
+    ∷ prints "2.62" (out "er_n2_nliquid") "0" inTenThousandths (ratesOf housed.Outdoor .«er_n2_nliquid»)
+    ∷ prints "2.62" (out "er_no_nsolid") "0" inTenThousandths (ratesOf housed.Outdoor .«er_no_nsolid»)
+    ∷ prints "2.62" (out "er_no_nliquid") "0" inTenThousandths (ratesOf housed.Outdoor .«er_no_nliquid»)
+    ∷ prints "2.62" (out "er_n2o_nsolid") "0" inTenThousandths (ratesOf housed.Outdoor .«er_n2o_nsolid»)
+    ∷ prints "2.62" (out "er_n2o_nliquid") "0" inTenThousandths (ratesOf housed.Outdoor .«er_n2o_nliquid»)
+    ∷ prints "2.62" (tech "er_n2_solid_Slurry") "0.02" inTenThousandths (slurryRates .«er_n2_nsolid»)
+    ∷ prints "2.62" (tech "er_n2_solid_Solid") "0.05" inTenThousandths (solidRates .«er_n2_nsolid»)
+    ∷ prints "2.62" (tech "er_n2_liquid_Slurry") "0.02" inTenThousandths (slurryRates .«er_n2_nliquid»)
+    ∷ prints "2.62" (tech "er_n2_liquid_Solid") "0.05" inTenThousandths (solidRates .«er_n2_nliquid»)
+    ∷ prints "2.62" (tech "er_no_solid_Slurry") "0.002" inTenThousandths (slurryRates .«er_no_nsolid»)
+    ∷ prints "2.62" (tech "er_no_solid_Solid") "0.01" inTenThousandths (solidRates .«er_no_nsolid»)
+    ∷ prints "2.62" (tech "er_no_liquid_Slurry") "0.002" inTenThousandths (slurryRates .«er_no_nliquid»)
+    ∷ prints "2.62" (tech "er_no_liquid_Solid") "0.01" inTenThousandths (solidRates .«er_no_nliquid»)
+    ∷ prints "2.62" (tech "er_n2o_solid_Slurry") "0.002" inTenThousandths (slurryRates .«er_n2o_nsolid»)
+    ∷ prints "2.62" (tech "er_n2o_solid_Solid") "0.01" inTenThousandths (solidRates .«er_n2o_nsolid»)
+    ∷ prints "2.62" (tech "er_n2o_liquid_Slurry") "0.002" inTenThousandths (slurryRates .«er_n2o_nliquid»)
+    ∷ prints "2.62" (tech "er_n2o_liquid_Solid") "0.01" inTenThousandths (solidRates .«er_n2o_nliquid»)
     ∷ []
 
 -- 2.84: from where on an entry is noted
@@ -163,7 +242,19 @@ roughageGrazing =
 
 abbrev pub table : List Printed
 table =
-    outdoor ++ yard ++ cattleGrazing ++ pigsGrazing ++ notes ++ standards ++ solubleShares ++ housing ++ roughageGrazing
+    outdoor
+    ++ yard
+    ++ cattleGrazing
+    ++ pigHouses
+    ++ pigHouseTypes
+    ++ pigMitigation
+    ++ pigsGrazing
+    ++ pigNxOx
+    ++ notes
+    ++ standards
+    ++ solubleShares
+    ++ housing
+    ++ roughageGrazing
 
 -- what the theorem says of a row: its decimals make the unit, and the parameter is the number that the text reads as
 pub record IsPrinted (p : Printed) : Type 0 where

@@ -1,6 +1,7 @@
--- Demand 3: for every record that a call accepts, each figure that it gives lies within 10 grams of its exact value, and each total within
--- 10 grams for each herd; below zero too. And so for every herd and the totals of a file that is read. What is promised is a table (crate
--- `nearness`, specs/Promised): 10 grams, but for the names with a row of their own.
+-- Demand 3: for every record that a call accepts, each figure that it gives lies within what is promised of its exact
+-- value, and each total within what is promised of it for each herd; below zero too. And so for every herd and the totals
+-- of a file that is read. What is promised is a table (crate `nearness`, specs/Promised): 10 grams, but for the names with
+-- a row of their own.
 -- Assumes nothing.
 use Prim.Native.Nat.{ℕ, _*_}
 use mathlib.Core.Path.{_≡_, sym, _∙_}

@@ -1,13 +1,13 @@
--- 01, The listing: its example, from the file's bytes to the listing's.
+-- 01, The listing: its example, with the inputs of 02, W1, from the file's bytes to the listing's.
 -- Assumes nothing.
 use Prim.Native.Nat.{ℕ}
 use Prim.Native.String.{String}
 use mathlib.Core.Path.{_≡_, refl, ap, _∙_}
 use mathlib.Core.List.{List, [], _∷_}
-use lib.ListN.{replicate}
+use lib.IntN.{pos}
 use Rattle.base.specs.Text.{bytes}
 use Rattle.inputs.specs.declared.Kind.the-variants.{Pigs}
-use Rattle.farm.specs.declared.Given.the-variants.{Value}
+use Rattle.farm.specs.declared.Given.the-variants.{Value, Signed}
 use Rattle.farm.specs.declared.Slot.{Slot}
 use Rattle.farm.specs.declared.Herd.{Herd}
 use Rattle.farm.specs.declared.Checked.the-variants.{Accepted}
@@ -18,7 +18,7 @@ use Rattle.rules.specs.Rules.{farmOf}
 use Rattle.rules.proofs.Accepts.{accepts-exactly}
 use Rattle.rules.proofs.Examples.{pigs-keep}
 use Rattle.outputs.specs.declared.Figures.{Figures}
-use Rattle.kinds.specs.Choices.{housingAt}
+use Rattle.kinds.specs.Choices.{housingAt, scrubberAt, housingFloorAt, housingAirAt}
 use Rattle.typed.specs.Typed.{typedOf, pigsOf}
 use Rattle.herd.specs.Herd.{figuresOf}
 use Rattle.model.specs.Answers.{herdFigures}
@@ -33,10 +33,17 @@ pigFile =
     ∷ "P1,Livestock::FatteningPigs::Excretion,inp_n_excretion,13\r\n"
     ∷ "P1,Livestock::FatteningPigs::Excretion,tan_fraction,70\r\n"
     ∷ "P1,Livestock::FatteningPigs::Housing::Type,housing_type,Outdoor\r\n"
+    ∷ "P1,Livestock::FatteningPigs::Housing::AirScrubber,air_scrubber,none\r\n"
+    ∷ "P1,Livestock::FatteningPigs::Housing::MitigationOptions,mitigation_housing_floor,none\r\n"
+    ∷ "P1,Livestock::FatteningPigs::Housing::MitigationOptions,mitigation_housing_air,none\r\n"
+    ∷ "P1,Livestock::FatteningPigs::Housing::CFreeFactor,free_correction_factor,0\r\n"
     ∷ []
 
 abbrev slot : ℕ → Slot
 slot v = record { given = Value v }
+
+abbrev signed : ℕ → Slot
+signed v = record { given = Signed (pos v) }
 
 -- the herd that it says
 abbrev pigHerd : Herd
@@ -44,7 +51,7 @@ pigHerd =
     record {
       label = labelOf (bytes "P1");
       kind = Pigs;
-      slots = slot 10 ∷ slot 13000 ∷ slot 7000 ∷ slot 4 ∷ replicate 5 noSlot;
+      slots = slot 10 ∷ slot 13000 ∷ slot 7000 ∷ slot 4 ∷ slot 2 ∷ slot 0 ∷ slot 1 ∷ signed 0 ∷ noSlot ∷ [];
     }
 
 pigs-read : readOf (each bytes pigFile) ≡ accepted (farmOf (pigHerd ∷ []))
@@ -52,7 +59,7 @@ pigs-read = accepts-exactly (each bytes pigFile) (farmOf (pigHerd ∷ [])) .1 pi
 
 -- its figures are those that 01 prints
 pigs-figured : herdFigures pigHerd ≡ pigFigures
-unfolding typedOf pigsOf housingAt figuresOf
+unfolding typedOf pigsOf housingAt scrubberAt housingFloorAt housingAirAt figuresOf
 pigs-figured = refl
 
 pigs-listed : listingAt (farmOf (pigHerd ∷ [])) 0 ≡ each bytes pigLines

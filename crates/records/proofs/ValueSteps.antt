@@ -1,28 +1,38 @@
 -- What a value says, from the calls that read it: each law in the form that a place of src/values.rt wants.
 -- Assumes nothing.
-use Prim.Native.Nat.{ℕ, _<_, _≤_}
-use mathlib.Core.Path.{_≡_, sym, _∙_}
+use Prim.Native.Nat.{ℕ, zero, suc, _<_, _≤_}
+use mathlib.Core.Path.{_≡_, refl, sym, _∙_}
 use mathlib.Core.Bool.{Bool, true, false}
-use mathlib.Core.List.{List}
+use mathlib.Core.List.{List, [], _∷_}
 use native.Mathlib.Omega.{arith}
-use lib.Dec.{lit≤}
-use lib.ListN.{length}
+use lib.Dec.{lit≤, eqb}
+use lib.IntN.{ℤ, pos, negsuc, _-ℤ_, +ℤ-idl, +ℤ-idr}
+use lib.ListN.{length, getD}
+use Rattle.base.specs.Part.{part}
 use Rattle.decimal.specs.declared.Number.{Number}
 use Rattle.decimal.specs.declared.Number.the-variants as numbers
 use Rattle.decimal.specs.Reading.{numberOf}
 use Rattle.inputs.specs.declared.Form.{Form}
-use Rattle.inputs.specs.declared.Form.the-variants.{Number as ANumber, OrStandard, NoStandard, OneOf}
+use Rattle.inputs.specs.declared.Form.the-variants.{Number as ANumber, OrStandard, NoStandard, Signed as ASigned, OneOf}
 use Rattle.names.specs.declared.Names.{Names}
-use Rattle.names.specs.declared.Names.the-variants.{Categories, Yards, Floors, HousingTypes}
+use Rattle.names.specs.declared.Names.the-variants.{
+  Categories,
+  Yards,
+  Floors,
+  HousingTypes,
+  AirScrubbers,
+  HousingFloors,
+  HousingAirs,
+}
 use Rattle.names.specs.declared.Found.{Found}
 use Rattle.names.specs.declared.Found.the-variants.{At, Nowhere}
 use Rattle.names.specs.Names.{namesOf, sizeOf}
 use Rattle.names.specs.Find.{findName}
 use Rattle.names.proofs.Places.{find-text-at}
-use Rattle.farm.specs.declared.Given.the-variants.{Standard, Value}
+use Rattle.farm.specs.declared.Given.the-variants.{Standard, Value, Signed}
 use Rattle.records.specs.declared.ValueRead.{ValueRead}
 use Rattle.records.specs.declared.ValueRead.the-variants.{Is, Forbidden, Unfit}
-use Rattle.records.specs.Values.{isStandard, numberRead, nameRead, valueOf}
+use Rattle.records.specs.Values.{isStandard, numberRead, hasMinus, belowRead, aboveRead, signedRead, nameRead, valueOf}
 
 -- a number was read
 module _ {x y : Number} (q : x ≡ y) where
@@ -31,6 +41,49 @@ module _ {x y : Number} (q : x ≡ y) where
 
   pub number-unfit : x ≡ numbers.Unreadable → Unfit ≡ numberRead y
   number-unfit e = simp (sym q ∙ e)
+
+-- a number was read behind a `-`, or without one
+module _ {x y : Number} (q : x ≡ y) where
+  pub below-is : {v : ℕ} {z : ℤ} → x ≡ numbers.Value v → (v ≡ 0 → ⊥) → z ≡ pos 0 -ℤ pos v → Is (Signed z) ≡ belowRead y
+  below-is {v} {z} e h d = go v h (sym q ∙ e) d
+    where
+      go : (v : ℕ) → (v ≡ 0 → ⊥) → y ≡ numbers.Value v → z ≡ pos 0 -ℤ pos v → Is (Signed z) ≡ belowRead y
+      go zero h e d = absurd (h refl)
+      go (suc v) h e d = rw (e, d, +ℤ-idl (negsuc v)) refl
+
+  pub below-nought : {v : ℕ} → x ≡ numbers.Value v → v ≡ 0 → Unfit ≡ belowRead y
+  below-nought e h = rw (sym q ∙ e, h) refl
+
+  pub below-unfit : x ≡ numbers.Unreadable → Unfit ≡ belowRead y
+  below-unfit e = simp (sym q ∙ e)
+
+  pub above-is : {v : ℕ} {z : ℤ} → x ≡ numbers.Value v → z ≡ pos v -ℤ pos 0 → Is (Signed z) ≡ aboveRead y
+  above-is {v} e d = rw (sym q ∙ e, d, +ℤ-idr (pos v)) refl
+
+  pub above-unfit : x ≡ numbers.Unreadable → Unfit ≡ aboveRead y
+  above-unfit e = simp (sym q ∙ e)
+
+-- by the byte in front
+pub no-minus : (s : List ℕ) → length s ≡ 0 → false ≡ hasMinus s
+no-minus [] e = refl
+no-minus (b ∷ rest) e = absurd (omega arith)
+
+pub first-minus : (s : List ℕ) → (length s ≡ 0 → ⊥) → eqb (getD s 0 0) 45 ≡ hasMinus s
+first-minus [] h = absurd (h refl)
+first-minus (b ∷ rest) h = refl
+
+module _ (s : List ℕ) {b : Bool} (q : b ≡ hasMinus s) (most : ℕ) {r : ValueRead} where
+  pub signed-below : {t : List ℕ} → b ≡ true → t ≡ part s 1 (length s) → r ≡ belowRead (numberOf t 0 most)
+      → r ≡ signedRead s most
+  unfolding signedRead
+  signed-below h e d = rw (sym q ∙ h, ← e) d
+
+  pub signed-above : b ≡ false → r ≡ aboveRead (numberOf s 0 most) → r ≡ signedRead s most
+  unfolding signedRead
+  signed-above h d = rw (sym q ∙ h) d
+
+pub ruleset signed-steps =
+    (below-is, below-nought, below-unfit, above-is, above-unfit, no-minus, first-minus, signed-below, signed-above)
 
 -- a name was looked for
 module _ {x y : Found} (q : x ≡ y) where
@@ -46,6 +99,9 @@ names-most Categories = lit≤ tt
 names-most Yards = lit≤ tt
 names-most Floors = lit≤ tt
 names-most HousingTypes = lit≤ tt
+names-most AirScrubbers = lit≤ tt
+names-most HousingFloors = lit≤ tt
+names-most HousingAirs = lit≤ tt
 
 pub name-small : (names : Names) (s : List ℕ) {x : Found} → x ≡ findName names s → {j : ℕ} → x ≡ At j → j < 256
 unfolding findName
@@ -74,8 +130,13 @@ module _ {form : Form} (s : List ℕ) {d m : ℕ} where
     unfolding valueOf
     value-not-forbidden e h q = simp (e, valueOf, sym t ∙ h) q
 
+pub value-signed : {form : Form} (s : List ℕ) {r : ValueRead} {most : ℕ} → form ≡ ASigned most → r ≡ signedRead s most
+    → r ≡ valueOf form s
+unfolding valueOf
+value-signed s e q = simp (e, valueOf) q
+
 pub value-name : {form : Form} (s : List ℕ) {r : ValueRead} {names : Names} → form ≡ OneOf names → r ≡ nameRead (findName names s) → r ≡ valueOf form s
 unfolding valueOf
 value-name s e q = simp (e, valueOf) q
 
-pub ruleset value-steps = (number-is, number-unfit, name-is, name-unfit, value-number, value-standard, value-no-standard, value-forbidden, value-not-forbidden, value-name)
+pub ruleset value-steps = (number-is, number-unfit, name-is, name-unfit, value-number, value-standard, value-no-standard, value-forbidden, value-not-forbidden, value-signed, value-name)

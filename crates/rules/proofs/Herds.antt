@@ -82,6 +82,7 @@ value-given (ValueIs.number _ _) = refl
 value-given (ValueIs.or-standard _ _) = refl
 value-given (ValueIs.no-standard _ _) = refl
 value-given (ValueIs.standard _) = refl
+value-given (ValueIs.signed _ _) = refl
 value-given (ValueIs.name _) = refl
 
 abbrev pub missingAt : Herd → ℕ → Bool

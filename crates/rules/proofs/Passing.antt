@@ -6,6 +6,7 @@ use mathlib.Core.List.{List, [], _∷_}
 use native.Mathlib.Omega.{arith}
 use lib.ListN.{length, getD}
 use borrow.Author.Tests.{le-leb, lt-ltb}
+use lib.IntN.{natAbs}
 use Rattle.base.specs.Each.{Each, none, more}
 use Rattle.names.specs.Names.{sizeOf}
 use Rattle.inputs.specs.declared.Form.{Form}
@@ -38,6 +39,7 @@ value-fits (ValueIs.number {most = m} {v = v} _ h) = le-leb v m h
 value-fits (ValueIs.or-standard {most = m} {v = v} _ h) = le-leb v m h
 value-fits (ValueIs.no-standard {most = m} {v = v} _ h) = le-leb v m h
 value-fits (ValueIs.standard _) = refl
+value-fits (ValueIs.signed {most = m} {v = v} _ h) = le-leb (natAbs v) m h
 value-fits (ValueIs.name {names = names} {place = j} x) = lt-ltb j (sizeOf names) (x .inside)
 
 record Fine (row : Row) (s : Slot) : Type 0 where

@@ -5,6 +5,7 @@
 use Prim.Native.Nat.{ℕ, _-_, _<_, _≤_}
 use mathlib.Core.Path.{_≡_}
 use mathlib.Core.List.{List, [], _∷_, _++_}
+use lib.IntN.{ℤ, pos, natAbs, _-ℤ_}
 use lib.ListN.{length, getD, replicate}
 use Rattle.base.specs.Text.{bytes}
 use Rattle.base.specs.Part.{lowered}
@@ -15,10 +16,10 @@ use Rattle.names.specs.declared.Names.{Names as NameList}
 use Rattle.names.specs.Names.{namesOf, sizeOf}
 use Rattle.inputs.specs.declared.Kind.{Kind}
 use Rattle.inputs.specs.declared.Form.{Form}
-use Rattle.inputs.specs.declared.Form.the-variants.{Number, OrStandard, NoStandard, OneOf}
+use Rattle.inputs.specs.declared.Form.the-variants.{Number, OrStandard, NoStandard, Signed as ASigned, OneOf}
 use Rattle.inputs.specs.Inputs.{countOf, rowAt, formOf}
 use Rattle.farm.specs.declared.Given.{Given}
-use Rattle.farm.specs.declared.Given.the-variants.{Standard, Value}
+use Rattle.farm.specs.declared.Given.the-variants.{Standard, Value, Signed}
 use Rattle.farm.specs.declared.Herd.{Herd}
 use Rattle.farm.specs.declared.Farm.{Farm}
 use Rattle.farm.specs.Limits.{slots}
@@ -73,13 +74,19 @@ pub record IsName (names : NameList) (text : List ℕ) (place : ℕ) : Type 0 wh
   pub inside : place < sizeOf names
   pub name : text ≡ bytes (getD (namesOf names) place "")
 
--- what a text says as the value of an input of this form: a number with no more decimals and no larger than it allows, `standard` where it may
--- stand, or a name of its list
+-- 02, W3, a whole number that may be below zero, "with a leading `-`" ("`-0` is unreadable")
+pub data IsSigned : List ℕ → ℤ → Type 0 where
+  not-below : {text : List ℕ} {v : ℕ} → IsNumber text 0 v → IsSigned text (pos v)
+  behind-minus : {text : List ℕ} {v : ℕ} → IsNumber text 0 v → 0 < v → IsSigned (bytes "-" ++ text) (pos 0 -ℤ pos v)
+
+-- what a text says as the value of an input of this form: a number with no more decimals and no larger than it allows,
+-- one that may be below zero and is no further from it, `standard` where it may stand, or a name of its list
 pub data ValueIs : Form → List ℕ → Given → Type 0 where
   number : {text : List ℕ} {decimals most v : ℕ} → IsNumber text decimals v → v ≤ most → ValueIs (Number decimals most) text (Value v)
   or-standard : {text : List ℕ} {decimals most v : ℕ} → IsNumber text decimals v → v ≤ most → ValueIs (OrStandard decimals most) text (Value v)
   no-standard : {text : List ℕ} {decimals most v : ℕ} → IsNumber text decimals v → v ≤ most → ValueIs (NoStandard decimals most) text (Value v)
   standard : {text : List ℕ} {decimals most : ℕ} → IsStandard text → ValueIs (OrStandard decimals most) text Standard
+  signed : {text : List ℕ} {most : ℕ} {v : ℤ} → IsSigned text v → natAbs v ≤ most → ValueIs (ASigned most) text (Signed v)
   name : {text : List ℕ} {names : NameList} {place : ℕ} → IsName names text place → ValueIs (OneOf names) text (Value place)
 
 -- a record says that the herd of this label has this value for this input: "Each record has four fields: herd label, module path, input

@@ -19,7 +19,14 @@ fn value(v: u32) -> Slot {
     }
 }
 
-// 01's pigs: 10 head, 13 kg, 70 percent, outdoor.
+// A number that may be below zero.
+fn signed(v: i64) -> Slot {
+    Slot {
+        given: Given::Signed(v),
+    }
+}
+
+// 01's pigs: 10 head, 13 kg, 70 percent, outdoor; no scrubber, no mitigation, free factor 0.
 pub fn pigs() -> Herd {
     let missing = Slot {
         given: Given::Missing,
@@ -29,6 +36,10 @@ pub fn pigs() -> Herd {
     slots[1] = value(13000);
     slots[2] = value(7000);
     slots[3] = value(4);
+    slots[4] = value(2);
+    slots[5] = value(0);
+    slots[6] = value(1);
+    slots[7] = signed(0);
     Herd {
         label: Label {
             bytes: *b"P1..............",
@@ -57,6 +68,8 @@ fn given_by(change: Change) -> Given {
     let what = change.what;
     match what {
         b'V' => Given::Value(change.value),
+        b'P' => Given::Signed(cut::less(change.value as u64, 0)),
+        b'N' => Given::Signed(cut::less(0, change.value as u64)),
         b'S' => Given::Standard,
         _ => Given::Missing,
     }

@@ -23,7 +23,7 @@ fn add_record(out: &mut [u8], at: usize, label: u8, rest: &[u8]) -> usize {
     add(out, next, rest)
 }
 
-fn add_herd(out: &mut [u8], at: usize, label: u8) -> usize {
+fn add_excretion(out: &mut [u8], at: usize, label: u8) -> usize {
     let a = add_record(
         out,
         at,
@@ -36,18 +36,50 @@ fn add_herd(out: &mut [u8], at: usize, label: u8) -> usize {
         label,
         b",Livestock::FatteningPigs::Excretion,inp_n_excretion,13\r\n",
     );
-    let c = add_record(
+    add_record(
         out,
         b,
         label,
         b",Livestock::FatteningPigs::Excretion,tan_fraction,70\r\n",
+    )
+}
+
+fn add_housing(out: &mut [u8], at: usize, label: u8) -> usize {
+    let a = add_record(
+        out,
+        at,
+        label,
+        b",Livestock::FatteningPigs::Housing::Type,housing_type,Outdoor\r\n",
     );
-    add_record(
+    let b = add_record(
+        out,
+        a,
+        label,
+        b",Livestock::FatteningPigs::Housing::AirScrubber,air_scrubber,none\r\n",
+    );
+    let c = add_record(
+        out,
+        b,
+        label,
+        b",Livestock::FatteningPigs::Housing::MitigationOptions,mitigation_housing_floor,none\r\n",
+    );
+    let d = add_record(
         out,
         c,
         label,
-        b",Livestock::FatteningPigs::Housing::Type,housing_type,Outdoor\r\n",
+        b",Livestock::FatteningPigs::Housing::MitigationOptions,mitigation_housing_air,none\r\n",
+    );
+    add_record(
+        out,
+        d,
+        label,
+        b",Livestock::FatteningPigs::Housing::CFreeFactor,free_correction_factor,0\r\n",
     )
+}
+
+fn add_herd(out: &mut [u8], at: usize, label: u8) -> usize {
+    let next = add_excretion(out, at, label);
+    add_housing(out, next, label)
 }
 
 // A file of herds whose labels are the bytes from `0` to before `end`.

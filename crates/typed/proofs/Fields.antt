@@ -1,20 +1,46 @@
 -- The inputs of a kind from what the code read of its slots: each field is the one that its name means.
 -- Assumes nothing.
 use Prim.Native.Nat.{ℕ}
-use mathlib.Core.Path.{_≡_}
+use mathlib.Core.Path.{_≡_, refl, _∙_}
+use lib.IntN.{ℤ, pos}
+use mir.Syntax.{w64}
+use mir.Val.{SFits}
+use mir.Facts.{toZ-ofZ}
+use Rattle.cut.proofs.Signs.{back}
 use Rattle.inputs.specs.declared.Kind.the-variants as kinds
+use Rattle.farm.specs.declared.Given.{Given}
+use Rattle.farm.specs.declared.Given.the-variants.{Missing, Standard, Value, Signed}
 use Rattle.farm.specs.declared.Herd.{Herd}
 use Rattle.kinds.specs.declared.Entered.{Entered}
 use Rattle.kinds.specs.declared.ExerciseYard.{ExerciseYard}
 use Rattle.kinds.specs.declared.Floor.{Floor}
 use Rattle.kinds.specs.declared.HousingType.{HousingType}
+use Rattle.kinds.specs.declared.AirScrubber.{AirScrubber}
+use Rattle.kinds.specs.declared.HousingFloor.{HousingFloor}
+use Rattle.kinds.specs.declared.HousingAir.{HousingAir}
 use Rattle.kinds.specs.declared.Outdoor.{Outdoor}
-use Rattle.kinds.specs.Choices.{yardAt, floorAt, housingAt}
-use Rattle.typed.specs.Typed.{numberAt, enteredAt, roughageOf, outdoorOf, cattleOf, pigsOf}
+use Rattle.kinds.specs.Choices.{yardAt, floorAt, housingAt, scrubberAt, housingFloorAt, housingAirAt}
+use Rattle.typed.specs.Typed.{signedIn, numberAt, signedAt, enteredAt, roughageOf, outdoorOf, cattleOf, pigsOf}
+
+-- a number that may be below zero, by what is given
+module _ {g : Given} where
+  pub missing-signed : g ≡ Missing → pos 0 ≡ signedIn g
+  missing-signed e = rw e refl
+
+  pub standard-signed : g ≡ Standard → pos 0 ≡ signedIn g
+  standard-signed e = rw e refl
+
+  pub value-signed : {v : ℕ} → g ≡ Value v → pos 0 ≡ signedIn g
+  value-signed e = rw e refl
+
+  pub signed-signed : (v : ℤ) → SFits w64 v → g ≡ Signed v → back v ≡ signedIn g
+  signed-signed v f e = toZ-ofZ f ∙ rw e refl
+
+pub ruleset signed-steps = (missing-signed, standard-signed, value-signed, signed-signed)
 
 module _ (h : Herd) where
-  pub is-roughage : (category animals free days hours : ℕ) (n tan : Entered)
-      → category ≡ numberAt h 0 → animals ≡ numberAt h 1 → n ≡ enteredAt h 2 → tan ≡ enteredAt h 3 → free ≡ numberAt h 4
+  pub is-roughage : (category animals days hours : ℕ) (free : ℤ) (n tan : Entered)
+      → category ≡ numberAt h 0 → animals ≡ numberAt h 1 → n ≡ enteredAt h 2 → tan ≡ enteredAt h 3 → free ≡ signedAt h 4
       → days ≡ numberAt h 5
       → hours ≡ numberAt h 6
       → record {
@@ -28,12 +54,12 @@ module _ (h : Herd) where
       }
       ≡ roughageOf h
   unfolding roughageOf
-  is-roughage category animals free days hours n tan e0 e1 e2 e3 e4 e5 e6 = rw (e0, e1, e2, e3, e4, e5, e6)
+  is-roughage category animals days hours free n tan e0 e1 e2 e3 e4 e5 e6 = rw (e0, e1, e2, e3, e4, e5, e6)
 
-  pub is-outdoor : (yard-days at-yard at-floor free days hours : ℕ) (yard : ExerciseYard) (floor : Floor)
+  pub is-outdoor : (yard-days at-yard at-floor days hours : ℕ) (free : ℤ) (yard : ExerciseYard) (floor : Floor)
       → yard-days ≡ numberAt h 3 → at-yard ≡ numberAt h 4 → yard ≡ yardAt at-yard → at-floor ≡ numberAt h 5
       → floor ≡ floorAt at-floor
-      → free ≡ numberAt h 6 → days ≡ numberAt h 7 → hours ≡ numberAt h 8
+      → free ≡ signedAt h 6 → days ≡ numberAt h 7 → hours ≡ numberAt h 8
       → record {
         «yard_days» = yard-days;
         «exercise_yard» = yard;
@@ -44,7 +70,7 @@ module _ (h : Herd) where
       }
       ≡ outdoorOf kinds.Cattle h
   unfolding outdoorOf
-  is-outdoor yard-days at-yard at-floor free days hours yard floor e3 e4 ey e5 ef e6 e7 e8 =
+  is-outdoor yard-days at-yard at-floor days hours free yard floor e3 e4 ey e5 ef e6 e7 e8 =
       rw (ey, ef, e3, e4, e5, e6, e7, e8)
 
   pub is-cattle : (animals n tan : ℕ) (o : Outdoor) → animals ≡ numberAt h 0 → n ≡ numberAt h 1 → tan ≡ numberAt h 2
@@ -53,10 +79,28 @@ module _ (h : Herd) where
   unfolding cattleOf
   is-cattle animals n tan o e0 e1 e2 eo = rw (e0, e1, e2, eo)
 
-  pub is-pigs : (animals n tan at : ℕ) (t : HousingType) → animals ≡ numberAt h 0 → n ≡ numberAt h 1
-      → tan ≡ numberAt h 2 → at ≡ numberAt h 3 → t ≡ housingAt at
-      → record { animals = animals; «inp_n_excretion» = n; «tan_fraction» = tan; «housing_type» = t } ≡ pigsOf h
+  pub is-pigs : (animals n tan at-type at-scrubber at-floor at-air : ℕ) (free : ℤ)
+      (type : HousingType) (scrubber : AirScrubber) (floor : HousingFloor) (air : HousingAir)
+      → animals ≡ numberAt h 0 → n ≡ numberAt h 1 → tan ≡ numberAt h 2
+      → at-type ≡ numberAt h 3 → type ≡ housingAt at-type
+      → at-scrubber ≡ numberAt h 4 → scrubber ≡ scrubberAt at-scrubber
+      → at-floor ≡ numberAt h 5 → floor ≡ housingFloorAt at-floor
+      → at-air ≡ numberAt h 6 → air ≡ housingAirAt at-air
+      → free ≡ signedAt h 7
+      → record {
+        animals = animals;
+        «inp_n_excretion» = n;
+        «tan_fraction» = tan;
+        «housing_type» = type;
+        «air_scrubber» = scrubber;
+        «mitigation_housing_floor» = floor;
+        «mitigation_housing_air» = air;
+        «free_correction_factor» = free;
+      }
+      ≡ pigsOf h
   unfolding pigsOf
-  is-pigs animals n tan at t e0 e1 e2 e3 et = rw (et, e0, e1, e2, e3)
+  is-pigs animals n tan at-type at-scrubber at-floor at-air free type scrubber floor air
+      e0 e1 e2 e3 et e4 es e5 ef e6 ea e7 =
+      rw (et, es, ef, ea, e0, e1, e2, e3, e4, e5, e6, e7)
 
 pub ruleset fields = (is-roughage, is-outdoor, is-cattle, is-pigs)

@@ -3,8 +3,9 @@
 use mathlib.Core.Path.{_≡_, refl}
 use mathlib.Core.List.{map}
 use Rattle.tables.specs.Standards.{«standard_N_excretion»}
-use Rattle.names.specs.Names.{categories, yards, floors, housingTypes}
-use Rattle.kinds.specs.Choices.{yardChoices, floorChoices, housingChoices}
+use Rattle.names.specs.Names.{categories, yards, floors, housingTypes, airScrubbers, housingFloors, housingAirs}
+use Rattle.kinds.specs.Choices.{yardChoices, floorChoices, housingChoices, scrubberChoices, housingFloorChoices}
+use Rattle.kinds.specs.Choices.{housingAirChoices}
 
 pub yards-named : map (λ c. c .name) yardChoices ≡ yards
 yards-named = refl
@@ -14,6 +15,15 @@ floors-named = refl
 
 pub housing-types-named : map (λ c. c .name) housingChoices ≡ housingTypes
 housing-types-named = refl
+
+pub air-scrubbers-named : map (λ c. c .name) scrubberChoices ≡ airScrubbers
+air-scrubbers-named = refl
+
+pub housing-floors-named : map (λ c. c .name) housingFloorChoices ≡ housingFloors
+housing-floors-named = refl
+
+pub housing-airs-named : map (λ c. c .name) housingAirChoices ≡ housingAirs
+housing-airs-named = refl
 
 pub categories-named : map (λ s. s .category) «standard_N_excretion» ≡ categories
 categories-named = refl

@@ -1,14 +1,16 @@
 -- A herd's record that passes the checks gives sound inputs: what stands in a slot is a value of the form of its input,
 -- so each number is in its range (01, "Ranges"). Assumes nothing.
 use Prim.Native.Nat.{ℕ, zero, suc, _≤_, _<_}
-use mathlib.Core.Path.{_≡_}
+use mathlib.Core.Path.{_≡_, refl}
 use mathlib.Core.Bool.{true}
 use mathlib.Core.List.{List, [], _∷_}
 use native.Mathlib.Omega.{arith}
+use lib.IntN.{natAbs}
 use lib.ListN.{length, getD, length-take}
 use lib.Seq.{getD-take}
 use borrow.Author.Needs.{zero≤}
 use borrow.Author.Tests.{leb-true, ltb-true}
+use Rattle.base.proofs.Clash.{clash}
 use Rattle.base.proofs.Each.{each-getD}
 use Rattle.inputs.specs.declared.Kind.{Kind}
 use Rattle.inputs.specs.declared.Kind.the-variants as kinds
@@ -17,10 +19,10 @@ use Rattle.names.specs.declared.Names.{Names as NameList}
 use Rattle.names.specs.declared.Names.the-variants.{Categories}
 use Rattle.names.specs.Names.{sizeOf}
 use Rattle.inputs.specs.declared.Form.{Form}
-use Rattle.inputs.specs.declared.Form.the-variants.{Number, OrStandard, NoStandard, OneOf}
+use Rattle.inputs.specs.declared.Form.the-variants.{Number, OrStandard, NoStandard, Signed as ASigned, OneOf}
 use Rattle.inputs.specs.Inputs.{Row, rowsOf, noRow}
 use Rattle.farm.specs.declared.Given.{Given}
-use Rattle.farm.specs.declared.Given.the-variants.{Missing, Standard, Value}
+use Rattle.farm.specs.declared.Given.the-variants.{Missing, Standard, Value, Signed}
 use Rattle.farm.specs.declared.Slot.{Slot}
 use Rattle.farm.specs.Limits.{herdsMost}
 use Rattle.farm.specs.declared.Herd.{Herd}
@@ -30,8 +32,9 @@ use Rattle.checks.specs.Checks.{fits, checkHerd, checkFarm, herdsOf}
 use Rattle.checks.specs.Accepts.{Passes}
 use Rattle.farm.specs.Herds.{noSlot}
 use Rattle.checks.proofs.Accepts.{passes, farm-count, farm-each}
+use Rattle.amounts.specs.Units.{percent}
 use Rattle.kinds.specs.Sound.{EnteredTo, standard, number, Sound, roughage, cattle, pigs}
-use Rattle.typed.specs.Typed.{numberIn, enteredIn, givenAt, numberAt, enteredAt, roughageOf, outdoorOf, cattleOf, pigsOf, typedAs, typedOf}
+use Rattle.typed.specs.Typed.{numberIn, signedIn, enteredIn, givenAt, numberAt, signedAt, enteredAt, roughageOf, outdoorOf, cattleOf, pigsOf, typedAs, typedOf}
 
 -- ---- a slot
 
@@ -40,23 +43,33 @@ abbrev mostOf : Form → ℕ
 mostOf (Number d m) = m
 mostOf (OrStandard d m) = m
 mostOf (NoStandard d m) = m
+mostOf (ASigned m) = m
 mostOf (OneOf names) = sizeOf names
 
 value-to : (form : Form) (v : ℕ) → fits form (Value v) ≡ true → v ≤ mostOf form
 value-to (Number d m) v e = leb-true v m e
 value-to (OrStandard d m) v e = leb-true v m e
 value-to (NoStandard d m) v e = leb-true v m e
+value-to (ASigned m) v e = clash cc
 value-to (OneOf names) v e = omega (arith, ltb-true v (sizeOf names) e)
 
 number-to : (form : Form) (g : Given) → fits form g ≡ true → numberIn g ≤ mostOf form
 number-to form Missing e = zero≤
 number-to form Standard e = zero≤
 number-to form (Value v) e = value-to form v e
+number-to form (Signed v) e = zero≤
+
+signed-to : (m : ℕ) (g : Given) → fits (ASigned m) g ≡ true → natAbs (signedIn g) ≤ m
+signed-to m Missing e = zero≤
+signed-to m Standard e = zero≤
+signed-to m (Value v) e = zero≤
+signed-to m (Signed v) e = leb-true (natAbs v) m e
 
 entered-to : (form : Form) (g : Given) → fits form g ≡ true → EnteredTo (mostOf form) (enteredIn g)
 entered-to form Missing e = number zero≤
 entered-to form Standard e = standard
 entered-to form (Value v) e = number (value-to form v e)
+entered-to form (Signed v) e = number zero≤
 
 -- ---- the slot of each input
 
@@ -69,6 +82,9 @@ fits-at [] slots i p h = absurd (omega arith)
 module _ (k : Kind) (h : Herd) (p : Passes (rowsOf k) (h .slots)) where
   number-at : (i : ℕ) → i < length (rowsOf k) → numberAt h i ≤ mostOf (getD (rowsOf k) i noRow .form)
   number-at i l = number-to (getD (rowsOf k) i noRow .form) (givenAt h i) (fits-at (rowsOf k) (h .slots) i p l)
+
+  signed-at : (i m : ℕ) → i < length (rowsOf k) → getD (rowsOf k) i noRow .form ≡ ASigned m → natAbs (signedAt h i) ≤ m
+  signed-at i m l e = signed-to m (givenAt h i) (rw e at (fits-at (rowsOf k) (h .slots) i p l))
 
   entered-at : (i : ℕ) → i < length (rowsOf k) → EnteredTo (mostOf (getD (rowsOf k) i noRow .form)) (enteredAt h i)
   entered-at i l = entered-to (getD (rowsOf k) i noRow .form) (givenAt h i) (fits-at (rowsOf k) (h .slots) i p l)
@@ -84,7 +100,7 @@ typed-as kinds.Roughage h p =
       animals = n 1 (omega arith);
       grams = e 2 (omega arith);
       fraction = e 3 (omega arith);
-      free = n 4 (omega arith);
+      free = signed-at kinds.Roughage h p 4 percent (omega arith) refl;
       days = n 5 (omega arith);
       hours = n 6 (omega arith);
     })
@@ -95,11 +111,16 @@ typed-as kinds.Cattle h p =
       grams = n 1 (omega arith);
       fraction = n 2 (omega arith);
       outdoor =
-          record { yard = n 3 (omega arith); free = n 6 (omega arith); days = n 7 (omega arith); hours = n 8 (omega arith) };
+          record { yard = n 3 (omega arith); free = signed-at kinds.Cattle h p 6 percent (omega arith) refl; days = n 7 (omega arith); hours = n 8 (omega arith) };
     })
 typed-as kinds.Pigs h p =
     let n = number-at kinds.Pigs h p in
-    pigs (record { animals = n 0 (omega arith); grams = n 1 (omega arith); fraction = n 2 (omega arith) })
+    pigs (record {
+      animals = n 0 (omega arith);
+      grams = n 1 (omega arith);
+      fraction = n 2 (omega arith);
+      free = signed-at kinds.Pigs h p 7 percent (omega arith) refl;
+    })
 
 -- ---- no category is past the last
 
@@ -108,6 +129,7 @@ place-below : (names : NameList) (g : Given) → 0 < sizeOf names → fits (OneO
 place-below names Missing some e = some
 place-below names Standard some e = some
 place-below names (Value v) some e = ltb-true v (sizeOf names) e
+place-below names (Signed v) some e = some
 
 pub category-known : (h : Herd) → checkHerd h ≡ Accepted → h .kind ≡ kinds.Roughage
     → roughageOf h .animalcategory < length standards

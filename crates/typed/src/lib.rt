@@ -14,7 +14,7 @@ ghost use mathlib.Core.Path.{_≡_};
 ghost use Prim.Native.Nat.{_<_};
 ghost use Rattle.inputs.specs.declared.Kind.the-variants as kinds;
 ghost use Rattle.farm.specs.Limits.{slots};
-ghost use Rattle.typed.specs.Typed.{numberIn, enteredIn, numberAt, enteredAt, roughageOf, outdoorOf, cattleOf, pigsOf, typedOf};
+ghost use Rattle.typed.specs.Typed.{numberIn, signedIn, enteredIn, numberAt, signedAt, enteredAt, roughageOf, outdoorOf, cattleOf, pigsOf, typedOf};
 
 fn number_in(given: Given) -> u64
     ensures { λ r. ⌜ r ≡ numberIn given ⌝ }
@@ -23,6 +23,18 @@ fn number_in(given: Given) -> u64
         Given::Missing => 0,
         Given::Standard => 0,
         Given::Value(v) => v as u64,
+        Given::Signed(v) => 0,
+    }
+}
+
+fn signed_in(given: Given) -> i64
+    ensures { λ r. ⌜ r ≡ signedIn given ⌝ }
+{
+    match given {
+        Given::Missing => 0,
+        Given::Standard => 0,
+        Given::Value(v) => 0,
+        Given::Signed(v) => v,
     }
 }
 
@@ -33,6 +45,7 @@ fn entered_in(given: Given) -> Entered
         Given::Missing => Entered::Number(0),
         Given::Standard => Entered::Standard,
         Given::Value(v) => Entered::Number(v as u64),
+        Given::Signed(v) => Entered::Number(0),
     }
 }
 
@@ -44,6 +57,15 @@ fn number_at(h: Herd, place: usize) -> u64
     let slot = h.slots[place];
     let given = slot.given;
     number_in(given)
+}
+
+fn signed_at(h: Herd, place: usize) -> i64
+    requires { ⌜ place < slots ⌝ }
+    ensures { λ r. ⌜ r ≡ signedAt h place ⌝ }
+{
+    let slot = h.slots[place];
+    let given = slot.given;
+    signed_in(given)
 }
 
 fn entered_at(h: Herd, place: usize) -> Entered
@@ -63,7 +85,7 @@ fn roughage_of(h: Herd) -> Roughage
         animals: number_at(h, 1),
         inp_n_excretion: entered_at(h, 2),
         tan_fraction: entered_at(h, 3),
-        free_correction_factor: number_at(h, 4),
+        free_correction_factor: signed_at(h, 4),
         grazing_days: number_at(h, 5),
         grazing_hours: number_at(h, 6),
     }
@@ -76,7 +98,7 @@ fn outdoor_of(h: Herd) -> Outdoor
         yard_days: number_at(h, 3),
         exercise_yard: choices::yard_at(number_at(h, 4)),
         floor_properties_exercise_yard: choices::floor_at(number_at(h, 5)),
-        free_correction_factor: number_at(h, 6),
+        free_correction_factor: signed_at(h, 6),
         grazing_days: number_at(h, 7),
         grazing_hours: number_at(h, 8),
     }
@@ -101,6 +123,10 @@ fn pigs_of(h: Herd) -> Pigs
         inp_n_excretion: number_at(h, 1),
         tan_fraction: number_at(h, 2),
         housing_type: choices::housing_at(number_at(h, 3)),
+        air_scrubber: choices::scrubber_at(number_at(h, 4)),
+        mitigation_housing_floor: choices::housing_floor_at(number_at(h, 5)),
+        mitigation_housing_air: choices::housing_air_at(number_at(h, 6)),
+        free_correction_factor: signed_at(h, 7),
     }
 }
 

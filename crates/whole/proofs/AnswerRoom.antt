@@ -1,5 +1,5 @@
 -- The room for an answer: it is enough for every accepted file, and not much larger than it has to be, since 64 herds
--- of cattle, whose labels have to be quoted and whose figures are large, come within a kilobyte of it. Assumes nothing.
+-- of pigs, whose labels have to be quoted and whose figures are large, come within a kilobyte of it. Assumes nothing.
 use Prim.Native.Nat.{ℕ, zero, suc, _+_, _*_, _^_, _/_, _%_, _≤_}
 use Prim.Native.String.{String}
 use mathlib.Core.Path.{_≡_, refl}
@@ -10,26 +10,25 @@ use native.Mathlib.Omega.{arith}
 use borrow.Author.Tests.{ltb-true, ltb-false, leb-true}
 use lib.Dec.{leb, ltb, leb→le}
 use lib.ListN.{length, length-append}
-use lib.IntN.{ℤ, natAbs}
+use lib.IntN.{ℤ, pos, natAbs}
 use Rattle.base.specs.Pick.{pick}
 use Rattle.base.specs.Text.{bytes}
 use Rattle.base.specs.Part.{sameBytes}
 use Rattle.decimal.specs.Writing.{width, kilogramsOf}
 use Rattle.decimal.proofs.Widths.{whole-length, width-small, width-step}
 use Rattle.decimal.proofs.Kilograms.{thousandths-length, kilograms-length}
-use Rattle.inputs.specs.declared.Kind.the-variants.{Cattle}
-use Rattle.farm.specs.declared.Given.the-variants.{Value}
+use Rattle.inputs.specs.declared.Kind.the-variants.{Pigs}
+use Rattle.farm.specs.declared.Given.the-variants.{Value, Signed}
 use Rattle.farm.specs.declared.Slot.{Slot}
 use Rattle.farm.specs.declared.Herd.{Herd}
 use Rattle.farm.specs.declared.Farm.{Farm}
 use Rattle.farm.specs.declared.Checked.the-variants.{Accepted}
+use Rattle.farm.specs.Herds.{noSlot}
 use Rattle.farm.specs.Labels.{text, byteOk, labelOk, sameLabel, labelOf}
 use Rattle.checks.specs.Checks.{lacks, unfit, herdsOf, checkFarm}
 use Rattle.reader.specs.Files.{readOf}
-use Rattle.kinds.specs.Choices.{yardAt, floorAt}
-use Rattle.yard.specs.Yard.{«days_with_grazing_and_yard», shareLowered, «share_excretion_with_grazing», yardTime}
-use Rattle.pasture.specs.Pasture.{outdoorGrazingTime}
-use Rattle.typed.specs.Typed.{typedOf, outdoorOf, cattleOf}
+use Rattle.kinds.specs.Choices.{housingAt, scrubberAt, housingFloorAt, housingAirAt}
+use Rattle.typed.specs.Typed.{typedOf, pigsOf}
 use Rattle.outputs.specs.declared.Totals.{Totals}
 use Rattle.outputs.specs.Names.{totalTexts}
 use Rattle.outputs.specs.Grams.{figure, total, byNumber, farmTotal, totalsOf}
@@ -54,14 +53,17 @@ answer-fits s e = rw e (farm-fits (readOf s .farm) (passes s (readOf s) refl e))
 abbrev slot : ℕ → Slot
 slot v = record { given = Value v }
 
--- 10000 head of 200 kg, TAN 100 percent; 292 yard days, roughage exclusively there, solid floor, free factor 0; 293
--- days of 23.7 hours on pasture
+abbrev signed : ℕ → Slot
+signed v = record { given = Signed (pos v) }
+
+-- 10000 head of 200 kg, TAN 100 percent, on deep litter; no air scrubber, no mitigation option, free factor 0
 abbrev herd : ℕ → Herd
 herd i =
     record {
       label = labelOf (bytes "Herd, number, " ++ (48 + i / 10) ∷ (48 + i % 10) ∷ []);
-      kind = Cattle;
-      slots = slot 10000 ∷ slot 200000 ∷ slot 10000 ∷ slot 292 ∷ slot 3 ∷ slot 0 ∷ slot 0 ∷ slot 293 ∷ slot 237 ∷ [];
+      kind = Pigs;
+      slots =
+          slot 10000 ∷ slot 200000 ∷ slot 10000 ∷ slot 3 ∷ slot 2 ∷ slot 0 ∷ slot 1 ∷ signed 0 ∷ noSlot ∷ [];
     }
 
 abbrev herdsFrom : ℕ → ℕ → List Herd
@@ -114,23 +116,23 @@ amount-least z =
 -- ---- the listing
 
 abbrev herdLeast : Herd → String → ℕ
-herdLeast h n = 18 + length (moduleOf Cattle n) + length (bytes n) + amountLeast (figure n (herdFigures h)) + 5
+herdLeast h n = 18 + length (moduleOf Pigs n) + length (bytes n) + amountLeast (figure n (herdFigures h)) + 5
 
-herd-long : (i : ℕ) → 1306 ≤ length (listingOf (herd i))
-unfolding labelOf labelField hasComma herdLines typedOf outdoorOf cattleOf yardAt floorAt figuresOf yardTime outdoorGrazingTime «days_with_grazing_and_yard» shareLowered «share_excretion_with_grazing»
+herd-long : (i : ℕ) → 1756 ≤ length (listingOf (herd i))
+unfolding labelOf labelField hasComma herdLines typedOf pigsOf housingAt scrubberAt housingFloorAt housingAirAt figuresOf
 herd-long i =
-    le-trans (leb→le 1306 (sumOf (herdLeast (herd i)) (linesOf Cattle)) tt)
-    (each-fills (herdLine label Cattle (herdFigures (herd i))) (herdLeast (herd i)) fills (linesOf Cattle))
+    le-trans (leb→le 1756 (sumOf (herdLeast (herd i)) (linesOf Pigs)) tt)
+    (each-fills (herdLine label Pigs (herdFigures (herd i))) (herdLeast (herd i)) fills (linesOf Pigs))
   where
     label : List ℕ
     label = text (herd i .label)
 
-    fills : (n : String) → herdLeast (herd i) n ≤ length (herdLine label Cattle (herdFigures (herd i)) n)
+    fills : (n : String) → herdLeast (herd i) n ≤ length (herdLine label Pigs (herdFigures (herd i)) n)
     fills n =
         let z = figure n (herdFigures (herd i)) in
-        omega (arith, line-length label (moduleOf Cattle n) (bytes n) z, amount-least z)
+        omega (arith, line-length label (moduleOf Pigs n) (bytes n) z, amount-least z)
 
-herds-long : (i k : ℕ) → k * 1306 ≤ length (each listingOf (herdsFrom i k))
+herds-long : (i k : ℕ) → k * 1756 ≤ length (each listingOf (herdsFrom i k))
 herds-long i zero = omega arith
 herds-long i (suc k) =
     let rest = each listingOf (herdsFrom (suc i) k) in
@@ -142,10 +144,10 @@ longTotals = totalsOf (map herdFigures (herdsOf longFarm))
 abbrev totalLeast : String → ℕ
 totalLeast n = length (bytes totalPath) + length (bytes n) + amountLeast (total n longTotals) + 5
 
-totals-long : 696 ≤ length (totalsListing longTotals)
-unfolding labelField hasComma totalsListing totalsOf byNumber farmTotal typedOf outdoorOf cattleOf yardAt floorAt figuresOf yardTime outdoorGrazingTime «days_with_grazing_and_yard» shareLowered «share_excretion_with_grazing»
+totals-long : 639 ≤ length (totalsListing longTotals)
+unfolding labelField hasComma totalsListing totalsOf byNumber farmTotal typedOf pigsOf housingAt scrubberAt housingFloorAt housingAirAt figuresOf
 totals-long =
-    le-trans (leb→le 696 (sumOf totalLeast totalTexts) tt)
+    le-trans (leb→le 639 (sumOf totalLeast totalTexts) tt)
     (each-fills (totalLine longTotals) totalLeast fills totalTexts)
   where
     fills : (n : String) → totalLeast n ≤ length (totalLine longTotals n)
@@ -153,7 +155,7 @@ totals-long =
         let z = total n longTotals in
         omega (arith, line-length [] (bytes totalPath) (bytes n) z, amount-least z)
 
-farm-long : 84280 ≤ length (farmListing longFarm)
+farm-long : 113023 ≤ length (farmListing longFarm)
 unfolding farmListing farmAnswer
 farm-long =
     let herds = each listingOf (herdsOf longFarm) in

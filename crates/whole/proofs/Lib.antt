@@ -1,3 +1,5 @@
+pub mod Amounts
+pub mod Lacking
 pub mod Rooms
 pub mod FarmSteps
 pub mod RefusalLine

@@ -1,10 +1,10 @@
--- How long an answer is at most: every amount of an accepted herd and of an accepted farm's totals is short, and so are
--- their listings. Assumes nothing.
-use Prim.Native.Nat.{ℕ, zero, suc, _+_, _*_, _/_, _^_, _≤_, _<_}
-use mathlib.Core.Path.{_≡_, refl, sym, ap, _∙_}
+-- How long an answer is at most: every amount of an accepted herd (beside this page) and of an accepted farm's totals
+-- is short, and so are their listings. Assumes nothing.
+use Prim.Native.Nat.{ℕ, _+_, _*_, _≤_}
+use mathlib.Core.Path.{_≡_, refl}
 use mathlib.Core.Bool.{Bool, true, false, _&&_}
 use mathlib.Core.List.{List, [], _∷_, _++_, map}
-use native.Mathlib.Nat.{mul-zero, min-le-left}
+use native.Mathlib.Nat.{min-le-left}
 use native.Mathlib.Omega.{arith}
 use borrow.Author.Tests.{ltb-true, ltb-false, leb-true}
 use lib.Dec.{leb, ltb, leb→le}
@@ -16,12 +16,10 @@ use Rattle.base.proofs.Each.{each-of, each-map}
 use Rattle.base.proofs.Runs.{all-getD}
 use Rattle.cut.specs.Total.{addUp, signedTotal}
 use Rattle.cut.proofs.Signed.{abs-add}
-use Rattle.decimal.specs.Writing.{width, wholeOf, thousandthsOf, sign, kilogramsOf}
+use Rattle.decimal.specs.Writing.{kilogramsOf}
 use Rattle.decimal.proofs.Kilograms.{kilograms-within}
 use Rattle.decimal.proofs.Signs.{sign-short}
-use Rattle.amounts.specs.Arithmetic.{cutting}
-use Rattle.kinds.specs.declared.Inputs.{Inputs}
-use Rattle.kinds.specs.declared.Inputs.the-variants as kinds
+use Rattle.inputs.specs.declared.Kind.{Kind}
 use Rattle.kinds.specs.Sound.{Sound}
 use Rattle.farm.specs.declared.Label.{Label}
 use Rattle.farm.specs.declared.Herd.{Herd}
@@ -31,80 +29,26 @@ use Rattle.farm.specs.Limits.{labelMost, herdsMost}
 use Rattle.farm.specs.Labels.{text, labelOk, allOk}
 use Rattle.checks.specs.Checks.{checkHerd, checkFarm, herdsOf}
 use Rattle.checks.proofs.Accepts.{accepted-herd, farm-count, farm-each}
-use Rattle.typed.specs.Typed.{typedOf}
+use Rattle.typed.specs.Typed.{typedAs, typedOf}
 use Rattle.typed.proofs.Sound.{typed-sound}
 use Rattle.outputs.specs.declared.Figures.{Figures}
 use Rattle.outputs.specs.declared.Totals.{Totals}
-use Rattle.outputs.specs.Sections.{FiguresIn}
 use Rattle.outputs.specs.Names.{totals, addends}
-use Rattle.outputs.specs.Grams.{at, gramsOf, farmTotal, totalsOf, To}
+use Rattle.outputs.specs.Grams.{at, farmTotal, totalsOf, To}
 use Rattle.outputs.proofs.ByNumber.{by-number-at, by-number-past}
-use Rattle.herd.specs.Herd.{figuresIn, figuresOf}
+use Rattle.herd.specs.Herd.{figuresOf}
 use Rattle.herd.proofs.Made.{made}
 use Rattle.herd.proofs.Bounds.{most, made-to, figures-to}
 use Rattle.model.specs.Answers.{herdFigures, farmAnswer}
-use Rattle.listing.specs.Bounds.{longestAmount, nothing, amountRooms, totalRoom, herdRoom, totalsRoom}
-use Rattle.listing.specs.Listing.{each, totalsListing}
-use Rattle.listing.proofs.Lengths.{Short, herd-short, TotalsShort, totals-short}
+use Rattle.listing.specs.Bounds.{totalRoom, herdRoom, totalsRoom}
+use Rattle.listing.specs.Listing.{each, herdLines, totalsListing}
+use Rattle.listing.proofs.Lengths.{herd-short, TotalsShort, totals-short}
 use Rattle.whole.specs.Lines.{listingOf, farmListing}
 use Rattle.whole.specs.Rooms.{farmRoom}
+use Rattle.whole.proofs.Amounts.{amounts-short}
+use Rattle.whole.proofs.Lacking.{lacking}
 
 -- ---- a herd
-
--- amounts by number, none longer than its room
-data Shorts : List ℕ → List ℤ → Type 0 where
-  end : Shorts [] []
-  next : {w : ℕ} {ws : List ℕ} {z : ℤ} {g : List ℤ} → length (kilogramsOf z) ≤ w → Shorts ws g → Shorts (w ∷ ws) (z ∷ g)
-
-short-at : {ws : List ℕ} {g : List ℤ} → Shorts ws g → (n : ℕ) → length (kilogramsOf (at g n)) ≤ getD ws n nothing
-unfolding kilogramsOf sign thousandthsOf wholeOf width
-short-at end n = leb→le _ _ tt
-short-at (next h s) zero = h
-short-at (next h s) (suc n) = short-at s n
-
-amount-short : {x : ℕ} → x ≤ most → length (kilogramsOf (pos x)) ≤ longestAmount
-unfolding sign
-amount-short {x} h = omega (arith, kilograms-within 6 (pos x) (omega arith))
-
-rest-short : (z : ℤ) → natAbs z ≤ most → length (kilogramsOf z) ≤ longestAmount + 1
-rest-short z h = omega (arith, kilograms-within 6 z (omega arith), sign-short z)
-
-none-short : {x : ℕ} → x ≡ 0 → length (kilogramsOf (pos x)) ≤ nothing
-unfolding kilogramsOf sign thousandthsOf wholeOf width
-none-short e = rw e (leb→le _ _ tt)
-
--- no N2 comes from pasture, of whatever kind the herd is
-no-n2 : (i : Inputs) → figuresIn cutting i .grazing .«n2_ngrazing» ≡ 0
-no-n2 (kinds.Roughage r) = rw mul-zero
-no-n2 (kinds.Cattle c) = rw mul-zero
-no-n2 (kinds.Pigs p) = rw mul-zero
-
-shorts : (f : FiguresIn cutting) → To most (gramsOf f) → f .grazing .«n2_ngrazing» ≡ 0 → Shorts amountRooms (gramsOf f)
-shorts f to n2 =
-    next (amount-short (to .most 0))
-    (next (amount-short (to .most 1))
-    (next (amount-short (to .most 2))
-    (next (amount-short (to .most 3))
-    (next (amount-short (to .most 4))
-    (next (amount-short (to .most 5))
-    (next (amount-short (to .most 6))
-    (next (amount-short (to .most 7))
-    (next (amount-short (to .most 8))
-    (next (amount-short (to .most 9))
-    (next (none-short n2)
-    (next (amount-short (to .most 11))
-    (next (amount-short (to .most 12))
-    (next (amount-short (to .most 13))
-    (next (rest-short (f .grazing .«tan_remain_grazing») (to .most 14))
-    (next (amount-short (to .most 15))
-    (next (amount-short (to .most 16))
-    (next (amount-short (to .most 17))
-    (next (amount-short (to .most 18))
-    (next (amount-short (to .most 19)) end)))))))))))))))))))
-
-figures-short : (i : Inputs) → Sound i → Short (figuresOf i .grams)
-unfolding figuresOf
-figures-short i s = record { amount = short-at (shorts (figuresIn cutting i) (made-to (made s)) (no-n2 i)) }
 
 good-length : (l : Label) → labelOk l ≡ true → l .len ≤ labelMost
 unfolding labelOk
@@ -121,10 +65,17 @@ label-short h e =
     let good = good-length l (accepted-herd h e .label) in
     omega (arith, good, length-take (l .len) (l .bytes), min-le-left (l .len) (length (l .bytes)))
 
+kind-fits : (k : Kind) (h : Herd) → Sound (typedAs k h) → length (text (h .label)) ≤ labelMost
+    → length (herdLines (text (h .label)) k (figuresOf (typedAs k h))) ≤ herdRoom
+unfolding figuresOf
+kind-fits k h s label =
+    let l = lacking k h in
+    herd-short (text (h .label)) k (figuresOf (typedAs k h)) label (l .lacks)
+    (amounts-short (l .has-nothing) (made-to (made s)))
+
 pub herd-fits : (h : Herd) → checkHerd h ≡ Accepted → length (listingOf h) ≤ herdRoom
-herd-fits h e =
-    let short = figures-short (typedOf h) (typed-sound h e) in
-    herd-short (text (h .label)) (h .kind) (herdFigures h) (label-short h e) short
+unfolding typedOf
+herd-fits h e = kind-fits (h .kind) h (typed-sound h e) (label-short h e)
 
 -- ---- the totals
 

@@ -1,30 +1,51 @@
 -- The yard: its part of the N and of the TAN, the ammonia from it, and that nothing is lost on the way.
 -- Assumes nothing.
 use mathlib.Core.Path.{_≡_, refl}
-use Prim.Native.Nat.{ℕ, _+_, _-_, _*_, _≤_}
+use Prim.Native.Nat.{ℕ, _+_, _-_, _*_, _≤_, _<_}
+use native.Mathlib.Nat.{le-refl}
 use native.Mathlib.Omega.{arith}
+use borrow.Author.Tests.{lt-ltb, le-ltb}
+use mir.Syntax.{w64}
+use mir.Val.{Fits}
 use Rattle.cut.specs.declared.Quotient.{Quotient}
-use Rattle.cut.proofs.Products.{mul-to}
-use Rattle.cut.proofs.Shares.{part-le}
+use Rattle.cut.proofs.Products.{mul-fits}
+use Rattle.cut.proofs.Shares.{part-le, least-most}
 use Rattle.amounts.specs.declared.Parts.{Parts}
 use Rattle.amounts.specs.Units.{tenths, percent, tenThousandths, year}
 use Rattle.amounts.specs.Arithmetic.{cutting}
 use Rattle.amounts.specs.Bounds.{Modest, PortionOf, PortionsOf, UpTo}
 use Rattle.amounts.proofs.Amounts.{modest-share}
 use Rattle.kinds.specs.declared.Outdoor.{Outdoor}
+use Rattle.kinds.specs.Free.{«c_free_factor»}
 use Rattle.kinds.specs.Sound.{SoundOutdoor}
-use Rattle.yard.specs.Yard.{«er_yard», «c_floor_properties_exercise_yard», yardTime, «ef_nh3_nyard», intoYard, nh3OnYard, throughYard, onYard}
+use Rattle.yard.specs.Yard.{«er_yard», «c_floor_properties_exercise_yard», yardTime, rateFloorFree, «ef_nh3_nyard», intoYard, nh3OnYard, throughYard, onYard}
 use Rattle.yard.proofs.Times.{yard-time-le}
 
 module _ (o : Outdoor) (s : SoundOutdoor o) where
   pub yard-rate-le : «ef_nh3_nyard» o ≤ tenThousandths * percent * percent
-  yard-rate-le = mul-to («er_yard» * percent) percent tt (omega arith) (omega arith)
+  yard-rate-le = least-most (rateFloorFree o) (tenThousandths * percent * percent)
 
   -- as the code forms it
-  pub is-yard-rate : (floor : ℕ) → floor ≡ «c_floor_properties_exercise_yard» (o .«floor_properties_exercise_yard»)
-      → UpTo (tenThousandths * percent * percent) («ef_nh3_nyard» o)
-      («er_yard» * floor * (percent - o .«free_correction_factor»))
-  is-yard-rate floor e = rw e (record { is = refl; most = yard-rate-le })
+  module _ (floor left : ℕ) (e : floor ≡ «c_floor_properties_exercise_yard» (o .«floor_properties_exercise_yard»))
+      (u : UpTo (percent + percent) («c_free_factor» (o .«free_correction_factor»)) left) where
+    pub rate-fits : Fits w64 («er_yard» * floor * left)
+    rate-fits = mul-fits («er_yard» * percent) (percent + percent) tt (omega arith) (u .most)
+
+    found : rateFloorFree o ≡ «er_yard» * floor * left
+    found = rw (e, u .is) refl
+
+    pub under-yard-ceiling : «er_yard» * floor * left ≤ tenThousandths * percent * percent
+        → UpTo (tenThousandths * percent * percent) («ef_nh3_nyard» o) («er_yard» * floor * left)
+    under-yard-ceiling h =
+        record { is = rw (found, le-ltb (tenThousandths * percent * percent) («er_yard» * floor * left) h) refl; most = h }
+
+    pub at-yard-ceiling : tenThousandths * percent * percent < «er_yard» * floor * left
+        → UpTo (tenThousandths * percent * percent) («ef_nh3_nyard» o) (tenThousandths * percent * percent)
+    at-yard-ceiling h =
+        record {
+          is = rw (found, lt-ltb (tenThousandths * percent * percent) («er_yard» * floor * left) h) refl;
+          most = le-refl (tenThousandths * percent * percent);
+        }
 
   pub yard-modest : (n tan : ℕ) → Modest n tan → Modest (intoYard cutting o n) (intoYard cutting o tan)
   yard-modest n tan m = modest-share n tan (yardTime o) (tenths * year) m (yard-time-le o s)
@@ -41,6 +62,8 @@ module _ (o : Outdoor) (s : SoundOutdoor o) where
 
     pub yard-keeps-tan : let y = onYard cutting o n tan in y .«tan_into_yard» ≡ y .«nh3_nyard» + y .«tan_outyard_liquid»
     yard-keeps-tan = omega (arith, nh3-on-yard-le (intoYard cutting o tan))
+
+pub ruleset yard-rate-steps = (rate-fits, under-yard-ceiling, at-yard-ceiling)
 
 -- ---- the code's step
 

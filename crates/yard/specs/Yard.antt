@@ -6,7 +6,9 @@
 use Prim.Native.Nat.{ℕ, _+_, _-_, _*_}
 use mathlib.Core.Bool.{Bool, _&&_}
 use lib.Dec.{ltb}
+use lib.IntN.{ℤ}
 use Rattle.base.specs.Pick.{pick}
+use Rattle.cut.specs.Cut.{least}
 use Rattle.amounts.specs.Units.{tenths, percent, tenThousandths, year}
 use Rattle.amounts.specs.Arithmetic.{Arithmetic, cutting}
 use Rattle.amounts.specs.Portion.{portion}
@@ -15,11 +17,12 @@ use Rattle.kinds.specs.declared.ExerciseYard.the-variants.{NotAvailable, NotSup
 use Rattle.kinds.specs.declared.Floor.{Floor}
 use Rattle.kinds.specs.declared.Floor.the-variants.{Solid, Unpaved, Perforated, Paddock}
 use Rattle.kinds.specs.declared.Outdoor.{Outdoor}
+use Rattle.kinds.specs.Free.{«c_free_factor»}
 use Rattle.yard.specs.declared.Yard.{Yard}
 
--- 2.33, c_free_factor_yard, in percent: 1 less the free factor
-abbrev pub «c_free_factor_yard» : ℕ → ℕ
-«c_free_factor_yard» free = percent - free
+-- 2.33, c_free_factor_yard, in percent
+abbrev pub «c_free_factor_yard» : ℤ → ℕ
+«c_free_factor_yard» = «c_free_factor»
 
 -- 2.33, days_with_grazing_and_yard
 unfoldable pub «days_with_grazing_and_yard» : Outdoor → ℕ
@@ -87,11 +90,15 @@ yardTime o =
     + «share_excretion_with_grazing» o * «days_with_grazing_and_yard» o
 
 -- 2.34, ef_nh3_nyard: er_yard, floor and free factor, in ten-thousandths of percent of percent
-abbrev pub «ef_nh3_nyard» : Outdoor → ℕ
-«ef_nh3_nyard» o =
+abbrev pub rateFloorFree : Outdoor → ℕ
+rateFloorFree o =
     «er_yard»
     * «c_floor_properties_exercise_yard» (o .«floor_properties_exercise_yard»)
     * «c_free_factor_yard» (o .«free_correction_factor»)
+
+-- and then the ceiling of 1, which a free factor below zero can reach (02, W3)
+abbrev pub «ef_nh3_nyard» : Outdoor → ℕ
+«ef_nh3_nyard» o = least (rateFloorFree o) (tenThousandths * percent * percent)
 
 pub record YardIn (A : Arithmetic) : Type 0 where
   pub «n_into_yard» : A .Amount

@@ -131,13 +131,18 @@ fn yard_time(o: Outdoor) -> u64
     share * (o.yard_days - both) + shared * both
 }
 
-// The part of the TAN on the yard that is emitted.
+// The part of the TAN on the yard that is emitted, and then the ceiling of 1.
 fn ef_nh3_nyard(o: Outdoor) -> u64
     requires { ⌜ SoundOutdoor o ⌝ }
     ensures { λ r. ⌜ UpTo (tenThousandths * percent * percent) («ef_nh3_nyard» o) r ⌝ }
 {
     let floor = o.floor_properties_exercise_yard;
-    ER_YARD * c_floor_properties_exercise_yard(floor) * (PERCENT - o.free_correction_factor)
+    let left = kinds::free::c_free_factor(o.free_correction_factor);
+    let factor = ER_YARD * c_floor_properties_exercise_yard(floor) * left;
+    if RATE_FLOOR_FREE < factor {
+        return RATE_FLOOR_FREE;
+    }
+    factor
 }
 
 // What comes onto the yard, of so much N and TAN.

@@ -26,8 +26,8 @@ sub-tan-2 c = search (needs, outdoor-steps)
 through-door-requires : tie.Need-through-door-requires
 through-door-requires c κs = search needs
 
-by-number-requires : tie.Need-by-number-requires
-by-number-requires c κs = search (needs, outdoor-steps)
+without-pig-house-requires : tie.Need-without-pig-house-requires
+without-pig-house-requires c κs = search (needs, outdoor-steps)
 
 returns : tie.Need-returns
 returns c = search (needs, outdoor-steps)
@@ -43,5 +43,5 @@ outdoor-figures-spec =
     sub-tan
     sub-tan-2
     through-door-requires
-    by-number-requires
+    without-pig-house-requires
     returns)

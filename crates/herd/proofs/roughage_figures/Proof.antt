@@ -28,8 +28,8 @@ no-yard-requires c κs = search needs
 in-housing-requires : tie.Need-in-housing-requires
 in-housing-requires c κs = search (needs, roughage-steps)
 
-by-number-requires : tie.Need-by-number-requires
-by-number-requires c κs = search (needs, roughage-steps)
+without-pig-house-requires : tie.Need-without-pig-house-requires
+without-pig-house-requires c κs = search (needs, roughage-steps)
 
 returns : tie.Need-returns
 returns c = search (needs, roughage-steps)
@@ -46,5 +46,5 @@ roughage-figures-spec =
     sub-tan
     no-yard-requires
     in-housing-requires
-    by-number-requires
+    without-pig-house-requires
     returns)

@@ -15,4 +15,7 @@ module-at-spec =
     (λ c. search (needs, module-at, stretches))
     (λ c. search (needs, module-at, stretches))
     (λ c. search (needs, module-at, stretches))
+    (λ c. search (needs, module-at, stretches))
+    (λ c. search (needs, module-at, stretches))
+    (λ c. search (needs, module-at, stretches))
     (λ c. search (needs, module-none)))

@@ -12,4 +12,8 @@ pigs-spec =
     (λ c. search (needs, numbered-at Pigs))
     (λ c. search (needs, numbered-at Pigs))
     (λ c. search (needs, numbered-at Pigs))
+    (λ c. search (needs, numbered-at Pigs))
+    (λ c. search (needs, numbered-at Pigs))
+    (λ c. search (needs, numbered-at Pigs))
+    (λ c. search (needs, numbered-at Pigs))
     (λ c. search (needs, numbered-last Pigs)))

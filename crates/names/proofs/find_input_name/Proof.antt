@@ -32,9 +32,18 @@ find-input-name-spec =
     (λ c κs. search needs)
     (λ c. search needs)
     (λ c κs. search needs)
+    (λ c. search needs)
+    (λ c κs. search needs)
+    (λ c. search needs)
+    (λ c κs. search needs)
+    (λ c. search needs)
+    (λ c κs. search needs)
     -- what was found after each call
     (λ c.
-    let p10 = c .before .before in
+    let p13 = c .before .before in
+    let p12 = p13 .before .before in
+    let p11 = p12 .before .before in
+    let p10 = p11 .before .before in
     let p9 = p10 .before .before in
     let p8 = p9 .before .before in
     let p7 = p8 .before .before in
@@ -54,4 +63,7 @@ find-input-name-spec =
     let e8 = or-at-next 7 _ _ (p8 .or-at8 .ensures) e7 in
     let e9 = or-at-next 8 _ _ (p9 .or-at9 .ensures) e8 in
     let e10 = or-at-next 9 _ _ (p10 .or-at10 .ensures) e9 in
-    tried-all inputNames _ (or-at-next 10 _ _ (c .or-at11 .ensures) e10)))
+    let e11 = or-at-next 10 _ _ (p11 .or-at11 .ensures) e10 in
+    let e12 = or-at-next 11 _ _ (p12 .or-at12 .ensures) e11 in
+    let e13 = or-at-next 12 _ _ (p13 .or-at13 .ensures) e12 in
+    tried-all inputNames _ (or-at-next 13 _ _ (c .or-at14 .ensures) e13)))

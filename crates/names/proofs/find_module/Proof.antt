@@ -24,9 +24,18 @@ find-module-spec =
     (λ c κs. search needs)
     (λ c. search needs)
     (λ c κs. search needs)
+    (λ c. search needs)
+    (λ c κs. search needs)
+    (λ c. search needs)
+    (λ c κs. search needs)
+    (λ c. search needs)
+    (λ c κs. search needs)
     -- what was found after each call
     (λ c.
-    let p6 = c .before .before in
+    let p9 = c .before .before in
+    let p8 = p9 .before .before in
+    let p7 = p8 .before .before in
+    let p6 = p7 .before .before in
     let p5 = p6 .before .before in
     let p4 = p5 .before .before in
     let p3 = p4 .before .before in
@@ -38,4 +47,7 @@ find-module-spec =
     let e4 = or-at-next 3 _ _ (p4 .or-at4 .ensures) e3 in
     let e5 = or-at-next 4 _ _ (p5 .or-at5 .ensures) e4 in
     let e6 = or-at-next 5 _ _ (p6 .or-at6 .ensures) e5 in
-    tried-all modules _ (or-at-next 6 _ _ (c .or-at7 .ensures) e6)))
+    let e7 = or-at-next 6 _ _ (p7 .or-at7 .ensures) e6 in
+    let e8 = or-at-next 7 _ _ (p8 .or-at8 .ensures) e7 in
+    let e9 = or-at-next 8 _ _ (p9 .or-at9 .ensures) e8 in
+    tried-all modules _ (or-at-next 9 _ _ (c .or-at10 .ensures) e9)))

@@ -1,13 +1,19 @@
 -- `notes::cattle_notes` meets its contract, note by note. Assumes nothing.
 use borrow.Author.Needs.{needs}
+use Rattle.notes.proofs.Steps.{are-cattle-notes, free-noted}
 use Rattle.notes.proofs.cattle_notes.Statement.{statement}
 use Rattle.notes.proofs.cattle_notes.Tie as tie
+
+free-entered-requires : tie.Need-free-entered-requires
+free-entered-requires c κs = search needs
 
 share-lowered-requires : tie.Need-share-lowered-requires
 share-lowered-requires c κs = search needs
 
 returns : tie.Need-returns
-returns c = rw (c .share-lowered .ensures)
+returns c = search (needs, are-cattle-notes, free-noted)
 
 pub cattle-notes-spec : {M : Type 1} → statement M
-cattle-notes-spec = tie.close (tie.spec share-lowered-requires returns)
+cattle-notes-spec =
+    tie.close
+    (tie.spec free-entered-requires share-lowered-requires returns)

@@ -17,11 +17,11 @@ enum-known-inputs-2 c = search needs
 cattle-notes-requires : tie.Need-cattle-notes-requires
 cattle-notes-requires c κs = search (needs, of-kind)
 
-enum-told : tie.Need-enum-told
-enum-told c = search needs
+enum-known-inputs-3 : tie.Need-enum-known-inputs-3
+enum-known-inputs-3 c = search needs
 
-no-notes-requires : tie.Need-no-notes-requires
-no-notes-requires c κs = search needs
+pigs-notes-requires : tie.Need-pigs-notes-requires
+pigs-notes-requires c κs = search needs
 
 returns : tie.Need-returns
 returns c = search (needs, kind-notes)
@@ -40,8 +40,8 @@ notes-of-spec =
     roughage-notes-requires
     enum-known-inputs-2
     cattle-notes-requires
-    enum-told
-    no-notes-requires
+    enum-known-inputs-3
+    pigs-notes-requires
     returns
     returns-2
     returns-3)

@@ -1,5 +1,6 @@
 -- `notes::roughage_notes` meets its contract, note by note. Assumes nothing.
 use borrow.Author.Needs.{needs}
+use Rattle.notes.proofs.Steps.{are-roughage-notes, free-noted}
 use Rattle.notes.proofs.roughage_notes.Statement.{statement}
 use Rattle.notes.proofs.roughage_notes.Tie as tie
 
@@ -9,9 +10,16 @@ n-off-standard-requires c κs = search needs
 tan-off-standard-requires : tie.Need-tan-off-standard-requires
 tan-off-standard-requires c κs = search needs
 
+free-entered-requires : tie.Need-free-entered-requires
+free-entered-requires c κs = search needs
+
+above-ceiling-requires : tie.Need-above-ceiling-requires
+above-ceiling-requires c κs = search needs
+
 returns : tie.Need-returns
-returns c = rw (c .before .before .n-off-standard .ensures, c .before .tan-off-standard .ensures)
+returns c = search (needs, are-roughage-notes, free-noted)
 
 pub roughage-notes-spec : {M : Type 1} → statement M
 roughage-notes-spec =
-    tie.close (tie.spec n-off-standard-requires tan-off-standard-requires returns)
+    tie.close
+    (tie.spec n-off-standard-requires tan-off-standard-requires free-entered-requires above-ceiling-requires returns)

@@ -19,14 +19,14 @@ number-at-requires-3 c κs = search needs
 floor-at-requires : tie.Need-floor-at-requires
 floor-at-requires c κs = search needs
 
+signed-at-requires : tie.Need-signed-at-requires
+signed-at-requires c κs = search needs
+
 number-at-requires-4 : tie.Need-number-at-requires-4
 number-at-requires-4 c κs = search needs
 
 number-at-requires-5 : tie.Need-number-at-requires-5
 number-at-requires-5 c κs = search needs
-
-number-at-requires-6 : tie.Need-number-at-requires-6
-number-at-requires-6 c κs = search needs
 
 returns : tie.Need-returns
 returns c = search (needs, fields)
@@ -40,7 +40,7 @@ outdoor-of-spec =
     yard-at-requires
     number-at-requires-3
     floor-at-requires
+    signed-at-requires
     number-at-requires-4
     number-at-requires-5
-    number-at-requires-6
     returns)

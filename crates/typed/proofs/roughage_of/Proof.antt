@@ -16,14 +16,14 @@ entered-at-requires c κs = search needs
 entered-at-requires-2 : tie.Need-entered-at-requires-2
 entered-at-requires-2 c κs = search needs
 
+signed-at-requires : tie.Need-signed-at-requires
+signed-at-requires c κs = search needs
+
 number-at-requires-3 : tie.Need-number-at-requires-3
 number-at-requires-3 c κs = search needs
 
 number-at-requires-4 : tie.Need-number-at-requires-4
 number-at-requires-4 c κs = search needs
-
-number-at-requires-5 : tie.Need-number-at-requires-5
-number-at-requires-5 c κs = search needs
 
 returns : tie.Need-returns
 returns c = search (needs, fields)
@@ -36,7 +36,7 @@ roughage-of-spec =
     number-at-requires-2
     entered-at-requires
     entered-at-requires-2
+    signed-at-requires
     number-at-requires-3
     number-at-requires-4
-    number-at-requires-5
     returns)

@@ -13,8 +13,8 @@ returns c = search (needs, no-line)
 put-text-requires : tie.Need-put-text-requires
 put-text-requires c κs = search needs
 
-put-text-requires-2 : tie.Need-put-text-requires-2
-put-text-requires-2 c κs = search needs
+put-requires : tie.Need-put-requires
+put-requires c κs = search needs
 
 put-numbers-requires : tie.Need-put-numbers-requires
 put-numbers-requires c κs = search needs
@@ -28,11 +28,11 @@ returns-2 c =
     let b = e .before .before .before .before in
     let a = b .before .before .before .before in (
       said (line-is _ _ _ _ (a .before .before .if1 .left))
-          (joined (joined (a .put-text .ensures) (b .put-text2 .ensures)) (e .put-numbers .ensures .0)),
+          (joined (joined (a .put-text .ensures) (b .put .ensures)) (e .put-numbers .ensures .0)),
       search needs,
     )
 
 pub put-line-spec : {M : Type 1} → statement M
 put-line-spec =
     tie.close
-    (tie.spec returns put-text-requires put-text-requires-2 put-numbers-requires same-length returns-2)
+    (tie.spec returns put-text-requires put-requires put-numbers-requires same-length returns-2)

@@ -25,8 +25,8 @@ no-factors-requires c κs = search needs
 undivided-requires : tie.Need-undivided-requires
 undivided-requires c κs = search needs
 
-by-number-requires : tie.Need-by-number-requires
-by-number-requires c κs = search needs
+without-pig-house-requires : tie.Need-without-pig-house-requires
+without-pig-house-requires c κs = search needs
 
 returns : tie.Need-returns
 returns c =
@@ -38,7 +38,7 @@ returns c =
     let y = a .before in
     is-outdoor-from _ _ (y .before .tan-excretion .ensures) (y .into-yard .ensures) (a .nh3-on-yard .ensures)
     (i .outdoor-into-grazing .ensures) (g .gases-of .ensures) (f .no-factors .ensures) (o .undivided .ensures)
-    (c .by-number .ensures)
+    (c .without-pig-house .ensures)
 
 pub outdoor-from-spec : {M : Type 1} → statement M
 outdoor-from-spec =
@@ -51,5 +51,5 @@ outdoor-from-spec =
     gases-of-requires
     no-factors-requires
     undivided-requires
-    by-number-requires
+    without-pig-house-requires
     returns)

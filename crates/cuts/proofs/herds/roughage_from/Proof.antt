@@ -31,8 +31,8 @@ no-parts-requires c κs = search needs
 undivided-requires : tie.Need-undivided-requires
 undivided-requires c κs = search needs
 
-by-number-requires : tie.Need-by-number-requires
-by-number-requires c κs = search needs
+without-pig-house-requires : tie.Need-without-pig-house-requires
+without-pig-house-requires c κs = search needs
 
 returns : tie.Need-returns
 returns c =
@@ -46,7 +46,7 @@ returns c =
     is-roughage-from _ (i .before .tan-excretion .ensures) (i .roughage-into-grazing .ensures)
     (s .roughage-rates .ensures)
     (g .gases-of .ensures) (h .nh3-in-housing .ensures) (f .factors-of .ensures) (y .no-parts .ensures)
-    (o .undivided .ensures) (c .by-number .ensures)
+    (o .undivided .ensures) (c .without-pig-house .ensures)
 
 pub roughage-from-spec : {M : Type 1} → statement M
 roughage-from-spec =
@@ -61,5 +61,5 @@ roughage-from-spec =
     factors-of-requires
     no-parts-requires
     undivided-requires
-    by-number-requires
+    without-pig-house-requires
     returns)

@@ -1,0 +1,112 @@
+-- Four pig houses worked out by hand from 2.51 to 2.62, with the decimals of the page: into each go 1,069,425 g N with
+-- 748,597 g TAN. Amounts are chosen so that another order of the products, or a cut left out, gives another gram.
+-- Assumes nothing.
+use mathlib.Core.Path.{_≡_, refl}
+use Prim.Native.Nat.{ℕ}
+use lib.IntN.{ℤ, pos}
+use Rattle.amounts.specs.Arithmetic.{cutting}
+use Rattle.kinds.specs.declared.HousingType.{HousingType}
+use Rattle.kinds.specs.declared.HousingType.the-variants as housed
+use Rattle.kinds.specs.declared.AirScrubber.{AirScrubber}
+use Rattle.kinds.specs.declared.AirScrubber.the-variants as scrubber
+use Rattle.kinds.specs.declared.HousingFloor.the-variants as floor
+use Rattle.kinds.specs.declared.HousingAir.{HousingAir}
+use Rattle.kinds.specs.declared.HousingAir.the-variants as air
+use Rattle.kinds.specs.declared.Pigs.{Pigs}
+use Rattle.housing.specs.Housing.{HousingIn}
+use Rattle.pig_house.specs.PigHouse.{PigHouseIn, pigHousing, pigHouse}
+use Rattle.pig_house.specs.NxOx.{NxOxIn, nxOx}
+
+-- the grams
+abbrev n : ℕ
+n = 1_069_425
+
+abbrev tan : ℕ
+tan = 748_597
+
+abbrev herd : HousingType → AirScrubber → HousingAir → ℤ → Pigs
+herd t s a free =
+    record {
+      animals = 97;
+      «inp_n_excretion» = 11_025;
+      «tan_fraction» = 7000;
+      «housing_type» = t;
+      «air_scrubber» = s;
+      «mitigation_housing_floor» = floor.None;
+      «mitigation_housing_air» = a;
+      «free_correction_factor» = free;
+    }
+
+-- a house by its figures: nh3_nhousing, and what leaves it, N and TAN
+abbrev through : ℕ → ℕ → ℕ → HousingIn cutting
+through nh3 nOut tanOut =
+    record {
+      «n_into_housing» = n;
+      «tan_into_housing» = tan;
+      «nh3_nhousing» = nh3;
+      «n_outhousing» = nOut;
+      «tan_outhousing» = tanOut;
+    }
+
+-- tan_air_scrubber, and the liquid and the solid fraction, N and TAN
+abbrev fractions : ℕ → ℕ → ℕ → ℕ → ℕ → PigHouseIn cutting
+fractions scrubbed nLiquid tanLiquid nSolid tanSolid =
+    record {
+      «tan_air_scrubber» = scrubbed;
+      «n_outhousing_liquid» = nLiquid;
+      «tan_outhousing_liquid» = tanLiquid;
+      «n_outhousing_solid» = nSolid;
+      «tan_outhousing_solid» = tanSolid;
+    }
+
+-- N2, NO and N2O of the solid fraction, and of the liquid one
+abbrev gases : ℕ → ℕ → ℕ → ℕ → ℕ → ℕ → NxOxIn cutting
+gases n2s nos n2os n2l nol n2ol =
+    record {
+      «n2_nsolid» = n2s;
+      «no_nsolid» = nos;
+      «n2o_nsolid» = n2os;
+      «n2_nliquid» = n2l;
+      «no_nliquid» = nol;
+      «n2o_nliquid» = n2ol;
+    }
+
+-- the three parts of a worked house
+pub record Worked (p : Pigs) (house : HousingIn cutting) (q : PigHouseIn cutting) (x : NxOxIn cutting) : Type 0 where
+  pub housing : pigHousing cutting p tan n tan ≡ house
+  pub pig-house : pigHouse cutting p tan n tan ≡ q
+  pub nxox : nxOx cutting (p .«housing_type») n ≡ x
+
+-- ef_nh3_nhousing is 0.243 × 0.1, 0.024 3; the acid keeps nothing
+pub worked-conventional :
+    Worked (herd housed.SlurryConventional scrubber.Acid air.None (pos 0))
+    (through 18_190 1_051_235 730_407)
+    (fractions 0 1_051_235 730_407 0 0)
+    (gases 0 0 0 21_388 2_138 2_138)
+worked-conventional = record { housing = refl; pig-house = refl; nxox = refl }
+
+-- before the scrubber 0.486 × 0.93 × 0.8, 0.361 584; ef_nh3_nhousing is 0.5 × 0.3 × that + 0.5 × 0.486 × 0.93,
+-- 0.280 227 6; the filter keeps 0.35 of the TAN, 262,008 g, times 0.361 584
+pub worked-label :
+    Worked (herd housed.SlurryLabel scrubber.Biotrickling air.LowImpulsAirSupply (pos 7))
+    (through 209_777 764_911 444_083)
+    (fractions 94_737 764_911 444_083 0 0)
+    (gases 0 0 0 21_388 2_138 2_138)
+worked-label = record { housing = refl; pig-house = refl; nxox = refl }
+
+-- before the scrubber 0.34 × 0.88, 0.299 2; ef_nh3_nhousing is 0.5 × 0.3 × that + 0.5 × that, 0.194 48; the filter
+-- keeps 262,008 g times 0.299 2
+pub worked-label-open :
+    Worked (herd housed.SlurryLabelOpen scrubber.Biotrickling air.None (pos 12))
+    (through 145_587 845_446 524_618)
+    (fractions 78_392 845_446 524_618 0 0)
+    (gases 0 0 0 21_388 2_138 2_138)
+worked-label-open = record { housing = refl; pig-house = refl; nxox = refl }
+
+-- ef_nh3_nhousing is 0.486 × 0.65 × 0.8, 0.252 72; all leaves the house as solid manure
+pub worked-deep-litter :
+    Worked (herd housed.DeepLitter scrubber.None air.LowImpulsAirSupply (pos 35))
+    (through 189_185 880_240 559_412)
+    (fractions 0 0 0 880_240 559_412)
+    (gases 53_471 10_694 10_694 0 0 0)
+worked-deep-litter = record { housing = refl; pig-house = refl; nxox = refl }

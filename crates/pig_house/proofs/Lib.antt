@@ -1,0 +1,5 @@
+pub mod ByHand
+pub mod Factor
+pub mod Fractions
+pub mod Through
+pub mod Truths

@@ -1,0 +1,4 @@
+pub mod Parameters
+pub mod PigHouse
+pub mod NxOx
+pub mod Bounds

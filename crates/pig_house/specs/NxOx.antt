@@ -1,0 +1,114 @@
+-- 2.62 (02, W1): N2, NO and N2O from the solid and the liquid fraction of a pig house, each its rate of the N that goes
+-- into the house, once. To be believed.
+use Prim.Native.Nat.{ℕ, _-_}
+use Rattle.amounts.specs.Units.{tenThousandths}
+use Rattle.amounts.specs.Arithmetic.{Arithmetic, cutting}
+use Rattle.amounts.specs.Dividing.{dividing, handed}
+use Rattle.amounts.specs.Portion.{portion}
+use Rattle.kinds.specs.declared.HousingType.{HousingType}
+use Rattle.kinds.specs.declared.HousingType.the-variants as housed
+use Rattle.pig_house.specs.declared.NxOxRates.{NxOxRates}
+use Rattle.pig_house.specs.declared.NxOx.{NxOx}
+use Rattle.pig_house.specs.Parameters.{«share_liquid»}
+use Rattle.pig_house.specs.PigHouse.{allOrNothing}
+
+-- ---- Technical Parameters, in ten-thousandths
+
+-- of N2, NO and N2O, from the solid fraction and from the liquid one
+abbrev pub nxoxRates : ℕ → ℕ → ℕ → ℕ → ℕ → ℕ → NxOxRates
+nxoxRates n2s nos n2os n2l nol n2ol =
+    record {
+      «er_n2_nsolid» = n2s;
+      «er_no_nsolid» = nos;
+      «er_n2o_nsolid» = n2os;
+      «er_n2_nliquid» = n2l;
+      «er_no_nliquid» = nol;
+      «er_n2o_nliquid» = n2ol;
+    }
+
+-- er_…_solid_Slurry and er_…_liquid_Slurry
+abbrev pub slurryRates : NxOxRates
+slurryRates = nxoxRates 200 20 20 200 20 20
+
+-- er_…_solid_Solid and er_…_liquid_Solid
+abbrev pub solidRates : NxOxRates
+solidRates = nxoxRates 500 100 100 500 100 100
+
+abbrev pub ratesOf : HousingType → NxOxRates
+ratesOf housed.SlurryConventional = slurryRates
+ratesOf housed.SlurryLabel = slurryRates
+ratesOf housed.SlurryLabelOpen = slurryRates
+ratesOf housed.DeepLitter = solidRates
+ratesOf housed.Outdoor = nxoxRates 0 0 0 0 0 0
+
+-- ---- the gases
+
+pub record NxOxIn (A : Arithmetic) : Type 0 where
+  pub «n2_nsolid» : A .Amount
+  pub «no_nsolid» : A .Amount
+  pub «n2o_nsolid» : A .Amount
+  pub «n2_nliquid» : A .Amount
+  pub «no_nliquid» : A .Amount
+  pub «n2o_nliquid» : A .Amount
+
+module _ (A : Arithmetic) where
+  open Arithmetic A using (Amount, whole)
+
+  -- of the solid and of the liquid fraction of the N that goes into the house, each its rate
+  abbrev pub nSolid : HousingType → Amount → Amount
+  nSolid t n = allOrNothing A (1 - «share_liquid» t) n
+
+  abbrev pub nLiquid : HousingType → Amount → Amount
+  nLiquid t n = allOrNothing A («share_liquid» t) n
+
+  abbrev pub emitted : Amount → ℕ → Amount
+  emitted n rate = portion A n rate tenThousandths
+
+  abbrev pub nxOx : HousingType → Amount → NxOxIn A
+  nxOx t n =
+      record {
+        «n2_nsolid» = emitted (nSolid t n) (ratesOf t .«er_n2_nsolid»);
+        «no_nsolid» = emitted (nSolid t n) (ratesOf t .«er_no_nsolid»);
+        «n2o_nsolid» = emitted (nSolid t n) (ratesOf t .«er_n2o_nsolid»);
+        «n2_nliquid» = emitted (nLiquid t n) (ratesOf t .«er_n2_nliquid»);
+        «no_nliquid» = emitted (nLiquid t n) (ratesOf t .«er_no_nliquid»);
+        «n2o_nliquid» = emitted (nLiquid t n) (ratesOf t .«er_n2o_nliquid»);
+      }
+
+  -- a kind without such a house
+  abbrev pub noNxOx : NxOxIn A
+  noNxOx =
+      record {
+        «n2_nsolid» = whole 0;
+        «no_nsolid» = whole 0;
+        «n2o_nsolid» = whole 0;
+        «n2_nliquid» = whole 0;
+        «no_nliquid» = whole 0;
+        «n2o_nliquid» = whole 0;
+      }
+
+-- ---- the code's struct
+
+-- each gas as it is handed on, with what was cut off
+abbrev pub handedNxOx : NxOxIn dividing → NxOx
+handedNxOx x =
+    record {
+      «n2_nsolid» = handed (x .«n2_nsolid»);
+      «no_nsolid» = handed (x .«no_nsolid»);
+      «n2o_nsolid» = handed (x .«n2o_nsolid»);
+      «n2_nliquid» = handed (x .«n2_nliquid»);
+      «no_nliquid» = handed (x .«no_nliquid»);
+      «n2o_nliquid» = handed (x .«n2o_nliquid»);
+    }
+
+-- on whole grams
+abbrev pub ofNxOx : NxOx → NxOxIn cutting
+ofNxOx x =
+    record {
+      «n2_nsolid» = x .«n2_nsolid» .whole;
+      «no_nsolid» = x .«no_nsolid» .whole;
+      «n2o_nsolid» = x .«n2o_nsolid» .whole;
+      «n2_nliquid» = x .«n2_nliquid» .whole;
+      «no_nliquid» = x .«no_nliquid» .whole;
+      «n2o_nliquid» = x .«n2o_nliquid» .whole;
+    }

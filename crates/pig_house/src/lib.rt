@@ -1,0 +1,67 @@
+// 2.51 to 2.60 and 2.62 (02, W1): the housing of fattening pigs, its ammonia, what an air scrubber keeps back, and what
+// leaves the house as slurry and as solid manure. Factors are in billionths.
+pub mod parameters; // what the names of a pig house stand for
+pub mod factors; // the emission factor, and what it is made of
+pub mod scrubber; // what an air scrubber keeps back
+pub mod house; // what goes into the house, is emitted there, and leaves it
+pub mod gases; // N2, NO and N2O from both fractions
+
+use cut::Quotient;
+use housing::Housing;
+
+// What the emission factor is made of, and what an air scrubber keeps back: each quotient on the way.
+pub struct PigFactors {
+    pub before_times_c_free_factor_housing: Quotient,
+    pub before_times_red_housing_air: Quotient,
+    pub ef_housing_indoor: Quotient,
+    pub grazing_times_c_free_factor_housing: Quotient,
+    pub times_ef_housing_indoor: Quotient,
+    pub times_ef_housing_grazing: Quotient,
+}
+
+pub struct Scrubbed {
+    pub times_tan_excretion: Quotient,
+    pub times_ef_housing_indoor_before_air_scrubber: Quotient,
+}
+
+// What a pig house has beside what every house has.
+pub struct PigHouse {
+    pub tan_air_scrubber: u64,
+    pub n_outhousing_liquid: u64,
+    pub tan_outhousing_liquid: u64,
+    pub n_outhousing_solid: u64,
+    pub tan_outhousing_solid: u64,
+}
+
+// A pig house as a house, and what it has beside.
+pub struct InPigHouse {
+    pub housing: Housing,
+    pub pig_house: PigHouse,
+}
+
+// 2.62, Technical Parameters, in ten-thousandths.
+pub struct NxOxRates {
+    pub er_n2_nsolid: u64,
+    pub er_no_nsolid: u64,
+    pub er_n2o_nsolid: u64,
+    pub er_n2_nliquid: u64,
+    pub er_no_nliquid: u64,
+    pub er_n2o_nliquid: u64,
+}
+
+// The gases from one fraction.
+pub struct FromFraction {
+    pub n2: Quotient,
+    pub no: Quotient,
+    pub n2o: Quotient,
+}
+
+// 2.62.
+pub struct NxOx {
+    pub n2_nsolid: Quotient,
+    pub no_nsolid: Quotient,
+    pub n2o_nsolid: Quotient,
+    pub n2_nliquid: Quotient,
+    pub no_nliquid: Quotient,
+    pub n2o_nliquid: Quotient,
+}

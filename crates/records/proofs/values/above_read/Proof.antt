@@ -1,0 +1,38 @@
+-- `records::values::above_read` meets its contract: what the number's reading answers, said as a value. Assumes nothing.
+use borrow.Author.Needs.{needs}
+use Rattle.records.proofs.ValueSteps.{signed-steps}
+use Rattle.records.proofs.values.above_read.Statement.{statement}
+use Rattle.records.proofs.values.above_read.Tie as tie
+
+read-number-requires : tie.Need-read-number-requires
+read-number-requires c κs = search needs
+
+enum-known-v : tie.Need-enum-known-v
+enum-known-v c = search needs
+
+enum-told : tie.Need-enum-told
+enum-told c = search needs
+
+returns : tie.Need-returns
+returns c = search (needs, signed-steps)
+
+cast-less : tie.Need-cast-less
+cast-less c = search needs
+
+less-requires : tie.Need-less-requires
+less-requires c κs = search needs
+
+returns-2 : tie.Need-returns-2
+returns-2 c = search (needs, signed-steps)
+
+pub above-read-spec : {M : Type 1} → statement M
+above-read-spec =
+    tie.close
+    (tie.spec
+    read-number-requires
+    enum-known-v
+    enum-told
+    returns
+    cast-less
+    less-requires
+    returns-2)

@@ -1,0 +1,42 @@
+-- `records::values::below_read` meets its contract: what the number's reading answers, less than 0, said as a value. Assumes nothing.
+use borrow.Author.Needs.{needs}
+use Rattle.records.proofs.ValueSteps.{signed-steps}
+use Rattle.records.proofs.values.below_read.Statement.{statement}
+use Rattle.records.proofs.values.below_read.Tie as tie
+
+read-number-requires : tie.Need-read-number-requires
+read-number-requires c κs = search needs
+
+enum-known-v : tie.Need-enum-known-v
+enum-known-v c = search needs
+
+enum-told : tie.Need-enum-told
+enum-told c = search needs
+
+returns : tie.Need-returns
+returns c = search (needs, signed-steps)
+
+returns-2 : tie.Need-returns-2
+returns-2 c = search (needs, signed-steps)
+
+cast-less : tie.Need-cast-less
+cast-less c = search needs
+
+less-requires : tie.Need-less-requires
+less-requires c κs = search needs
+
+returns-3 : tie.Need-returns-3
+returns-3 c = search (needs, signed-steps)
+
+pub below-read-spec : {M : Type 1} → statement M
+below-read-spec =
+    tie.close
+    (tie.spec
+    read-number-requires
+    enum-known-v
+    enum-told
+    returns
+    returns-2
+    cast-less
+    less-requires
+    returns-3)
