@@ -753,7 +753,7 @@ static __attribute__((noinline)) uint8_t *list_totals(uint8_t *out, const struct
     return out;
 }
 
-// ---- the notes and the cuts, which the vectors have and the benchmark does not time
+// ---- the notes, the cuts and the reasons, which the vectors have and the benchmark does not time
 
 static uint8_t *put_notes(uint8_t *out, const struct herd *herd) {
     static const char *const words[] = {"no", "yes"};
@@ -906,6 +906,49 @@ static void answer(const uint8_t *file, size_t length) {
     write_all(output, (size_t)(end - output));
 }
 
+// Why the yard has its share on days with both: the first reason that holds, the days, and the shares in tenths.
+enum reason { NO_SUCH_DAYS, NOT_AVAILABLE, AS_CHOSEN, LOWERED };
+
+struct why {
+    enum reason reason;
+    unsigned days, chosen, share;
+};
+
+static struct why why_of(const struct herd *herd) {
+    const uint32_t *v = herd->values;
+    unsigned sum = v[C_DAYS] + v[C_YARD_DAYS], chosen = yard_tenths[v[C_YARD]];
+    struct why w = {LOWERED, sum > 365 ? sum - 365 : 0, chosen, 2};
+    if (w.days == 0) w.reason = NO_SUCH_DAYS;
+    else if (v[C_YARD] == 0) w.reason = NOT_AVAILABLE;
+    else if (chosen <= 2) w.reason = AS_CHOSEN;
+    if (w.reason != LOWERED) w.share = w.reason == NOT_AVAILABLE ? 0 : chosen;
+    return w;
+}
+
+static uint8_t *put_why(uint8_t *out, const struct herd *herd) {
+    static const char *const words[] = {"no_such_days", "not_available", "as_chosen", "lowered"};
+    if (herd->kind != CATTLE) return out;
+    uint8_t label[LABEL_ROOM];
+    size_t length = printed_label(herd, label);
+    struct why w = why_of(herd);
+    return out + sprintf((char *)out, "%.*s,%s,%u,%u.%u\r\n", (int)length, (const char *)label, words[w.reason], w.days,
+                         w.share / 10, w.share % 10);
+}
+
+static uint8_t *put_why_in_words(uint8_t *out, const struct herd *herd) {
+    static const char *const goes_on[] = {"since there is no such day and the chosen share stays",
+                                          "since no yard is available and the chosen share is", "the same as the chosen share of",
+                                          "lowered from the chosen share of"};
+    if (herd->kind != CATTLE) return out;
+    uint8_t label[LABEL_ROOM];
+    size_t length = printed_label(herd, label);
+    struct why w = why_of(herd);
+    return out + sprintf((char *)out,
+                         "%.*s: with both yard and pasture on %u of 365 days, the yard's share on such days is %u.%u, %s %u.%u.\r\n",
+                         (int)length, (const char *)label, w.days, w.share / 10, w.share % 10, goes_on[w.reason], w.chosen / 10,
+                         w.chosen % 10);
+}
+
 // What a command prints that lists each herd and no totals.
 static void answer_with(uint8_t *put(uint8_t *, const struct herd *), const uint8_t *file, size_t length) {
     struct refusal r = read_farm(file, length, &farm);
@@ -924,6 +967,8 @@ static int run_cases(void) {
         answer(file, length);
         answer_with(put_notes, file, length);
         answer_with(put_cuts, file, length);
+        answer_with(put_why, file, length);
+        answer_with(put_why_in_words, file, length);
     }
     return 0;
 }

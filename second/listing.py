@@ -1,9 +1,10 @@
-"""Writing the figures, the notes and the cuts down, in the order of the rules."""
+"""Writing the figures, the notes, the cuts and the reasons down, in the order of the rules."""
 
 from farmfile import COMMA, QUOTE, RECORD_END
 from inputs import CATTLE, PIGS, ROUGHAGE, module_path
 from totals import TOTALS
 from values import GRAMS_A_KILOGRAM
+from why import fields, sentence
 
 EXCRETION = ("Excretion", ("n_excretion", "tan_excretion"))
 YARD = (
@@ -74,10 +75,20 @@ def herd_cuts(herd, cuts):
     )
 
 
+def herd_why(herd, told):
+    return "" if told is None else line(herd.label, *fields(told))
+
+
+def herd_why_in_words(herd, told):
+    return "" if told is None else label_field(herd.label) + sentence(told) + RECORD_END
+
+
+def label_field(label):
+    return QUOTE + label + QUOTE if COMMA in label else label
+
+
 def line(label, *fields):
-    if COMMA in label:
-        label = QUOTE + label + QUOTE
-    return COMMA.join((label, *fields)) + RECORD_END
+    return COMMA.join((label_field(label), *fields)) + RECORD_END
 
 
 def kilograms(grams):

@@ -26,8 +26,9 @@ from model import (
 )
 from reading import MOST_BYTES, MOST_HERDS, Refused, read_farm
 from totals import totals
-from urvendlo import CUTS_OFF, NOTES, answer
-from values import DAYS_A_YEAR
+from urvendlo import CUTS_OFF, NOTES, WHY, WHY_WORDS, answer
+from values import DAYS_A_YEAR, YARD_SHARES
+from why import REASONS, why
 
 # Names the text of source document 001, where that is at hand.
 DOCUMENT = "URVENDLO_001"
@@ -781,6 +782,56 @@ CUT_NAMES = {
         "n2o_nliquid",
     ],
 }
+
+
+class Reasons(unittest.TestCase):
+    """Request W2: the first of four reasons whose fact holds, and the share that follows."""
+
+    # Yard days, with 200 grazing days, and yard: reason, days with both, share chosen and given.
+    EDGES = {
+        ("165", EXCLUSIVELY): ("no_such_days", 0, "0.6", "0.6"),
+        ("166", EXCLUSIVELY): ("lowered", 1, "0.6", "0.2"),
+        ("165", "not_available"): ("no_such_days", 0, "0", "0"),
+        ("166", "not_available"): ("not_available", 1, "0", "0"),
+        ("166", NOT_SUPPLIED): ("as_chosen", 1, "0.1", "0.1"),
+        ("166", PARTLY): ("as_chosen", 1, "0.2", "0.2"),
+        ("365", EXCLUSIVELY): ("lowered", 200, "0.6", "0.2"),
+    }
+
+    def test_edges(self):
+        for (days, yard), (word, both, chosen, share) in self.EDGES.items():
+            told = why(herd(CATTLE, C, yard_days=days, exercise_yard=yard))
+            self.assertEqual((told.reason.word, told.days), (word, both))
+            self.assertEqual((told.chosen, told.share), (Fraction(chosen), Fraction(share)))
+
+    def test_share_is_that_of_the_figures(self):
+        """The share of the year on the yard, worked out once more from what is told."""
+        edges = range(0, DAYS_A_YEAR + 1, 73)
+        for grazing, yard_days, yard in itertools.product(edges, edges, YARD_SHARES):
+            changes = {"grazing_days": str(grazing), "yard_days": str(yard_days), "exercise_yard": yard}
+            read = herd(CATTLE, C, **changes)
+            told = why(read)
+            days = told.chosen * (yard_days - told.days) + told.share * told.days
+            self.assertEqual(share_into_yard(read.given), days / DAYS_A_YEAR)
+            self.assertEqual(told.reason.word == "lowered", notes(read).share_lowered)
+            holding = [reason for reason in REASONS if reason.holds(read.given)]
+            self.assertIs(told.reason, holding[0])
+
+    def test_other_kinds(self):
+        self.assertIsNone(why(herd(ROUGHAGE, DEER)))
+        self.assertIsNone(why(herd(PIGS, OUTDOOR_PIGS)))
+
+    def test_printed(self):
+        lines = lines_of(CATTLE, {**C, "exercise_yard": EXCLUSIVELY}, label="A,B")
+        file = file_of(lines + lines_of(PIGS, OUTDOOR_PIGS, label="P"))
+        self.assertEqual(answer(file, WHY), b'"A,B",lowered,200,0.2\r\n')
+        self.assertEqual(
+            answer(file, WHY_WORDS),
+            b'"A,B": with both yard and pasture on 200 of 365 days, the yard\'s share on such days is 0.2,'
+            b" lowered from the chosen share of 0.6.\r\n",
+        )
+        self.assertEqual(answer(b"", WHY), b"")
+        self.assertEqual(answer(b"a", WHY), b"refused,3,1\r\n")
 
 
 class CutOff(unittest.TestCase):

@@ -47,7 +47,7 @@ empty-answers old = rw (le-leb 0 (length old) (omega arith))
 
 module _ (s : List ℕ) (a : FileAnswer) (q : a ≡ readOf s) where
   module _ (e : a .checked ≡ checks.Accepted) where
-    as-accepted : readOf s ≡ accepted (a .farm)
+    pub as-accepted : readOf s ≡ accepted (a .farm)
     as-accepted = sym q ∙ as-is (a .checked) e
       where
         as-is : (k : Checked) → k ≡ checks.Accepted → record { checked = k; farm = a .farm } ≡ accepted (a .farm)
@@ -68,6 +68,10 @@ module _ (s : List ℕ) (a : FileAnswer) (q : a ≡ readOf s) where
     pub place-fits : (i : ℕ) → i < a .farm .count → Fits w64 (i * 176)
     place-fits i h = omega (arith, farm-count (a .farm) passes)
 
+    pub herd-at : (i : ℕ) (d : Herd) → i < a .farm .count
+        → getD (a .farm .herds) i d ≡ getD (a .farm .herds) i noHerd
+    herd-at i d h = inside (a .farm .herds) i d noHerd (omega (arith, long, farm-count (a .farm) passes))
+
     herd-passes : (i : ℕ) (d : Herd) → i < a .farm .count → checkHerd (getD (a .farm .herds) i d) ≡ checks.Accepted
     herd-passes i d h =
         let l : i < length (herdsOf (a .farm)) = omega (arith, length-take (a .farm .count) (a .farm .herds), long, farm-count (a .farm) passes) in
@@ -78,7 +82,7 @@ module _ (s : List ℕ) (a : FileAnswer) (q : a ≡ readOf s) where
         → Called (recordCall of (getD (a .farm .herds) i d)) old new r → Called (fileCallOf of s i) old new r
     of-file-herd of i d old new r h w =
         let p = herd-passes i d h in
-        let same = inside (a .farm .herds) i d noHerd (omega (arith, long, farm-count (a .farm) passes)) in
+        let same = herd-at i d h in
         record {
           buffer = rw (as-accepted, lt-ltb i (a .farm .count) h, ← same) (rw p at (w .buffer));
           answer = rw (as-accepted, lt-ltb i (a .farm .count) h, ← same) (rw p at (w .answer));
@@ -115,7 +119,7 @@ module _ (s : List ℕ) (a : FileAnswer) (q : a ≡ readOf s) where
     is-file-totals old new r w = record { buffer = rw as-accepted (rw passes at (w .buffer)); answer = rw as-accepted (rw passes at (w .answer)) }
 
   module _ (fault : Fault) (at-record : ℕ) (e : a .checked ≡ checks.Refused fault at-record) (old : List ℕ) where
-    refusing : readOf s .checked ≡ checks.Refused fault at-record
+    pub refusing : readOf s .checked ≡ checks.Refused fault at-record
     refusing = rw q at e
 
     pub is-herd-unread : (i : ℕ) → Called (fileHerdCall s i) old old (Refused fault at-record)

@@ -27,21 +27,24 @@ use Rattle.listing.specs.Listing.{each, totalsListing}
 use Rattle.listing.specs.Answer.{leaves, answers}
 use Rattle.cut_lines.specs.Lines.{herdCutLines, farmCuts}
 use Rattle.noting.specs.Records.{herdNotes, farmNotes}
+use Rattle.why_lines.specs.declared.Wording.{Wording}
+use Rattle.why_lines.specs.Lines.{herdWhy, farmWhy}
 use Rattle.whole.specs.declared.Answer.{Answer}
 use Rattle.whole.specs.Lines.{farmListing, refusalLine}
 use Rattle.whole.specs.Program.{outputOf}
 use Rattle.calls.proofs.RecordSteps.{farm-figured}
 use Rattle.calls.specs.Listings.{Call, Called, ofHerdAt, fileHerdCall, fileHerdCutsCall, fileTotalsCall, fileCall, Put, PutAnswer}
 use Rattle.calls.specs.Files.{FileCall, of-herd, of-totals, of-all, of-cuts, callOf, At, here, there, herdText, totalsText, wholeText}
-use Rattle.calls.specs.Files.{Lists, the-herd, past-the-last, the-totals, the-whole, the-cuts, no-cuts, ByTheRules, Prints, the-refusal, the-listings, the-notes, all-cuts}
+use Rattle.calls.specs.Files.{Lists, the-herd, past-the-last, the-totals, the-whole, the-cuts, no-cuts, ByTheRules}
+use Rattle.calls.specs.Files.{Prints, the-refusal, the-listings, the-notes, all-cuts, the-reasons}
 
 -- ---- the herd at a place
 
-at-inside : {hs : List Herd} {i : ℕ} {h : Herd} → At hs i h → i < length hs
+pub at-inside : {hs : List Herd} {i : ℕ} {h : Herd} → At hs i h → i < length hs
 at-inside here = omega arith
 at-inside (there a) = omega (arith, at-inside a)
 
-at-is : {hs : List Herd} {i : ℕ} {h : Herd} → At hs i h → (rest : List Herd) (d : Herd) → getD (hs ++ rest) i d ≡ h
+pub at-is : {hs : List Herd} {i : ℕ} {h : Herd} → At hs i h → (rest : List Herd) (d : Herd) → getD (hs ++ rest) i d ≡ h
 at-is here rest d = refl
 at-is (there a) rest d = at-is a rest d
 
@@ -54,10 +57,10 @@ module _ {s : List ℕ} {f : Farm} (k : KeepsRules s f) where
   abbrev hs : List Herd
   hs = k .says .herds
 
-  abbrev places : List Herd
+  abbrev pub places : List Herd
   places = replicate (herdsMost - length hs) noHerd
 
-  read-as : readOf s ≡ accepted (farmOf hs)
+  pub read-as : readOf s ≡ accepted (farmOf hs)
   read-as = accepts-exactly s f .1 k ∙ ap accepted (k .says .is)
 
   -- `of` says what is listed of a herd
@@ -91,6 +94,10 @@ module _ {s : List ℕ} {f : Farm} (k : KeepsRules s f) where
   unfolding farmCuts
   cuts-are = rw (herds-of hs)
 
+  reasons-are : (v : Wording) → farmWhy v (farmOf hs) ≡ each (herdWhy v) hs
+  unfolding farmWhy
+  reasons-are v = rw (herds-of hs)
+
   printed-list : (list : Farm → List ℕ) → outputOf list s ≡ list (farmOf hs)
   unfolding outputOf
   printed-list list = rw read-as
@@ -98,7 +105,7 @@ module _ {s : List ℕ} {f : Farm} (k : KeepsRules s f) where
 -- ---- a file that is refused
 
 module _ {s : List ℕ} {n : ℕ} {fault : Fault} (r : First s n fault) where
-  read-not : readOf s ≡ refused n fault
+  pub read-not : readOf s ≡ refused n fault
   read-not = first-refusal s n fault .1 r
 
   refusing : (c : FileCall) → callOf c s .checked ≡ checks.Refused fault n
@@ -143,3 +150,5 @@ file-printed (the-notes k) w =
     (rw (printed-list k farmNotes, notes-are k) at (w .printed), w .checked ∙ ap told (read-as k))
 file-printed (all-cuts k) w =
     (rw (printed-list k farmCuts, cuts-are k) at (w .printed), w .checked ∙ ap told (read-as k))
+file-printed (the-reasons v k) w =
+    (rw (printed-list k (farmWhy v), reasons-are k v) at (w .printed), w .checked ∙ ap told (read-as k))

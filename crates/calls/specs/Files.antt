@@ -23,6 +23,8 @@ use Rattle.listing.specs.Listing.{each, herdListing, totalsListing}
 use Rattle.cut_lines.specs.Lines.{herdCutLines, farmCuts}
 use Rattle.noting.specs.Records.{herdNotes, farmNotes}
 use Rattle.whole.specs.Lines.{farmListing, refusalLine}
+use Rattle.why_lines.specs.declared.Wording.{Wording}
+use Rattle.why_lines.specs.Lines.{herdWhy, farmWhy}
 use Rattle.calls.specs.Listings.{Call, fileHerdCall, fileHerdCutsCall, fileTotalsCall, fileCall}
 
 -- the calls, each with its contract
@@ -78,10 +80,13 @@ pub record ByTheRules (s : List ℕ) (c : FileCall) (old new : List ℕ) (r : Wr
   pub too-short : {f : Farm} {l : List ℕ} (k : KeepsRules s f) → Lists (k .says .herds) c l → length old < length l
       → (new ≡ old) × (r ≡ Refused BufferTooShort 0)
 
--- what a command that lists the farm's figures, its notes or its cuts prints for a file, and how reading ended
+-- what a command that lists the farm's figures, its notes, its cuts or its reasons prints for a file, and how reading
+-- ended
 pub data Prints (s : List ℕ) : (Farm → List ℕ) → List ℕ → Checked → Type 0 where
   the-refusal : {list : Farm → List ℕ} {n : ℕ} {fault : Fault} → First s n fault
       → Prints s list (refusalLine fault n) (checks.Refused fault n)
   the-listings : {f : Farm} (k : KeepsRules s f) → Prints s farmListing (wholeText (k .says .herds)) checks.Accepted
   the-notes : {f : Farm} (k : KeepsRules s f) → Prints s farmNotes (each herdNotes (k .says .herds)) checks.Accepted
   all-cuts : {f : Farm} (k : KeepsRules s f) → Prints s farmCuts (each herdCutLines (k .says .herds)) checks.Accepted
+  the-reasons : {f : Farm} (v : Wording) (k : KeepsRules s f)
+      → Prints s (farmWhy v) (each (herdWhy v) (k .says .herds)) checks.Accepted

@@ -10,14 +10,19 @@ use model::HerdAnswer;
 use model::answers;
 use reader::FileAnswer;
 use reader::files;
+use reasons::ReasonAnswer;
 use whole::Answer;
+use why_lines::Wording;
 ghost use mathlib.Core.Path.{_≡_};
 ghost use Rattle.model.specs.Answers.{herdAnswer, farmAnswer};
 ghost use Rattle.reader.specs.Files.{readOf};
 ghost use Rattle.base.specs.Part.{part};
 ghost use Rattle.cut_lines.specs.Lines.{farmCuts};
 ghost use Rattle.noting.specs.Records.{farmNotes};
+ghost use Rattle.reasons.specs.Answers.{reasonAnswer};
 ghost use Rattle.whole.specs.Lines.{farmListing};
+ghost use Rattle.why_lines.specs.Lines.{farmWhy};
+ghost use Rattle.calls.specs.Reasons.{fileReason};
 ghost use Rattle.calls.specs.Listings.{Called, herdCall, herdCutsCall, totalsCall, fileHerdCall, fileHerdCutsCall, fileTotalsCall, fileCall, Put, PutAnswer};
 
 // The farm that a file says, or the refusal and a farm of no herds.
@@ -39,6 +44,32 @@ pub fn farm_totals(f: Farm) -> FarmAnswer
     ensures { λ r. ⌜ r ≡ farmAnswer f ⌝ }
 {
     answers::farm_answer(f)
+}
+
+// Why a herd's yard has its share on days with both, from its record; or the refusal.
+pub fn herd_reason(h: Herd) -> ReasonAnswer
+    ensures { λ r. ⌜ r ≡ reasonAnswer h ⌝ }
+{
+    reasons::answers::herd_reason(h)
+}
+
+// The same of a herd of a file by its number, counted from 0; past the last there is no herd.
+pub fn file_herd_reason(s: &[u8], number: usize) -> ReasonAnswer
+    ensures { λ r. ⌜ r ≡ fileReason (now (s .entry)) number ⌝ }
+{
+    let answer = files::read(s);
+    let checked = answer.checked;
+    match checked {
+        Checked::Accepted => {
+            let farm = answer.farm;
+            if number < farm.count {
+                let h = farm.herds[number];
+                return herd_reason(h);
+            }
+            ReasonAnswer::NoHerd
+        }
+        Checked::Refused(fault, record) => ReasonAnswer::Refused(fault, record),
+    }
 }
 
 // A herd's listing, from its record.
@@ -205,6 +236,23 @@ pub fn put_cuts(s: &[u8], out: &mut [u8]) -> Answer
     }
     let mut scratch = [0u8; CUTS_ROOM];
     let answer = whole::files::put_cuts(s, &mut scratch);
+    let checked = answer.checked;
+    let length = put_if_room(out, &scratch, answer.length);
+    Answer { checked, length }
+}
+
+// Room for what the command `why` prints for any file.
+pub const WHY_ROOM: usize = whole::WHY_ROOM;
+
+// What the command `why` prints for a file, in records or in sentences; as `put_answer` otherwise.
+pub fn put_why(s: &[u8], out: &mut [u8], wording: Wording) -> Answer
+    ensures { λ r. ⌜ PutAnswer (farmWhy wording) (now (s .entry)) (now (out .entry)) (now (out .exit)) r ⌝ }
+{
+    if WHY_ROOM <= out.len() {
+        return whole::files::put_why(s, out, wording);
+    }
+    let mut scratch = [0u8; WHY_ROOM];
+    let answer = whole::files::put_why(s, &mut scratch, wording);
     let checked = answer.checked;
     let length = put_if_room(out, &scratch, answer.length);
     Answer { checked, length }

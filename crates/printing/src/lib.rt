@@ -9,6 +9,7 @@ use farm::Fault;
 use streams::Outcome;
 use whole::Answer;
 use whole::refusals;
+use why_lines::Wording;
 
 // What was printed: what the command lists of the farm, the refusal's line, or not all of either.
 pub enum Printed {
@@ -62,5 +63,12 @@ pub fn print_notes(s: &[u8]) -> Printed {
 pub fn print_cuts(s: &[u8]) -> Printed {
     let mut put = [0u8; calls::CUTS_ROOM];
     let answer = calls::put_cuts(s, &mut put);
+    print_answer(&put, answer)
+}
+
+// The reasons of a file, in records or in sentences.
+pub fn print_why(s: &[u8], wording: Wording) -> Printed {
+    let mut put = [0u8; calls::WHY_ROOM];
+    let answer = calls::put_why(s, &mut put, wording);
     print_answer(&put, answer)
 }

@@ -4,3 +4,4 @@ pub mod Demand3
 pub mod Examples
 pub mod Commands
 pub mod Cuts
+pub mod Reasons

@@ -1,6 +1,8 @@
-// The vectors of the second implementation, run through the library: of each file its figures, its notes and its cuts
-// are printed, as the commands print them. The expected output is what the second implementation gives.
+// The vectors of the second implementation, run through the library: of each file its figures, its notes, its cuts and
+// its reasons, in records and in sentences, are printed, as the commands print them. The expected output is what the
+// second implementation gives.
 use packs::Packed;
+use why_lines::Wording;
 
 // Longer than any file of the vectors.
 const CASE_MOST: usize = 66000;
@@ -13,6 +15,8 @@ fn run_one(file: &mut [u8]) -> bool {
             printing::print_figures(whole);
             printing::print_notes(whole);
             printing::print_cuts(whole);
+            printing::print_why(whole, Wording::Record);
+            printing::print_why(whole, Wording::Sentence);
             true
         }
         Packed::End => false,

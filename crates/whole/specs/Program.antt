@@ -1,7 +1,7 @@
 -- 01, The listing: "The program reads a farm file from standard input and prints each herd, then the totals, or
 -- `refused,NUMBER,RECORD` and CRLF." So goes every command: it prints what it lists of an accepted farm, or that line.
 -- To be believed: `programOutput` is what the program prints for a file's bytes, `notesOutput` what its command `notes`
--- does, `cutsOutput` what `cuts` does.
+-- does, `cutsOutput` what `cuts` does, `whyOutput` what `why` does, in records or in sentences.
 use Prim.Native.Nat.{ℕ, _≤_}
 use mathlib.Core.Path.{_≡_}
 use mathlib.Core.List.{List}
@@ -15,6 +15,8 @@ use Rattle.listing.specs.declared.Written.{Written}
 use Rattle.listing.specs.declared.Written.the-variants.{Length, Refused}
 use Rattle.cut_lines.specs.Lines.{farmCuts}
 use Rattle.noting.specs.Records.{farmNotes}
+use Rattle.why_lines.specs.declared.Wording.{Wording}
+use Rattle.why_lines.specs.Lines.{farmWhy}
 use Rattle.whole.specs.declared.Answer.{Answer}
 use Rattle.whole.specs.Lines.{farmListing, refusalLine}
 use Rattle.whole.specs.Rooms.{lineRoom}
@@ -38,6 +40,10 @@ cutsOutput s = outputOf farmCuts s
 -- each herd's notes
 abbrev pub notesOutput : List ℕ → List ℕ
 notesOutput s = outputOf farmNotes s
+
+-- each herd's reason (02, W2)
+abbrev pub whyOutput : Wording → List ℕ → List ℕ
+whyOutput wording s = outputOf (farmWhy wording) s
 
 -- ---- how the code says that a file is listed, in so much room at most, or refused; no reader has to believe it
 

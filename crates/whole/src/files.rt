@@ -5,12 +5,15 @@ use crate::refusals;
 use farm::Checked;
 use listing::Written;
 use reader::files;
+use why_lines::Wording;
 ghost use Prim.Native.Nat.{_≤_};
 ghost use lib.ListN.{length};
 ghost use Rattle.cut_lines.specs.Lines.{farmCuts};
 ghost use Rattle.cut_lines.specs.Rooms.{cutsRoom};
 ghost use Rattle.noting.specs.Records.{farmNotes};
 ghost use Rattle.noting.specs.Rooms.{notesRoom};
+ghost use Rattle.why_lines.specs.Lines.{farmWhy};
+ghost use Rattle.why_lines.specs.Rooms.{whyRoom};
 ghost use Rattle.whole.specs.Lines.{farmListing};
 ghost use Rattle.whole.specs.Rooms.{farmRoom, lineRoom};
 ghost use Rattle.whole.specs.Program.{PutFile, Completed, PutOutput};
@@ -50,6 +53,19 @@ fn put_file_cuts(s: &[u8], out: &mut [u8]) -> Written
     let checked = answer.checked;
     match checked {
         Checked::Accepted => Written::Length(cut_lines::put_farm(out, answer.farm)),
+        Checked::Refused(fault, record) => Written::Refused(fault, record),
+    }
+}
+
+// The farm's reasons; or the refusal, and nothing is written.
+fn put_file_why(s: &[u8], out: &mut [u8], wording: Wording) -> Written
+    requires { ⌜ whyRoom ≤ length (now out) ⌝ }
+    ensures { λ r. ⌜ PutFile (farmWhy wording) whyRoom (now (s .entry)) (now (out .entry)) (now (out .exit)) r ⌝ }
+{
+    let answer = files::read(s);
+    let checked = answer.checked;
+    match checked {
+        Checked::Accepted => Written::Length(why_lines::put_farm(out, answer.farm, wording)),
         Checked::Refused(fault, record) => Written::Refused(fault, record),
     }
 }
@@ -98,5 +114,14 @@ pub fn put_cuts(s: &[u8], out: &mut [u8]) -> Answer
     ensures { λ r. ⌜ PutOutput farmCuts cutsRoom (now (s .entry)) (now (out .entry)) (now (out .exit)) r ⌝ }
 {
     let put = put_file_cuts(s, out);
+    complete(out, put)
+}
+
+// What its command `why` prints: the reasons, or the refusal's line.
+pub fn put_why(s: &[u8], out: &mut [u8], wording: Wording) -> Answer
+    requires { ⌜ whyRoom ≤ length (now out) ⌝ }
+    ensures { λ r. ⌜ PutOutput (farmWhy wording) whyRoom (now (s .entry)) (now (out .entry)) (now (out .exit)) r ⌝ }
+{
+    let put = put_file_why(s, out, wording);
     complete(out, put)
 }

@@ -1,6 +1,6 @@
 // What a file is answered with, put together as bytes: an accepted farm's listing, herd after herd and then the totals,
-// its notes or its cuts; or the line of a refusal. Each herd's figures are worked out once, and what reading has
-// checked is not checked again.
+// its notes, its cuts or its reasons; or the line of a refusal. Each herd's figures are worked out once, and what
+// reading has checked is not checked again.
 pub mod farms; // an accepted farm's listing
 pub mod refusals; // the line of a refusal
 pub mod files; // the answer of a file
@@ -21,3 +21,6 @@ pub const NOTES_ROOM: usize = noting::ROOM;
 
 // Room for the cuts of any farm.
 pub const CUTS_ROOM: usize = cut_lines::ROOM;
+
+// Room for the reasons of any farm.
+pub const WHY_ROOM: usize = why_lines::ROOM;

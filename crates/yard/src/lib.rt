@@ -33,7 +33,7 @@ pub struct Yard {
 // Shares of 2.34, in tenths.
 const SHARE_NOT_SUPPLIED: u64 = 1;
 
-const SHARE_PARTLY: u64 = 2;
+pub const SHARE_PARTLY: u64 = 2;
 
 const SHARE_EXCLUSIVELY: u64 = 6;
 
@@ -64,7 +64,8 @@ pub fn days_with_grazing_and_yard(o: Outdoor) -> u64
     0
 }
 
-fn share_excretion(yard: ExerciseYard) -> u64
+// The share as chosen, by its name.
+pub fn share_excretion(yard: ExerciseYard) -> u64
     ensures { λ r. ⌜ UpTo tenths («share_excretion» yard) r ⌝ }
 {
     match yard {

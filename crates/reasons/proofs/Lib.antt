@@ -1,0 +1,4 @@
+pub mod Steps
+pub mod Reasons
+pub mod Gets
+pub mod Rows

@@ -1,0 +1,4 @@
+pub mod LineSteps
+pub mod ReasonSteps
+pub mod FarmSteps
+pub mod Examples

@@ -1,0 +1,186 @@
+// 02, W2: a farm's reasons, byte by byte, into a lent buffer: of each herd with a yard a record, or a sentence that can
+// be read aloud. No figure is worked out, and what reading has checked is not checked again.
+use amounts::TENTHS;
+use farm::Farm;
+use farm::Label;
+use listing::labels;
+use reasons::Reason;
+use reasons::Told;
+use reasons::Why;
+ghost use mathlib.Core.Path.{_≡_};
+ghost use Prim.Native.Nat.{_+_, _≤_};
+ghost use lib.ListN.{length};
+ghost use Rattle.base.specs.Text.{bytes};
+ghost use Rattle.base.specs.Wrote.{Wrote};
+ghost use Rattle.decimal.specs.Writing.{wholeOf};
+ghost use Rattle.farm.specs.declared.Checked.the-variants.{Accepted};
+ghost use Rattle.farm.specs.Labels.{text};
+ghost use Rattle.checks.specs.Checks.{checkFarm};
+ghost use Rattle.why_lines.specs.Lines.{tenthsOf, reasonField, numbersOf, whyRecord, because, daysWords, sharesWords, whySentence, whyText, toldText, farmWhy};
+ghost use Rattle.why_lines.specs.Rooms.{longestWhole, longestTenths, longestReason, longestNumbers, longestBecause, longestDays, longestShares, longestLine, whyRoom};
+
+// A reason's record, or its sentence.
+pub enum Wording {
+    Record,
+    Sentence,
+}
+
+// How long the parts of a sentence can be, which is longer than a record: a number, a share with its point, the words
+// of a reason.
+const WHOLE_MOST: usize = 20;
+
+const TENTHS_MOST: usize = WHOLE_MOST + 1 + WHOLE_MOST;
+
+const BECAUSE_MOST: usize = 56;
+
+// And the sentence: the label, the days between their words, the shares with the reason and the end.
+const DAYS_MOST: usize = 32 + WHOLE_MOST + 47;
+
+const SHARES_MOST: usize = TENTHS_MOST + BECAUSE_MOST + TENTHS_MOST + 3;
+
+const LINE_MOST: usize = labels::FIELD_MOST + DAYS_MOST + SHARES_MOST;
+
+// Room for the reasons of any farm.
+pub const ROOM: usize = farm::HERDS_MOST * LINE_MOST;
+
+// A whole number from `at` on; the end of it. So with every part of a line.
+fn put_number(out: &mut [u8], at: usize, n: u64) -> usize
+    requires { ⌜ at + longestWhole ≤ length (now out) ⌝ }
+    ensures { λ r. ⌜ Wrote (now (out .entry)) at (wholeOf n) (now (out .exit)) r × (r ≤ at + longestWhole) ⌝ }
+{
+    decimal::put_whole(out, at, n)
+}
+
+// So many tenths, with one decimal.
+fn put_tenths(out: &mut [u8], at: usize, n: u64) -> usize
+    requires { ⌜ at + longestTenths ≤ length (now out) ⌝ }
+    ensures { λ r. ⌜ Wrote (now (out .entry)) at (tenthsOf n) (now (out .exit)) r × (r ≤ at + longestTenths) ⌝ }
+{
+    let a = put_number(out, at, n / TENTHS);
+    let b = base::put_byte(out, a, b'.');
+    put_number(out, b, n % TENTHS)
+}
+
+// The field of a reason.
+fn put_reason(out: &mut [u8], at: usize, reason: Reason) -> usize
+    requires { ⌜ at + longestReason ≤ length (now out) ⌝ }
+    ensures { λ r. ⌜ Wrote (now (out .entry)) at (reasonField reason) (now (out .exit)) r × (r ≤ at + longestReason) ⌝ }
+{
+    match reason {
+        Reason::NoSuchDays => base::put(out, at, b",no_such_days,"),
+        Reason::NotAvailable => base::put(out, at, b",not_available,"),
+        Reason::AsChosen => base::put(out, at, b",as_chosen,"),
+        Reason::Lowered => base::put(out, at, b",lowered,"),
+    }
+}
+
+// A reason in words.
+fn put_because(out: &mut [u8], at: usize, reason: Reason) -> usize
+    requires { ⌜ at + longestBecause ≤ length (now out) ⌝ }
+    ensures { λ r. ⌜ Wrote (now (out .entry)) at (bytes (because reason)) (now (out .exit)) r × (r ≤ at + longestBecause) ⌝ }
+{
+    match reason {
+        Reason::NoSuchDays => base::put(
+            out,
+            at,
+            b", since there is no such day and the chosen share stays ",
+        ),
+        Reason::NotAvailable => base::put(
+            out,
+            at,
+            b", since no yard is available and the chosen share is ",
+        ),
+        Reason::AsChosen => base::put(out, at, b", the same as the chosen share of "),
+        Reason::Lowered => base::put(out, at, b", lowered from the chosen share of "),
+    }
+}
+
+// The days and the share: the last two fields.
+fn put_numbers(out: &mut [u8], at: usize, days: u64, share: u64) -> usize
+    requires { ⌜ at + longestNumbers ≤ length (now out) ⌝ }
+    ensures { λ r. ⌜ Wrote (now (out .entry)) at (numbersOf days share) (now (out .exit)) r × (r ≤ at + longestNumbers) ⌝ }
+{
+    let a = put_number(out, at, days);
+    let b = base::put_byte(out, a, b',');
+    let c = put_tenths(out, b, share);
+    base::put(out, c, b"\r\n")
+}
+
+fn put_record(out: &mut [u8], at: usize, label: Label, w: Why) -> usize
+    requires { ⌜ at + longestLine ≤ length (now out) ⌝ }
+    ensures { λ r. ⌜ Wrote (now (out .entry)) at (whyRecord (text label) w) (now (out .exit)) r × (r ≤ at + longestLine) ⌝ }
+{
+    let reason = w.reason;
+    let a = labels::put_label(out, at, label);
+    let b = put_reason(out, a, reason);
+    put_numbers(out, b, w.days, w.share)
+}
+
+// The days in words.
+fn put_days(out: &mut [u8], at: usize, days: u64) -> usize
+    requires { ⌜ at + longestDays ≤ length (now out) ⌝ }
+    ensures { λ r. ⌜ Wrote (now (out .entry)) at (daysWords days) (now (out .exit)) r × (r ≤ at + longestDays) ⌝ }
+{
+    let a = base::put(out, at, b": with both yard and pasture on ");
+    let b = put_number(out, a, days);
+    base::put(out, b, b" of 365 days, the yard's share on such days is ")
+}
+
+// The share in words, and why it is that.
+fn put_shares(out: &mut [u8], at: usize, w: Why) -> usize
+    requires { ⌜ at + longestShares ≤ length (now out) ⌝ }
+    ensures { λ r. ⌜ Wrote (now (out .entry)) at (sharesWords w) (now (out .exit)) r × (r ≤ at + longestShares) ⌝ }
+{
+    let reason = w.reason;
+    let a = put_tenths(out, at, w.share);
+    let b = put_because(out, a, reason);
+    let c = put_tenths(out, b, w.chosen);
+    base::put(out, c, b".\r\n")
+}
+
+fn put_sentence(out: &mut [u8], at: usize, label: Label, w: Why) -> usize
+    requires { ⌜ at + longestLine ≤ length (now out) ⌝ }
+    ensures { λ r. ⌜ Wrote (now (out .entry)) at (whySentence (text label) w) (now (out .exit)) r × (r ≤ at + longestLine) ⌝ }
+{
+    let a = labels::put_label(out, at, label);
+    let b = put_days(out, a, w.days);
+    put_shares(out, b, w)
+}
+
+fn put_why(out: &mut [u8], at: usize, label: Label, w: Why, wording: Wording) -> usize
+    requires { ⌜ at + longestLine ≤ length (now out) ⌝ }
+    ensures { λ r. ⌜ Wrote (now (out .entry)) at (whyText wording (text label) w) (now (out .exit)) r × (r ≤ at + longestLine) ⌝ }
+{
+    match wording {
+        Wording::Record => put_record(out, at, label, w),
+        Wording::Sentence => put_sentence(out, at, label, w),
+    }
+}
+
+// Nothing of a herd without a yard.
+fn put_told(out: &mut [u8], at: usize, label: Label, told: Told, wording: Wording) -> usize
+    requires { ⌜ at + longestLine ≤ length (now out) ⌝ }
+    ensures { λ r. ⌜ Wrote (now (out .entry)) at (toldText wording (text label) told) (now (out .exit)) r × (r ≤ at + longestLine) ⌝ }
+{
+    match told {
+        Told::Because(w) => put_why(out, at, label, w, wording),
+        Told::NoYard => at,
+    }
+}
+
+// The reasons of an accepted farm, from the front of the buffer on.
+pub fn put_farm(out: &mut [u8], farm: Farm, wording: Wording) -> usize
+    requires { ⌜ (checkFarm farm ≡ Accepted) × (whyRoom ≤ length (now out)) ⌝ }
+    ensures { λ r. ⌜ Wrote (now (out .entry)) 0 (farmWhy wording farm) (now (out .exit)) r × (r ≤ whyRoom) ⌝ }
+{
+    let count = farm.count;
+    let mut at = 0;
+    let mut i = 0;
+    while i < count {
+        let h = farm.herds[i];
+        let told = reasons::told_of(typed::typed_of(h));
+        at = put_told(out, at, h.label, told, wording);
+        i += 1;
+    }
+    at
+}
