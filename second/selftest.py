@@ -4,12 +4,14 @@
 import itertools
 import math
 import os
+import struct
 import sys
 import unittest
 from fractions import Fraction
 from pathlib import Path
 
 import damage
+import doubles
 import faults
 import gate_cases
 import gatelog
@@ -1250,6 +1252,32 @@ PIG_ROWS = "\n".join(
         ),
     )
 )
+
+
+class Doubles(unittest.TestCase):
+    """Request W13: each double against fractions, and not against a division."""
+
+    @staticmethod
+    def double(grams):
+        (x,) = struct.unpack("<d", struct.pack("<Q", int(doubles.bits(grams))))
+        return x
+
+    def test_nearest(self):
+        for grams in (0, 1, 3, 7, 999, 1001, 5226, 99_999, 4_000_000_000, 767_999_999_999):
+            for signed in (grams, -grams):
+                x, exact = self.double(signed), Fraction(signed, 1000)
+                for other in (math.nextafter(x, math.inf), math.nextafter(x, -math.inf)):
+                    self.assertLess(abs(Fraction(x) - exact), abs(Fraction(other) - exact))
+
+    def test_whole_kilograms(self):
+        for kilograms in (0, 1, -1, 51, -51, 4_000_000, 768_000_000):
+            self.assertEqual(Fraction(self.double(1000 * kilograms)), kilograms)
+        self.assertEqual(doubles.bits(0), "0\r\n")
+
+    def test_below_zero(self):
+        herds = read_farm(next(doubles.every_file()))
+        left = [figures(herd, CUTS)["tan_remain_grazing"] for herd in herds]
+        self.assertEqual(left, [-51_000, -50_994, -51])
 
 
 @unittest.skipUnless(DOCUMENT in os.environ, f"{DOCUMENT} does not name the text of 001")

@@ -6,10 +6,12 @@
     vectors.py --which OFFSET           show the farm file that a byte of the outputs belongs to
     vectors.py --which OFFSET --logs    the same of the gate's logs
     vectors.py --which OFFSET --mended  the same of the files that were mended
+    vectors.py --which OFFSET --doubles the same of the farm files whose doubles are shown
 
-The packs are the input and the expected output of three programs: `test_vectors`, farm
+The packs are the input and the expected output of four programs: `test_vectors`, farm
 files and for each what every command prints, `test_gate`, logs of a pasture gate and
-their answers, and `test_mend`, files and what mending makes of them. In a program's
+their answers, `test_mend`, files and what mending makes of them, and `test_kilograms`,
+farm files and their figures as doubles. In a program's
 folder `stdin` holds each file's length as 4 bytes, little-endian, and its bytes;
 `stdout` holds the outputs one after the other.
 """
@@ -20,6 +22,7 @@ from collections import Counter
 from pathlib import Path
 
 import cases
+import doubles
 import gate_cases
 import gatelog
 import mend
@@ -48,6 +51,8 @@ class Pack:
 FARMS = Pack("test_vectors", cases.every_file, output, answer)
 LOGS = Pack("test_gate", gate_cases.every_log, gatelog.answer, gatelog.answer)
 MENDED = Pack("test_mend", mend_cases.every_file, mend.counted, None)
+DOUBLES = Pack("test_kilograms", doubles.every_file, doubles.doubles, answer)
+PACKS = (FARMS, LOGS, MENDED, DOUBLES)
 FILES = FARMS.files
 
 
@@ -126,13 +131,14 @@ def main():
     of = parser.add_mutually_exclusive_group()
     of.add_argument("--logs", action="store_const", dest="pack", const=LOGS, default=FARMS, help="of the gate's logs")
     of.add_argument("--mended", action="store_const", dest="pack", const=MENDED, help="of the files that were mended")
+    of.add_argument("--doubles", action="store_const", dest="pack", const=DOUBLES, help="of the doubles' farm files")
     chosen = parser.parse_args()
     if chosen.write:
-        for pack in (FARMS, LOGS, MENDED):
+        for pack in PACKS:
             write(pack)
         return 0
     if chosen.check:
-        same = [check(pack) for pack in (FARMS, LOGS, MENDED)]
+        same = [check(pack) for pack in PACKS]
         return 0 if all(same) else 1
     return 0 if show(chosen.pack, chosen.which) else 1
 

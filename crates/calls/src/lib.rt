@@ -32,14 +32,14 @@ pub fn read_farm(s: &[u8]) -> FileAnswer
     files::read(s)
 }
 
-// A herd's figures, notes and cuts, or the refusal and zeros.
+// A herd's figures in grams and in kilograms, notes and cuts, or the refusal and zeros.
 pub fn herd_figures(h: Herd) -> HerdAnswer
     ensures { λ r. ⌜ r ≡ herdAnswer h ⌝ }
 {
     answers::herd_answer(h)
 }
 
-// A farm's totals, or the refusal and zeros.
+// A farm's totals in grams and in kilograms, or the refusal and zeros.
 pub fn farm_totals(f: Farm) -> FarmAnswer
     ensures { λ r. ⌜ r ≡ farmAnswer f ⌝ }
 {

@@ -3,7 +3,7 @@
 -- Assumes nothing.
 use Prim.Native.Nat.{ℕ, _+_, _*_, _≤_, _<_}
 use mathlib.Core.Path.{_≡_, sym, ap, _∙_}
-use mathlib.Core.List.{List, []}
+use mathlib.Core.List.{List, [], map}
 use native.Mathlib.Omega.{arith}
 use lib.ListN.{length, getD, drop}
 use lib.IntN.{ℤ}
@@ -24,14 +24,18 @@ use Rattle.typed.specs.Typed.{typedOf}
 use Rattle.typed.proofs.Sound.{typed-sound, herd-sound}
 use Rattle.outputs.specs.declared.Figures.{Figures}
 use Rattle.outputs.specs.declared.Totals.{Totals}
-use Rattle.outputs.specs.Grams.{To, figureMost, plusGrams, zeros, noFigures, summed, totalGrams}
+use Rattle.outputs.specs.Grams.{To, figureMost, plusGrams, zeros, noFigures, summed, totalGrams, totalsOf}
 use Rattle.outputs.proofs.Adding.{plus-to, widen, zeros-to, totals-of-sum}
 use Rattle.cuts.specs.declared.Cuts.{Cuts}
 use Rattle.cuts.specs.Cuts.{noCuts}
 use Rattle.cuts.specs.Herd.{cutsOf}
+use Rattle.kilograms.specs.declared.Kilograms.{Kilograms}
+use Rattle.kilograms.specs.declared.TotalKilograms.{TotalKilograms}
+use Rattle.kilograms.specs.Kilograms.{kilogramsOf, totalKilogramsOf, exactMost}
 use Rattle.herd.specs.Herd.{figuresOf}
 use Rattle.herd.proofs.Bounds.{most, figures-to}
 use Rattle.model.specs.Answers.{Added, herdFigures, herdAnswer, farmAnswer}
+use Rattle.model.proofs.Exact.{figures-exact, totals-exact, no-totals-exact}
 
 -- figures of which the grams are none
 no-grams : (f : Figures) → f .grams ≡ zeros → f ≡ noFigures
@@ -46,19 +50,26 @@ module _ (h : Herd) (k : Checked) (q : k ≡ checkHerd h) where
   pub accepted-sound : (i : Inputs) → k ≡ Accepted → i ≡ typedOf h → Sound i
   accepted-sound i t e = rw e (typed-sound h (sym q ∙ t))
 
-  pub is-herd-answer : (i : Inputs) (f : Figures) (n : Notes) (c : Cuts) → k ≡ Accepted → i ≡ typedOf h
-      → f ≡ figuresOf i → n ≡ notesOf i → c ≡ cutsOf i
-      → record { checked = Accepted; figures = f; notes = n; cuts = c } ≡ herdAnswer h
-  unfolding herdAnswer
-  is-herd-answer i f n c t e ef en ec = rw (← q, t, ef, en, ec, e)
+  pub accepted-exact : (i : Inputs) (f : Figures) → k ≡ Accepted → i ≡ typedOf h → f ≡ figuresOf i
+      → To exactMost (f .grams)
+  accepted-exact i f t e ef = rw ef (figures-exact i (accepted-sound i t e))
 
-  pub is-herd-refusal : (fault : Fault) (at-record : ℕ) (f : Figures) (n : Notes) (c : Cuts)
-      → k ≡ Refused fault at-record → f .grams ≡ zeros → n ≡ noNotes → c ≡ noCuts
-      → record { checked = Refused fault at-record; figures = f; notes = n; cuts = c } ≡ herdAnswer h
+  pub is-herd-answer : (i : Inputs) (f : Figures) (kg : Kilograms) (n : Notes) (c : Cuts) → k ≡ Accepted
+      → i ≡ typedOf h → f ≡ figuresOf i → kg ≡ kilogramsOf f → n ≡ notesOf i → c ≡ cutsOf i
+      → record { checked = Accepted; figures = f; kilograms = kg; notes = n; cuts = c } ≡ herdAnswer h
   unfolding herdAnswer
-  is-herd-refusal fault at-record f n c t ef en ec = rw (← q, t, no-grams f ef, en, ec)
+  is-herd-answer i f kg n c t e ef ek en ec = rw (← q, t, ek, ef, en, ec, e)
 
-pub ruleset herd-answers = (accepted-sound, is-herd-answer, is-herd-refusal)
+  pub is-herd-refusal : (fault : Fault) (at-record : ℕ) (f : Figures) (kg : Kilograms) (n : Notes) (c : Cuts)
+      → k ≡ Refused fault at-record → f .grams ≡ zeros → kg ≡ kilogramsOf f → n ≡ noNotes → c ≡ noCuts
+      → record { checked = Refused fault at-record; figures = f; kilograms = kg; notes = n; cuts = c } ≡ herdAnswer h
+  unfolding herdAnswer
+  is-herd-refusal fault at-record f kg n c t ef ek en ec = rw (← q, t, ek, no-grams f ef, en, ec)
+
+pub zeros-exact : (f : Figures) → f .grams ≡ zeros → To exactMost (f .grams)
+zeros-exact f e = rw e (zeros-to exactMost)
+
+pub ruleset herd-answers = (accepted-sound, accepted-exact, is-herd-answer, is-herd-refusal, zeros-exact)
 
 -- ---- the figures of i herds were added up
 
@@ -107,19 +118,39 @@ pub ruleset adding-steps = (adding-starts, adding-ends, next-sound)
 
 -- ---- a farm
 
+-- the totals of no herds
+no-totals : (sum : Figures) (t : Totals) → sum .grams ≡ zeros → t .grams ≡ totalGrams (sum .grams) → t ≡ totalsOf []
+no-totals sum t es et = totals-of-sum herdFigures [] t (et ∙ ap totalGrams es)
+
+pub zero-totals-exact : (sum : Figures) (t : Totals) → sum .grams ≡ zeros → t .grams ≡ totalGrams (sum .grams)
+    → To exactMost (t .grams)
+zero-totals-exact sum t es et = rw (no-totals sum t es et) no-totals-exact
+
 module _ (f : Farm) (k : Checked) (q : k ≡ checkFarm f) where
   pub accepted-farm : k ≡ Accepted → checkFarm f ≡ Accepted
   accepted-farm t = sym q ∙ t
 
-  pub is-farm-answer : (sum : Figures) (t : Totals) → k ≡ Accepted → Added f sum → t .grams ≡ totalGrams (sum .grams)
-      → record { checked = Accepted; totals = t } ≡ farmAnswer f
-  unfolding farmAnswer
-  is-farm-answer sum t e a et = rw (← q, e, totals-of-sum herdFigures (herdsOf f) t (et ∙ ap totalGrams (a .is)))
+  -- the totals of the sums are the farm's
+  added-totals : (sum : Figures) (t : Totals) → Added f sum → t .grams ≡ totalGrams (sum .grams)
+      → t ≡ totalsOf (map herdFigures (herdsOf f))
+  added-totals sum t a et = totals-of-sum herdFigures (herdsOf f) t (et ∙ ap totalGrams (a .is))
 
-  pub is-farm-refusal : (fault : Fault) (at-record : ℕ) (sum : Figures) (t : Totals) → k ≡ Refused fault at-record → sum .grams ≡ zeros
-      → t .grams ≡ totalGrams (sum .grams) → record { checked = Refused fault at-record; totals = t } ≡ farmAnswer f
+  pub accepted-totals-exact : (sum : Figures) (t : Totals) → k ≡ Accepted → Added f sum
+      → t .grams ≡ totalGrams (sum .grams) → To exactMost (t .grams)
+  accepted-totals-exact sum t e a et = rw (added-totals sum t a et) (totals-exact f (accepted-farm e))
+
+  pub is-farm-answer : (sum : Figures) (t : Totals) (kg : TotalKilograms) → k ≡ Accepted → Added f sum
+      → t .grams ≡ totalGrams (sum .grams) → kg ≡ totalKilogramsOf t
+      → record { checked = Accepted; totals = t; kilograms = kg } ≡ farmAnswer f
   unfolding farmAnswer
-  is-farm-refusal fault at-record sum t e es et = rw (← q, e, totals-of-sum herdFigures [] t (et ∙ ap totalGrams es))
+  is-farm-answer sum t kg e a et ek = rw (← q, e, ek, added-totals sum t a et)
+
+  pub is-farm-refusal : (fault : Fault) (at-record : ℕ) (sum : Figures) (t : Totals) (kg : TotalKilograms)
+      → k ≡ Refused fault at-record → sum .grams ≡ zeros → t .grams ≡ totalGrams (sum .grams)
+      → kg ≡ totalKilogramsOf t
+      → record { checked = Refused fault at-record; totals = t; kilograms = kg } ≡ farmAnswer f
+  unfolding farmAnswer
+  is-farm-refusal fault at-record sum t kg e es et ek = rw (← q, e, ek, no-totals sum t es et)
 
 pub added-small : (f : Farm) (sum : Figures) → Added f sum → To figureMost (sum .grams)
 added-small f sum a = a .small
@@ -127,4 +158,5 @@ added-small f sum a = a .small
 pub zeros-small : (sum : Figures) → sum .grams ≡ zeros → To figureMost (sum .grams)
 zeros-small sum e = rw e (zeros-to figureMost)
 
-pub ruleset farm-answers = (accepted-farm, is-farm-answer, is-farm-refusal, added-small, zeros-small)
+pub ruleset farm-answers =
+    (accepted-farm, accepted-totals-exact, zero-totals-exact, is-farm-answer, is-farm-refusal, added-small, zeros-small)

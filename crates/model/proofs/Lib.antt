@@ -1,7 +1,9 @@
 pub mod Edges
+pub mod Exact
 pub mod AnswerSteps
 pub mod OfKind
 pub mod Kept
 pub mod Truths
 pub mod Behind
 pub mod Cuts
+pub mod Kilograms

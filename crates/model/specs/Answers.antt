@@ -1,5 +1,5 @@
--- What a record that is handed in gives: the figures, notes and cuts, or a refusal and zeros beside it. (01, Refusal
--- numbers: "A public call handed a record in place of a file checks it too".)
+-- What a record that is handed in gives: the figures in grams and in kilograms, notes and cuts, or a refusal and zeros
+-- beside it. (01, Refusal numbers: "A public call handed a record in place of a file checks it too".)
 use mathlib.Core.Path.{_≡_}
 use mathlib.Core.List.{[], map}
 use Rattle.farm.specs.declared.Herd.{Herd}
@@ -10,7 +10,9 @@ use Rattle.checks.specs.Checks.{checkHerd, checkFarm, herdsOf}
 use Rattle.notes.specs.Notes.{notesOf, noNotes}
 use Rattle.typed.specs.Typed.{typedOf}
 use Rattle.outputs.specs.declared.Figures.{Figures}
+use Rattle.outputs.specs.declared.Totals.{Totals}
 use Rattle.outputs.specs.Grams.{noFigures, summed, totalsOf, To, figureMost}
+use Rattle.kilograms.specs.Kilograms.{kilogramsOf, totalKilogramsOf}
 use Rattle.herd.specs.Herd.{figuresOf}
 use Rattle.cuts.specs.declared.Cuts.{Cuts}
 use Rattle.cuts.specs.Cuts.{noCuts}
@@ -28,16 +30,32 @@ herdCuts h = cutsOf (typedOf h)
 
 abbrev pub answerHerd : Checked → Herd → HerdAnswer
 answerHerd Accepted h =
-    record { checked = Accepted; figures = herdFigures h; notes = notesOf (typedOf h); cuts = herdCuts h }
+    record {
+      checked = Accepted;
+      figures = herdFigures h;
+      kilograms = kilogramsOf (herdFigures h);
+      notes = notesOf (typedOf h);
+      cuts = herdCuts h;
+    }
 answerHerd (Refused fault at) h =
-    record { checked = Refused fault at; figures = noFigures; notes = noNotes; cuts = noCuts }
+    record {
+      checked = Refused fault at;
+      figures = noFigures;
+      kilograms = kilogramsOf noFigures;
+      notes = noNotes;
+      cuts = noCuts;
+    }
 
 unfoldable pub herdAnswer : Herd → HerdAnswer
 herdAnswer h = answerHerd (checkHerd h) h
 
+-- a farm's totals, in grams and in kilograms
+abbrev pub answerTotals : Checked → Totals → FarmAnswer
+answerTotals c t = record { checked = c; totals = t; kilograms = totalKilogramsOf t }
+
 abbrev pub answerFarm : Checked → Farm → FarmAnswer
-answerFarm Accepted f = record { checked = Accepted; totals = totalsOf (map herdFigures (herdsOf f)) }
-answerFarm (Refused fault at) f = record { checked = Refused fault at; totals = totalsOf [] }
+answerFarm Accepted f = answerTotals Accepted (totalsOf (map herdFigures (herdsOf f)))
+answerFarm (Refused fault at) f = answerTotals (Refused fault at) (totalsOf [])
 
 unfoldable pub farmAnswer : Farm → FarmAnswer
 farmAnswer f = answerFarm (checkFarm f) f

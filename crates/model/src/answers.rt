@@ -19,19 +19,25 @@ pub fn herd_answer(h: Herd) -> HerdAnswer
     match checks::check_herd(h) {
         Checked::Accepted => {
             let inputs = typed::typed_of(h);
+            let figures = herd::figures(inputs);
             HerdAnswer {
                 checked: Checked::Accepted,
-                figures: herd::figures(inputs),
+                figures,
+                kilograms: kilograms::kilograms_of(figures),
                 notes: notes::notes_of(inputs),
                 cuts: herds::cuts_of(inputs),
             }
         }
-        Checked::Refused(fault, record) => HerdAnswer {
-            checked: Checked::Refused(fault, record),
-            figures: sums::no_figures(),
-            notes: notes::no_notes(),
-            cuts: parts::no_cuts(),
-        },
+        Checked::Refused(fault, record) => {
+            let figures = sums::no_figures();
+            HerdAnswer {
+                checked: Checked::Refused(fault, record),
+                figures,
+                kilograms: kilograms::kilograms_of(figures),
+                notes: notes::no_notes(),
+                cuts: parts::no_cuts(),
+            }
+        }
     }
 }
 
@@ -55,13 +61,21 @@ pub fn farm_answer(farm: Farm) -> FarmAnswer
     ensures { λ r. ⌜ r ≡ farmAnswer farm ⌝ }
 {
     match checks::check_farm(farm) {
-        Checked::Accepted => FarmAnswer {
-            checked: Checked::Accepted,
-            totals: sums::totals_from(sum_of(farm)),
-        },
-        Checked::Refused(fault, record) => FarmAnswer {
-            checked: Checked::Refused(fault, record),
-            totals: sums::totals_from(sums::no_figures()),
-        },
+        Checked::Accepted => {
+            let totals = sums::totals_from(sum_of(farm));
+            FarmAnswer {
+                checked: Checked::Accepted,
+                totals,
+                kilograms: kilograms::total_kilograms_of(totals),
+            }
+        }
+        Checked::Refused(fault, record) => {
+            let totals = sums::totals_from(sums::no_figures());
+            FarmAnswer {
+                checked: Checked::Refused(fault, record),
+                totals,
+                kilograms: kilograms::total_kilograms_of(totals),
+            }
+        }
     }
 }

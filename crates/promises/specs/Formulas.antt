@@ -11,26 +11,32 @@ use Rattle.reader.specs.Files.{readOf, accepted}
 use Rattle.rules.specs.Rules.{farmOf}
 use Rattle.notes.specs.Notes.{notesOf}
 use Rattle.typed.specs.Typed.{typedOf}
+use Rattle.outputs.specs.declared.Totals.{Totals}
 use Rattle.outputs.specs.Grams.{totalsOf}
+use Rattle.kilograms.specs.Kilograms.{kilogramsOf, totalKilogramsOf}
 use Rattle.herd.specs.Herd.{figuresOf}
 use Rattle.cuts.specs.Herd.{cutsOf}
 use Rattle.model.specs.declared.HerdAnswer.{HerdAnswer}
 use Rattle.model.specs.declared.FarmAnswer.{FarmAnswer}
 use Rattle.model.specs.Answers.{herdAnswer, farmAnswer}
 
--- a herd: its figures, notes and cuts, by the formulas on its inputs
+-- a herd: its figures, notes and cuts, by the formulas on its inputs; and the kilograms of the figures (02, W13)
 abbrev pub herdGets : Herd → HerdAnswer
 herdGets h =
     record {
       checked = Accepted;
       figures = figuresOf (typedOf h);
+      kilograms = kilogramsOf (figuresOf (typedOf h));
       notes = notesOf (typedOf h);
       cuts = cutsOf (typedOf h);
     }
 
--- a farm of these herds: the totals of their figures
+-- a farm of these herds: the totals of their figures, and the kilograms of the totals
+abbrev pub totalsGet : Totals → FarmAnswer
+totalsGet t = record { checked = Accepted; totals = t; kilograms = totalKilogramsOf t }
+
 abbrev pub farmGets : List Herd → FarmAnswer
-farmGets hs = record { checked = Accepted; totals = totalsOf (map (λ h. figuresOf (typedOf h)) hs) }
+farmGets hs = totalsGet (totalsOf (map (λ h. figuresOf (typedOf h)) hs))
 
 -- a file whose records say these herds
 pub record FileGets (s : List ℕ) (hs : List Herd) : Type 0 where

@@ -17,6 +17,9 @@ sum-of-requires c κs = search (needs, farm-answers)
 totals-from-requires : tie.Need-totals-from-requires
 totals-from-requires c κs = search (needs, farm-answers)
 
+total-kilograms-of-requires : tie.Need-total-kilograms-of-requires
+total-kilograms-of-requires c κs = search (needs, farm-answers)
+
 enum-known-fault : tie.Need-enum-known-fault
 enum-known-fault c = search needs
 
@@ -25,6 +28,9 @@ no-figures-requires c κs = search needs
 
 totals-from-requires-2 : tie.Need-totals-from-requires-2
 totals-from-requires-2 c κs = search (needs, farm-answers)
+
+total-kilograms-of-requires-2 : tie.Need-total-kilograms-of-requires-2
+total-kilograms-of-requires-2 c κs = search (needs, farm-answers)
 
 returns : tie.Need-returns
 returns c = search (needs, farm-answers)
@@ -40,8 +46,10 @@ farm-answer-spec =
     enum-told
     sum-of-requires
     totals-from-requires
+    total-kilograms-of-requires
     enum-known-fault
     no-figures-requires
     totals-from-requires-2
+    total-kilograms-of-requires-2
     returns
     returns-2)

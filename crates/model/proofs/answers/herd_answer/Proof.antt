@@ -17,6 +17,9 @@ typed-of-requires c κs = search needs
 figures-requires : tie.Need-figures-requires
 figures-requires c κs = search (needs, herd-answers)
 
+kilograms-of-requires : tie.Need-kilograms-of-requires
+kilograms-of-requires c κs = search (needs, herd-answers)
+
 notes-of-requires : tie.Need-notes-of-requires
 notes-of-requires c κs = search (needs, herd-answers)
 
@@ -28,6 +31,9 @@ enum-known-fault c = search needs
 
 no-figures-requires : tie.Need-no-figures-requires
 no-figures-requires c κs = search needs
+
+kilograms-of-requires-2 : tie.Need-kilograms-of-requires-2
+kilograms-of-requires-2 c κs = search (needs, herd-answers)
 
 no-notes-requires : tie.Need-no-notes-requires
 no-notes-requires c κs = search needs
@@ -49,10 +55,12 @@ herd-answer-spec =
     enum-told
     typed-of-requires
     figures-requires
+    kilograms-of-requires
     notes-of-requires
     cuts-of-requires
     enum-known-fault
     no-figures-requires
+    kilograms-of-requires-2
     no-notes-requires
     no-cuts-requires
     returns

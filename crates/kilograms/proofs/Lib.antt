@@ -1,0 +1,4 @@
+pub mod Doubles
+pub mod Converting
+pub mod Promised
+pub mod Small
