@@ -7,6 +7,7 @@ import os
 import struct
 import sys
 import unittest
+from dataclasses import replace
 from fractions import Fraction
 from pathlib import Path
 
@@ -22,7 +23,7 @@ from arithmetic import BILLION, CUTS, EXACT, HALF, Cuts
 from cuts import cuts
 from dice import Dice
 from farms import farm_lines, file_of, herd_lines, line_for, new_labels, written
-from inputs import CATTLE, HOURS, KINDS, PIGS, ROUGHAGE, Number
+from inputs import CATTLE, HOURS, KINDS, PIGS, ROUGHAGE, STANDARD, Number
 from model import (
     Notes, c_grazing, figures, housing_nh3_rate, k_grazing, notes, pig_house_ammonia, share_into_yard
 )
@@ -945,6 +946,51 @@ class CutOff(unittest.TestCase):
                 '"P, 1",Livestock::FatteningPigs::Grazing,nh3_ngrazing,0,10000',
             ],
         )
+
+
+class MoreAnimals(unittest.TestCase):
+    """Request W14: one more animal, or a gram more of N a head, and never less NH3."""
+
+    def with_more(self, read, name, more):
+        return figures(replace(read, given={**read.given, name: read.given[name] + more}), CUTS)
+
+    def check_no_less(self, few, many):
+        for name, amount in few.items():
+            if name.startswith("nh3_"):
+                self.assertLessEqual(amount, many[name], name)
+
+    def test_herds(self):
+        dice = Dice(14)
+        for kind in KINDS:
+            for label in range(HERDS_OF_A_KIND):
+                (read,) = read_farm(file_of(herd_lines(dice, str(label), kind)))
+                worked = figures(read, CUTS)
+                self.check_no_less(worked, self.with_more(read, "animals", 1))
+                if read.given["inp_n_excretion"] != STANDARD:
+                    self.check_no_less(worked, self.with_more(read, "inp_n_excretion", Fraction(1, 1000)))
+
+    def test_small_herds(self):
+        """Where a cut weighs the most: a few grams a head."""
+        yards = NOT_SUPPLIED, PARTLY, EXCLUSIVELY
+        for grams, yard, hours in itertools.product(range(1, 8), yards, ("6", "12", "24")):
+            changes = {"inp_n_excretion": f"0.00{grams}", "exercise_yard": yard, "grazing_hours": hours}
+            read = herd(CATTLE, C, animals="0", **changes)
+            worked = [self.with_more(read, "animals", animals) for animals in range(60)]
+            for few, many in itertools.pairwise(worked):
+                self.check_no_less(few, many)
+
+    def test_what_falls(self):
+        """TAN remaining, and TAN into a housing behind a yard, can fall."""
+        small = {**C, "tan_fraction": "20", "grazing_days": "365"}
+        gram = {**small, "animals": "24", "inp_n_excretion": "0.001"}
+        three_grams = {**small, "animals": "18", "inp_n_excretion": "0.003", "exercise_yard": NOT_SUPPLIED}
+        for texts, name, was, then in (
+            (ROW_4, "tan_remain_grazing", -5226, -5748),
+            ({**three_grams, "grazing_hours": "24"}, "tan_remain_grazing", 9, 8),
+            (gram, "tan_into_housing", 3, 2),
+        ):
+            read = herd(CATTLE, texts)
+            self.assertEqual((figures(read, CUTS)[name], self.with_more(read, "animals", 1)[name]), (was, then))
 
 
 def divmod_of(dividend, divisor):

@@ -49,11 +49,16 @@ module _ (shares of found m : ℕ) (u : UpTo m shares found) where
 
 pub ruleset shares-found = (portion-by, portions-by)
 
+-- ---- a larger amount has no smaller portion
+
+pub portion-grows : (x y shares of : ℕ) → x ≤ y → portion cutting x shares of ≤ portion cutting y shares of
+portion-grows x y shares of h = part-mono of {x = x} {y = y} {m = shares} {n = shares} h (le-refl shares)
+
 -- ---- the same portion of the N and of the TAN in it
 
 module _ (n tan shares of : ℕ) (m : Modest n tan) where
   tan-in-n : portion cutting tan shares of ≤ portion cutting n shares of
-  tan-in-n = part-mono of {x = tan} {y = n} {m = shares} {n = shares} (m .tan-most) (le-refl shares)
+  tan-in-n = portion-grows tan n shares of (m .tan-most)
 
   pub modest-share : shares ≤ of → Modest (portion cutting n shares of) (portion cutting tan shares of)
   modest-share h = record { n-most = le-trans (part-le n shares of h) (m .n-most); tan-most = tan-in-n }
@@ -63,17 +68,18 @@ module _ (n tan shares of : ℕ) (m : Modest n tan) where
       → Modest (a .whole) (b .whole)
   modest-portion a b p q = record { n-most = omega arith; tan-most = omega (arith, tan-in-n) }
 
--- ---- the rest: a larger amount has no smaller rest
+-- ---- nor a smaller rest: by no more than it grew has its portion grown
 
-portion-grows : (x e shares of : ℕ) → 0 < of → shares ≤ of → (x + e) * shares / of ≤ x * shares / of + e
-portion-grows x e shares of h k =
+grows-by : (x e shares of : ℕ) → 0 < of → shares ≤ of → (x + e) * shares / of ≤ x * shares / of + e
+grows-by x e shares of h k =
     let c : (x + e) * shares / of ≤ (x * shares + e * of) / of = cut-mono of (omega (arith, mul-le-mul-left e k)) in
     omega (arith, add-mul-div-right (x * shares) e h)
 
-rest-grows : (x y shares of : ℕ) → 0 < of → shares ≤ of → x ≤ y → x - x * shares / of ≤ y - y * shares / of
+pub rest-grows : (x y shares of : ℕ) → 0 < of → shares ≤ of → x ≤ y
+    → x - portion cutting x shares of ≤ y - portion cutting y shares of
 rest-grows x y shares of h k l =
     let e : x + (y - x) ≡ y = omega arith in
-    let g : y * shares / of ≤ x * shares / of + (y - x) = rw e at (portion-grows x (y - x) shares of h k) in
+    let g : y * shares / of ≤ x * shares / of + (y - x) = rw e at (grows-by x (y - x) shares of h k) in
     omega arith
 
 pub modest-rest : (n tan shares of : ℕ) → Modest n tan → 0 < of → shares ≤ of

@@ -1,2 +1,3 @@
 pub mod Modest
 pub mod Truths
+pub mod Growing

@@ -2,3 +2,4 @@ pub mod Housed
 pub mod Made
 pub mod Bounds
 pub mod Herds
+pub mod Growing

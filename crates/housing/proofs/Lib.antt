@@ -1,2 +1,3 @@
 pub mod InHousing
 pub mod Truths
+pub mod Growing

@@ -1,3 +1,4 @@
 pub mod Leaves
 pub mod Last
 pub mod OfKind
+pub mod Grown

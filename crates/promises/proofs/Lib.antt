@@ -4,4 +4,5 @@ pub mod Demand3
 pub mod Examples
 pub mod Commands
 pub mod Cuts
+pub mod Growing
 pub mod Reasons

@@ -1,3 +1,4 @@
 pub mod Times
 pub mod OnYard
 pub mod Truths
+pub mod Growing

@@ -1,0 +1,5 @@
+pub mod Names
+pub mod Alike
+pub mod Herd
+pub mod Farm
+pub mod Examples

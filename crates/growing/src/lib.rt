@@ -1,0 +1,1 @@
+// Theorems only: one more animal, never less ammonia (02, W14).
