@@ -11,14 +11,13 @@ use lib.ListN.{length, length-append}
 use borrow.Author.Tests.{ltb-true, ltb-false}
 use Rattle.base.specs.Pick.{if_is_then_else_}
 use Rattle.base.proofs.Clash.{clash}
-use Rattle.csv.specs.Grammar.{FileOf, Breaks}
 use Rattle.csv.specs.Reading.{Reading, _then_, end, broken, readingOf}
-use Rattle.csv.proofs.Files.{file-read, read-file, breaks-read, read-breaks}
+use Rattle.csv.proofs.Files.{read-file, breaks-read, read-breaks}
 use Rattle.rules.specs.Lists.{Last}
 use Rattle.rules.specs.Rules.{Record}
 use Rattle.rules.specs.Refusals.{RecordAt}
 use Rattle.rules.proofs.Readings.{thens, whole-thens, broken-thens, record-read, read-record, Stops, at-end, at-break}
-use Rattle.rules.proofs.Readings.{split-read, one-thens, end-not-broken, shorter, as-long}
+use Rattle.rules.proofs.Readings.{split-read, one-thens, shorter, as-long, split-at, none-broken, same-records}
 use Rattle.calendar.specs.declared.Date.{Date}
 use Rattle.calendar.specs.Calendar.{IsEve}
 use Rattle.calendar.specs.Texts.{IsDate}
@@ -108,16 +107,8 @@ module _ (s : List ℕ) where
   module _ (rs : List Record) {x : Reading} (stops : Stops x) (w : readingOf s ≡ thens rs x) (clean : Clean rs) where
     none-wrong : {before : List Record} {cs : Record} {f : LogFault} → RecordAt s before cs → Applies before cs f → ⊥
     none-wrong {before} {cs} {f} at a =
-        let r = record-read at in
-        let p = split-read (r .rest) rs before cs stops (sym w ∙ r .is) in
+        let p = split-at s rs stops w at in
         clean before cs (p .after) (p .is) f a
-
-  module _ (rs : List Record) (w : readingOf s ≡ thens rs end) where
-    none-broken : {rs′ : List Record} → Breaks rs′ s → ⊥
-    none-broken {rs′} b = end-not-broken rs rs′ (sym w ∙ breaks-read rs′ s b ∙ broken-thens rs′)
-
-    same-records : {rs′ : List Record} → FileOf rs′ s → rs ≡ rs′
-    same-records {rs′} f = one-thens rs rs′ at-end (sym w ∙ file-read f ∙ whole-thens rs′)
 
   not-long : {R : Type 0} → length s ≤ logMost → logMost < length s → R
   not-long a b = absurd (omega arith)
@@ -126,11 +117,11 @@ module _ (s : List ℕ) where
   nothing-applies : (rs : List Record) → length s ≤ logMost → readingOf s ≡ thens rs end → Clean rs → OnEve rs
       → (m : ℕ) (f : LogFault) → AppliesAt s m f → ⊥
   nothing-applies rs short w clean eve m f (AppliesAt.too-long h) = not-long short h
-  nothing-applies rs short w clean eve m f (AppliesAt.broken b) = none-broken rs w b
+  nothing-applies rs short w clean eve m f (AppliesAt.broken b) = none-broken s rs w b
   nothing-applies rs short w clean eve m f (AppliesAt.wrong at a) = none-wrong rs at-end w clean at a
   nothing-applies rs short w clean eve m f (AppliesAt.ends-early file none) =
       none (eve .last) (eve .date)
-      (subst (λ (l : List Record). Last l (eve .last)) (same-records rs w file) (eve .is-last)) (eve .says) (eve .eve)
+      (subst (λ (l : List Record). Last l (eve .last)) (same-records s rs w file) (eve .is-last)) (eve .says) (eve .eve)
 
   -- one that is too long
   first-long : logMost < length s → First s 0 LogTooLong
@@ -205,7 +196,7 @@ module _ (s : List ℕ) where
       (none : (r : Record) (d : Date) → Last rs r → IsDate (dateText r) d → IsEve d → ⊥) where
     none-sooner-end : (m : ℕ) (f : LogFault) → AppliesAt s m f → Sooner m f 0 WrongDate → ⊥
     none-sooner-end m f (AppliesAt.too-long h) d = not-long short h
-    none-sooner-end m f (AppliesAt.broken b) d = none-broken rs w b
+    none-sooner-end m f (AppliesAt.broken b) d = none-broken s rs w b
     none-sooner-end m f (AppliesAt.wrong at a) d = none-wrong rs at-end w clean at a
     none-sooner-end m f (AppliesAt.ends-early _ _) d = not-the-end d refl refl
 

@@ -6,9 +6,9 @@ use native.Mathlib.Omega.{arith}
 use lib.ListN.{length}
 use Rattle.base.proofs.Clash.{clash}
 use Rattle.base.specs.Each.{Each, more}
-use Rattle.csv.specs.Grammar.{Front, Before}
+use Rattle.csv.specs.Grammar.{Front, Before, FileOf, Breaks}
 use Rattle.csv.specs.Reading.{Reading, _then_, end, broken, whole, brokenAfter, readingOf}
-use Rattle.csv.proofs.Files.{reading-none, reading-front, begun}
+use Rattle.csv.proofs.Files.{reading-none, reading-front, begun, file-read, breaks-read}
 use Rattle.rules.specs.Rules.{Record}
 use Rattle.rules.specs.Refusals.{RecordAt}
 use Rattle.rules.proofs.Lists.{each-back}
@@ -134,3 +134,20 @@ at-split {P} {rs} {a} {c} s e = go (each-back a (c ∷ s .after) (rw (s .is) at 
   where
     go : {l : List Record} → Each P (c ∷ l) → P c
     go (more p _) = p
+
+-- ---- a file that reads as these records, to its end or up to a break
+
+-- has no others
+pub split-at : (s : List ℕ) (rs : List Record) {x : Reading} → Stops x → readingOf s ≡ thens rs x
+    → {before : List Record} {cs : Record} → RecordAt s before cs → Split rs before cs
+split-at s rs stops w {before} {cs} at =
+    let r = record-read at in
+    split-read (r .rest) rs before cs stops (sym w ∙ r .is)
+
+-- and one that is read to its end breaks nowhere, and is a file of these alone
+module _ (s : List ℕ) (rs : List Record) (w : readingOf s ≡ thens rs end) where
+  pub none-broken : {rs′ : List Record} → Breaks rs′ s → ⊥
+  none-broken {rs′} b = end-not-broken rs rs′ (sym w ∙ breaks-read rs′ s b ∙ broken-thens rs′)
+
+  pub same-records : {rs′ : List Record} → FileOf rs′ s → rs ≡ rs′
+  same-records {rs′} f = one-thens rs rs′ at-end (sym w ∙ file-read f ∙ whole-thens rs′)

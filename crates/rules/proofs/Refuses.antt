@@ -11,7 +11,6 @@ use lib.ListN.{length, length-append}
 use borrow.Author.Tests.{ltb-true, ltb-false}
 use Rattle.base.proofs.Clash.{clash}
 use Rattle.base.specs.Each.{Each}
-use Rattle.csv.specs.Grammar.{FileOf, Breaks}
 use Rattle.csv.specs.Reading.{Reading, _then_, end, broken, readingOf}
 use Rattle.csv.proofs.Files.{file-read, read-file, breaks-read, read-breaks}
 use Rattle.farm.specs.declared.Farm.{Farm}
@@ -24,7 +23,9 @@ use Rattle.rules.specs.Rules.{Record, KeepsRules}
 use Rattle.rules.specs.Refusals.{Applies, Lacks, RecordAt, AppliesAt, Sooner, too-long-first, from-the-front, in-that-order, then-missing, first-herd, First}
 use Rattle.rules.proofs.Faults.{one-fault, applies-within, NoneBelow}
 use Rattle.rules.proofs.Answers.{Clean, Ran, accepts, breaks, wrong, missing, Answered, too-long, read, answered}
-use Rattle.rules.proofs.Readings.{thens, whole-thens, broken-thens, record-read, read-record, Stops, at-end, at-break, split-read, one-thens, end-not-broken, shorter, as-long, split-list, at-split}
+use Rattle.rules.proofs.Readings.{thens, whole-thens, broken-thens, record-read, read-record, Stops, at-end, at-break}
+use Rattle.rules.proofs.Readings.{split-read, one-thens, end-not-broken, shorter, as-long, split-list, at-split}
+use Rattle.rules.proofs.Readings.{split-at, none-broken, same-records}
 use Rattle.rules.proofs.Accepts.{accepts-exactly}
 
 -- ---- the order, by numbers
@@ -80,16 +81,8 @@ module _ (s : List ℕ) where
   module _ (rs : List Record) {x : Reading} (stops : Stops x) (w : readingOf s ≡ thens rs x) (clean : Clean rs) where
     none-wrong : {before : List Record} {cs : Record} {f : Fault} → RecordAt s before cs → Applies before cs f → ⊥
     none-wrong {before} {cs} {f} at a =
-        let r = record-read at in
-        let p = split-read (r .rest) rs before cs stops (sym w ∙ r .is) in
+        let p = split-at s rs stops w at in
         clean before cs (p .after) (p .is) f a
-
-  module _ (rs : List Record) (w : readingOf s ≡ thens rs end) where
-    none-broken : {rs′ : List Record} → Breaks rs′ s → ⊥
-    none-broken {rs′} b = end-not-broken rs rs′ (sym w ∙ breaks-read rs′ s b ∙ broken-thens rs′)
-
-    same-records : {rs′ : List Record} → FileOf rs′ s → rs ≡ rs′
-    same-records {rs′} f = one-thens rs rs′ at-end (sym w ∙ file-read f ∙ whole-thens rs′)
 
   not-long : {R : Type 0} → length s ≤ fileMost → fileMost < length s → R
   not-long a b = absurd (omega arith)
@@ -97,10 +90,10 @@ module _ (s : List ℕ) where
   -- a file that is accepted
   nothing-applies : (rs : List Record) → length s ≤ fileMost → readingOf s ≡ thens rs end → Clean rs → Each (λ r. Lacks rs r → ⊥) rs → (m : ℕ) (f : Fault) → AppliesAt s m f → ⊥
   nothing-applies rs short w clean whole m f (AppliesAt.too-long h) = not-long short h
-  nothing-applies rs short w clean whole m f (AppliesAt.broken b) = none-broken rs w b
+  nothing-applies rs short w clean whole m f (AppliesAt.broken b) = none-broken s rs w b
   nothing-applies rs short w clean whole m f (AppliesAt.wrong at a) = none-wrong rs at-end w clean at a
   nothing-applies rs short w clean whole m f (AppliesAt.missing before cs after file l) =
-      let e = same-records rs w file in
+      let e = same-records s rs w file in
       at-split {a = before} (record { after = after; is = e }) whole (rw (sym e) at l)
 
   -- one that is too long
@@ -158,10 +151,10 @@ module _ (s : List ℕ) where
       (lacking : Lacks (before ++ (cs ∷ after)) cs) (whole : Each (λ r. Lacks (before ++ (cs ∷ after)) r → ⊥) before) where
     none-sooner-missing : (m : ℕ) (f : Fault) → AppliesAt s m f → Sooner m f (length before + 1) InputMissing → ⊥
     none-sooner-missing m f (AppliesAt.too-long h) d = not-long short h
-    none-sooner-missing m f (AppliesAt.broken b) d = none-broken (before ++ (cs ∷ after)) w b
+    none-sooner-missing m f (AppliesAt.broken b) d = none-broken s (before ++ (cs ∷ after)) w b
     none-sooner-missing m f (AppliesAt.wrong at a) d = none-wrong (before ++ (cs ∷ after)) at-end w clean at a
     none-sooner-missing m f (AppliesAt.missing before′ cs′ after′ file l) d =
-        let e = same-records (before ++ (cs ∷ after)) w file in
+        let e = same-records s (before ++ (cs ∷ after)) w file in
         let h = herds-before d refl in
         at-split (split-list before before′ cs cs′ after after′ e (omega arith)) whole (rw (sym e) at l)
 
