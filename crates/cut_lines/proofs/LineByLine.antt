@@ -1,8 +1,8 @@
 -- Records of cuts written one after the other: what a record is, where its middle stands in the table, and a turn of
 -- the loop. Assumes nothing.
-use Prim.Native.Nat.{ℕ, suc, _+_, _≤_, _<_, _^_}
-use mathlib.Core.Path.{_≡_, refl, ap, subst, _∙_}
-use mathlib.Core.List.{List, [], _∷_, _++_, append-assoc}
+use Prim.Native.Nat.{ℕ, suc, _+_, _≤_, _<_}
+use mathlib.Core.Path.{_≡_, refl, ap, _∙_}
+use mathlib.Core.List.{List, [], _∷_, _++_}
 use native.Mathlib.Omega.{arith}
 use borrow.Author.Tests.{lt-ltb}
 use lib.Dec.{ltb, leb, ltb→lt, leb→le}
@@ -13,20 +13,14 @@ use Rattle.base.specs.Wrote.{Wrote}
 use Rattle.base.proofs.Rest.{rest-at, rest-end}
 use Rattle.base.proofs.Runs.{Run, run-at, all-at}
 use Rattle.base.proofs.ToCome.{ToCome}
-use Rattle.base.proofs.Writes.{none, said}
+use Rattle.base.proofs.Writes.{none}
 use Rattle.decimal.specs.Writing.{wholeOf}
-use Rattle.decimal.proofs.Widths.{whole-length}
-use Rattle.decimal.proofs.Kilograms.{whole-short}
-use Rattle.listing.specs.Listing.{each}
 use Rattle.listing.proofs.OneByOne.{entry-put, all-entries-put}
 use Rattle.cut_lines.specs.Rooms.{longestMiddle}
 use Rattle.cut_lines.specs.Lines.{numbersOf}
 use Rattle.cut_lines.specs.Numbered.{putTogether, numbered, Known}
 
 -- ---- a record
-
-pub digits-most : (n : ℕ) → n < 2 ^ 64 → length (wholeOf n) ≤ 20
-digits-most n h = omega (arith, whole-length n, whole-short n h)
 
 pub numbers-are : (off by : ℕ) → wholeOf off ++ (44 ∷ []) ++ wholeOf by ++ (13 ∷ 10 ∷ []) ≡ numbersOf off by
 unfolding numbersOf

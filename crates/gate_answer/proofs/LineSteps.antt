@@ -1,6 +1,6 @@
 -- The lines of an answer, from the calls that put them: each law in the form that a place of src/lib.rt wants.
 -- Assumes nothing.
-use Prim.Native.Nat.{ℕ, _+_, _/_, _%_, _^_, _≤_, _<_}
+use Prim.Native.Nat.{ℕ, _+_, _/_, _%_}
 use mathlib.Core.Path.{_≡_, ap, _∙_}
 use mathlib.Core.List.{List, _++_, append-assoc}
 use native.Mathlib.Omega.{arith}
@@ -9,8 +9,6 @@ use lib.Seq.{sets}
 use Rattle.base.specs.Text.{bytes}
 use Rattle.base.specs.Wrote.{Wrote}
 use Rattle.decimal.specs.Writing.{wholeOf}
-use Rattle.decimal.proofs.Widths.{whole-length}
-use Rattle.decimal.proofs.Kilograms.{whole-short}
 use Rattle.gate.specs.declared.Outdoors.{Outdoors}
 use Rattle.gate.specs.declared.LogFault.{LogFault}
 use Rattle.gate.specs.declared.LogAnswer.{LogAnswer}
@@ -19,10 +17,6 @@ use Rattle.gate.specs.Refusals.{number}
 use Rattle.gate.specs.Logs.{readLog}
 use Rattle.gate_answer.specs.Lines.{outdoorsLines, refusalLine, answerLines}
 use Rattle.gate_answer.specs.Program.{answerRoom, logOutput, answerOf}
-
--- a number of 64 bits has at most 20 digits
-pub whole-text : (n : ℕ) → n < 2 ^ 64 → length (wholeOf n) ≤ 20
-whole-text n h = omega (arith, whole-length n, whole-short n h)
 
 -- the lines, by the pieces in which the code puts them: a text, and a number behind it
 regroup : (A a B b C c D d E : List ℕ)

@@ -1,5 +1,5 @@
 -- Lines put one after the other, two numbers of the list each. Assumes nothing.
-use Prim.Native.Nat.{ℕ, _+_, _*_, _≤_, _<_, _^_}
+use Prim.Native.Nat.{ℕ, _+_, _*_, _≤_, _<_}
 use mathlib.Core.Path.{_≡_, refl, subst}
 use mathlib.Core.List.{List, [], _∷_, _++_}
 use native.Mathlib.Omega.{arith}
@@ -8,12 +8,7 @@ use Rattle.base.specs.Wrote.{Wrote}
 use Rattle.base.proofs.Rest.{rest-at}
 use Rattle.base.proofs.ToCome.{ToCome, begun, gone-on, ended}
 use Rattle.decimal.specs.Writing.{wholeOf}
-use Rattle.decimal.proofs.Widths.{whole-length}
-use Rattle.decimal.proofs.Kilograms.{whole-short}
 use Rattle.mend_print.specs.Lines.{lineOf, linesOf, lineRoom, numberRoom}
-
-pub whole-text : (n : ℕ) → n < 2 ^ 64 → length (wholeOf n) ≤ 20
-whole-text n h = omega (arith, whole-length n, whole-short n h)
 
 pub line-is : (kind place : ℕ) → wholeOf kind ++ (44 ∷ []) ++ wholeOf place ++ (13 ∷ 10 ∷ []) ≡ lineOf kind place
 unfolding lineOf

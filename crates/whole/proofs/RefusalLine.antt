@@ -2,13 +2,9 @@
 -- Assumes nothing.
 use mathlib.Core.Path.{_≡_}
 use mathlib.Core.List.{[], _∷_, _++_}
-use Prim.Native.Nat.{ℕ, _≤_, _<_, _^_}
-use native.Mathlib.Omega.{arith}
-use lib.ListN.{length}
+use Prim.Native.Nat.{ℕ}
 use Rattle.base.specs.Text.{bytes}
 use Rattle.decimal.specs.Writing.{wholeOf}
-use Rattle.decimal.proofs.Widths.{whole-length}
-use Rattle.decimal.proofs.Kilograms.{whole-short}
 use Rattle.farm.specs.declared.Fault.{Fault}
 use Rattle.farm.specs.Refusals.{number}
 use Rattle.whole.specs.Lines.{refusalLine}
@@ -16,6 +12,3 @@ use Rattle.whole.specs.Lines.{refusalLine}
 pub refusal-is : (fault : Fault) (n r : ℕ) → n ≡ number fault → bytes "refused," ++ wholeOf n ++ (44 ∷ []) ++ wholeOf r ++ (13 ∷ 10 ∷ []) ≡ refusalLine fault r
 unfolding refusalLine
 refusal-is fault n r e = rw e
-
-pub whole-text : (n : ℕ) → n < 2 ^ 64 → length (wholeOf n) ≤ 20
-whole-text n h = omega (arith, whole-length n, whole-short n h)

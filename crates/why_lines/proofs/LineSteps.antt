@@ -1,15 +1,12 @@
 -- A reason's line: what its parts are as the code writes them, and that its numbers are short. Assumes nothing.
-use Prim.Native.Nat.{ℕ, _+_, _/_, _%_, _^_, _≤_, _<_}
+use Prim.Native.Nat.{ℕ, _+_, _/_, _%_, _≤_}
 use mathlib.Core.Path.{_≡_}
-use mathlib.Core.List.{List, [], _∷_, _++_}
+use mathlib.Core.List.{List, [], _∷_}
 use native.Mathlib.Omega.{arith}
-use lib.ListN.{length}
 use Rattle.base.specs.Text.{bytes}
 use Rattle.base.specs.Wrote.{Wrote}
 use Rattle.base.proofs.Writes.{joined, none}
 use Rattle.decimal.specs.Writing.{wholeOf}
-use Rattle.decimal.proofs.Widths.{whole-length}
-use Rattle.decimal.proofs.Kilograms.{whole-short}
 use Rattle.listing.specs.Listing.{labelField}
 use Rattle.reasons.specs.declared.Why.{Why}
 use Rattle.reasons.specs.declared.Told.{Told}
@@ -18,11 +15,7 @@ use Rattle.why_lines.specs.declared.Wording.{Wording}
 use Rattle.why_lines.specs.declared.Wording.the-variants.{Record, Sentence}
 use Rattle.why_lines.specs.Lines.{tenthsOf, reasonField, numbersOf, whyRecord, opening, middle, because}
 use Rattle.why_lines.specs.Lines.{daysWords, sharesWords, whySentence, whyText, toldText}
-use Rattle.why_lines.specs.Rooms.{longestWhole, longestLine}
-
--- a number of 64 bits
-pub whole-text : (n : ℕ) → n < 2 ^ 64 → length (wholeOf n) ≤ longestWhole
-whole-text n h = omega (arith, whole-length n, whole-short n h)
+use Rattle.why_lines.specs.Rooms.{longestLine}
 
 -- ---- part after part
 

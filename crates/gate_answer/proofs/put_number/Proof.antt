@@ -1,7 +1,7 @@
 -- `gate_answer::put_number` meets its contract: the number has at most 20 digits. Assumes nothing.
 use native.Mathlib.Omega.{arith}
 use Rattle.base.proofs.Writes.{joined}
-use Rattle.gate_answer.proofs.LineSteps.{whole-text}
+use Rattle.decimal.proofs.Kilograms.{whole-text}
 use borrow.Author.Needs.{needs}
 use Rattle.gate_answer.proofs.put_number.Statement.{statement}
 use Rattle.gate_answer.proofs.put_number.Tie as tie

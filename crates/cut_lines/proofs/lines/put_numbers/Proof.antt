@@ -5,7 +5,8 @@ use native.Mathlib.Omega.{arith}
 use lib.ListN.{length}
 use Rattle.base.proofs.Writes.{said, joined}
 use Rattle.decimal.specs.Writing.{wholeOf}
-use Rattle.cut_lines.proofs.LineByLine.{digits-most, numbers-are}
+use Rattle.decimal.proofs.Kilograms.{whole-text}
+use Rattle.cut_lines.proofs.LineByLine.{numbers-are}
 use borrow.Author.Needs.{needs}
 use Rattle.cut_lines.proofs.lines.put_numbers.Statement.{statement}
 use Rattle.cut_lines.proofs.lines.put_numbers.Tie as tie
@@ -14,10 +15,10 @@ abbrev begin : tie.After-put-whole → tie.Start
 begin a = a .before .before .before
 
 off : (s : tie.Start) → length (wholeOf (s .args .cut-off)) ≤ 20
-off s = digits-most (s .args .cut-off) (search needs)
+off s = whole-text (s .args .cut-off) (search needs)
 
 by : (s : tie.Start) → length (wholeOf (s .args .divisor)) ≤ 20
-by s = digits-most (s .args .divisor) (search needs)
+by s = whole-text (s .args .divisor) (search needs)
 
 put-whole-requires : tie.Need-put-whole-requires
 put-whole-requires c κs = omega (arith, off (c .before .before))

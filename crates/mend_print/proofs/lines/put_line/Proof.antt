@@ -5,7 +5,8 @@ use native.Mathlib.Omega.{arith}
 use lib.ListN.{length}
 use Rattle.decimal.specs.Writing.{wholeOf}
 use Rattle.base.proofs.Writes.{said, joined}
-use Rattle.mend_print.proofs.LineSteps.{whole-text, line-is}
+use Rattle.decimal.proofs.Kilograms.{whole-text}
+use Rattle.mend_print.proofs.LineSteps.{line-is}
 use borrow.Author.Needs.{needs}
 use Rattle.mend_print.proofs.lines.put_line.Statement.{statement}
 use Rattle.mend_print.proofs.lines.put_line.Tie as tie

@@ -2,7 +2,8 @@
 -- Assumes nothing.
 use native.Mathlib.Omega.{arith}
 use Rattle.base.proofs.Writes.{said, joined}
-use Rattle.whole.proofs.RefusalLine.{refusal-is, whole-text}
+use Rattle.decimal.proofs.Kilograms.{whole-text}
+use Rattle.whole.proofs.RefusalLine.{refusal-is}
 use borrow.Author.Needs.{needs}
 use Rattle.whole.proofs.refusals.put_refusal.Statement.{statement}
 use Rattle.whole.proofs.refusals.put_refusal.Tie as tie
