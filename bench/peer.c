@@ -15,14 +15,15 @@ enum { FILE_MOST = 65536, HERDS_MOST = 64, SLOTS = 9, LABEL_MOST = 16 };
 
 // ---- the farm
 
-enum kind { ROUGHAGE, CATTLE, PIGS };
+enum kind { ROUGHAGE, CATTLE, PIGS, DAIRY };
 
-// The slots of each kind, in the order of 01's list. LEFT is what the free factor leaves, in percent: 100 less it.
+// The slots of each kind, in the order of 01's list; dairy cows have those of cattle. LEFT is what the free factor leaves, in percent: 100
+// less it.
 enum { R_CATEGORY, R_ANIMALS, R_EXCRETION, R_TAN, R_LEFT, R_DAYS, R_HOURS };
 enum { C_ANIMALS, C_EXCRETION, C_TAN, C_YARD_DAYS, C_YARD, C_FLOOR, C_LEFT, C_DAYS, C_HOURS };
 enum { P_ANIMALS, P_EXCRETION, P_TAN, P_HOUSING, P_SCRUBBER, P_FLOOR, P_AIR, P_LEFT };
 
-static const uint16_t all_given[] = {0x7f, 0x1ff, 0xff};
+static const uint16_t all_given[] = {0x7f, 0x1ff, 0xff, 0x1ff};
 
 static const uint32_t STANDARD = UINT32_MAX;
 
@@ -79,9 +80,18 @@ static const struct input inputs[] = {
     {PIGS, P_FLOOR, HOUSING_FLOOR, 0, 0},
     {PIGS, P_AIR, HOUSING_AIR, 0, 0},
     {PIGS, P_LEFT, FREE, 0, 100},
+    {DAIRY, C_ANIMALS, NUMBER, 0, 10000},
+    {DAIRY, C_EXCRETION, NO_STANDARD, 3, 200000},
+    {DAIRY, C_TAN, OR_STANDARD, 2, 10000},
+    {DAIRY, C_YARD_DAYS, NUMBER, 0, 365},
+    {DAIRY, C_YARD, YARD, 0, 0},
+    {DAIRY, C_FLOOR, FLOOR, 0, 0},
+    {DAIRY, C_LEFT, FREE, 0, 100},
+    {DAIRY, C_DAYS, NUMBER, 0, 365},
+    {DAIRY, C_HOURS, NUMBER, 1, 240},
 };
 
-enum { AT_ROUGHAGE = 0, AT_CATTLE = 7, AT_PIGS = 16 };
+enum { AT_ROUGHAGE = 0, AT_CATTLE = 7, AT_PIGS = 16, AT_DAIRY = 24 };
 
 struct text {
     const uint8_t *at;
@@ -152,6 +162,8 @@ static int find_input(struct text path, struct text name) {
     case 33: return IS(path, "Livestock::OtherCattle::Excretion") ? offset(excretion_input(name), AT_CATTLE) : -1;
     case 31: return IS(path, "Livestock::OtherCattle::Outdoor") ? offset(outdoor_input(name), AT_CATTLE) : -1;
     case 35: return IS(path, "Livestock::FatteningPigs::Excretion") ? offset(excretion_input(name), AT_PIGS) : -1;
+    case 30: return IS(path, "Livestock::DairyCow::Excretion") ? offset(excretion_input(name), AT_DAIRY) : -1;
+    case 28: return IS(path, "Livestock::DairyCow::Outdoor") ? offset(outdoor_input(name), AT_DAIRY) : -1;
     default: return -1;
     }
 }
@@ -489,8 +501,12 @@ static uint64_t yard_factor(const uint32_t *v) {
     return at_most(100000, 7ull * floor_hundredths[v[C_FLOOR]] * v[C_LEFT]);
 }
 
-static void cattle(const uint32_t *v, struct figures *f) {
-    uint64_t n = (uint64_t)v[C_ANIMALS] * v[C_EXCRETION], tan = n * v[C_TAN] / 10000;
+// TAN's share in ten-thousandths. Dairy cows alone have a standard here (2.2).
+static uint64_t tan_with_yard(const uint32_t *v) { return v[C_TAN] == STANDARD ? 5500 : v[C_TAN]; }
+
+// Cattle and dairy cows: their rules are the same (2.18 to 2.20, 2.33 to 2.35).
+static void with_yard(const uint32_t *v, struct figures *f) {
+    uint64_t n = (uint64_t)v[C_ANIMALS] * v[C_EXCRETION], tan = n * tan_with_yard(v) / 10000;
     uint64_t days = v[C_DAYS], yard_days = v[C_YARD_DAYS];
     uint64_t both = days + yard_days > 365 ? days + yard_days - 365 : 0;
     uint64_t share = yard_tenths[v[C_YARD]], share_on_both = share > 2 ? 2 : share;
@@ -564,8 +580,8 @@ static void pigs(const uint32_t *v, struct figures *f) {
 static void figures_of(const struct herd *herd, struct figures *f) {
     switch (herd->kind) {
     case ROUGHAGE: roughage(herd->values, f); break;
-    case CATTLE: cattle(herd->values, f); break;
-    default: pigs(herd->values, f);
+    case PIGS: pigs(herd->values, f); break;
+    default: with_yard(herd->values, f);
     }
 }
 
@@ -659,17 +675,27 @@ static uint8_t *list_roughage(uint8_t *out, const uint8_t *label, size_t length,
     return out;
 }
 
+#define WITH_YARD(kind)                                                          \
+    do {                                                                         \
+        LINE("," kind "::Excretion,n_excretion,", f->n);                         \
+        LINE("," kind "::Excretion,tan_excretion,", f->tan);                     \
+        LINE("," kind "::Yard,n_into_yard,", f->n_yard);                         \
+        LINE("," kind "::Yard,tan_into_yard,", f->tan_yard);                     \
+        LINE("," kind "::Yard,nh3_nyard,", f->nh3_yard);                         \
+        LINE("," kind "::Yard,n_outyard_liquid,", f->n_yard - f->nh3_yard);      \
+        LINE("," kind "::Yard,tan_outyard_liquid,", f->tan_yard - f->nh3_yard);  \
+        GRAZING(kind "::Grazing");                                               \
+        LINE("," kind "::Housing,n_into_housing,", f->n_housing);                \
+        LINE("," kind "::Housing,tan_into_housing,", f->tan_housing);            \
+    } while (0)
+
 static uint8_t *list_cattle(uint8_t *out, const uint8_t *label, size_t length, const struct figures *f) {
-    LINE(",Livestock::OtherCattle::Excretion,n_excretion,", f->n);
-    LINE(",Livestock::OtherCattle::Excretion,tan_excretion,", f->tan);
-    LINE(",Livestock::OtherCattle::Yard,n_into_yard,", f->n_yard);
-    LINE(",Livestock::OtherCattle::Yard,tan_into_yard,", f->tan_yard);
-    LINE(",Livestock::OtherCattle::Yard,nh3_nyard,", f->nh3_yard);
-    LINE(",Livestock::OtherCattle::Yard,n_outyard_liquid,", f->n_yard - f->nh3_yard);
-    LINE(",Livestock::OtherCattle::Yard,tan_outyard_liquid,", f->tan_yard - f->nh3_yard);
-    GRAZING("Livestock::OtherCattle::Grazing");
-    LINE(",Livestock::OtherCattle::Housing,n_into_housing,", f->n_housing);
-    LINE(",Livestock::OtherCattle::Housing,tan_into_housing,", f->tan_housing);
+    WITH_YARD("Livestock::OtherCattle");
+    return out;
+}
+
+static uint8_t *list_dairy(uint8_t *out, const uint8_t *label, size_t length, const struct figures *f) {
+    WITH_YARD("Livestock::DairyCow");
     return out;
 }
 
@@ -714,7 +740,8 @@ static __attribute__((noinline)) uint8_t *list_herd(uint8_t *out, const struct h
     switch (herd->kind) {
     case ROUGHAGE: return list_roughage(out, label, length, &f);
     case CATTLE: return list_cattle(out, label, length, &f);
-    default: return list_pigs(out, label, length, herd->values, &f);
+    case PIGS: return list_pigs(out, label, length, herd->values, &f);
+    default: return list_dairy(out, label, length, &f);
     }
 }
 
@@ -755,6 +782,12 @@ static __attribute__((noinline)) uint8_t *list_totals(uint8_t *out, const struct
 
 // ---- the notes, the cuts and the reasons, which the vectors have and the benchmark does not time
 
+static int has_yard(const struct herd *herd) { return herd->kind == CATTLE || herd->kind == DAIRY; }
+
+static int n_is_off(uint64_t n, uint64_t standard) { return n * 10 < standard * 7 || n * 10 > standard * 13; }
+
+static int tan_is_off(uint64_t tan, uint64_t standard) { return tan + 2000 < standard || tan > standard + 2000; }
+
 static uint8_t *put_notes(uint8_t *out, const struct herd *herd) {
     static const char *const words[] = {"no", "yes"};
     const uint32_t *v = herd->values;
@@ -763,12 +796,13 @@ static uint8_t *put_notes(uint8_t *out, const struct herd *herd) {
     size_t length = printed_label(herd, label);
     if (herd->kind == ROUGHAGE) {
         uint64_t standard = standards[v[R_CATEGORY]], n = v[R_EXCRETION] == STANDARD ? standard : v[R_EXCRETION];
-        uint64_t tan = v[R_TAN] == STANDARD ? 4000 : v[R_TAN];
-        n_off = n * 10 < standard * 7 || n * 10 > standard * 13;
-        tan_off = tan < 2000 || tan > 6000;
+        n_off = n_is_off(n, standard);
+        tan_off = tan_is_off(v[R_TAN] == STANDARD ? 4000 : v[R_TAN], 4000);
         free_factor = v[R_LEFT] != 100;
         above = housing_rate_before(v[R_DAYS], v[R_HOURS], v[R_LEFT]) > 1000000000;
-    } else if (herd->kind == CATTLE) {
+    } else if (has_yard(herd)) {
+        n_off = herd->kind == DAIRY && n_is_off(v[C_EXCRETION], 112000);
+        tan_off = herd->kind == DAIRY && tan_is_off(tan_with_yard(v), 5500);
         free_factor = v[C_LEFT] != 100;
         lowered = v[C_DAYS] + v[C_YARD_DAYS] > 365 && yard_tenths[v[C_YARD]] > 2;
     } else {
@@ -784,7 +818,8 @@ static uint8_t *put_notes(uint8_t *out, const struct herd *herd) {
                    (unsigned long long)((uint64_t)(dividend) % (divisor)), (unsigned long long)(divisor))
 
 static uint8_t *put_cuts(uint8_t *out, const struct herd *herd) {
-    static const char *const kinds[] = {[ROUGHAGE] = "RoughageConsuming", [CATTLE] = "OtherCattle", [PIGS] = "FatteningPigs"};
+    static const char *const kinds[] = {
+        [ROUGHAGE] = "RoughageConsuming", [CATTLE] = "OtherCattle", [PIGS] = "FatteningPigs", [DAIRY] = "DairyCow"};
     const char *kind = kinds[herd->kind];
     const uint32_t *v = herd->values;
     const uint64_t one = 1000000000;
@@ -800,10 +835,10 @@ static uint8_t *put_cuts(uint8_t *out, const struct herd *herd) {
         nh3 = 1250;
         n2o = 100;
     } else {
-        fraction = herd->kind == CATTLE ? v[C_TAN] : v[P_TAN];
+        fraction = has_yard(herd) ? tan_with_yard(v) : v[P_TAN];
     }
     CUT("Excretion,tan_excretion", f.n * fraction, 10000);
-    if (herd->kind == CATTLE) {
+    if (has_yard(herd)) {
         uint64_t days = v[C_DAYS], yard_days = v[C_YARD_DAYS], both = days + yard_days > 365 ? days + yard_days - 365 : 0;
         uint64_t share = yard_tenths[v[C_YARD]], on_both = share > 2 ? 2 : share;
         uint64_t yard = share * (yard_days - both) + on_both * both;
@@ -927,7 +962,7 @@ static struct why why_of(const struct herd *herd) {
 
 static uint8_t *put_why(uint8_t *out, const struct herd *herd) {
     static const char *const words[] = {"no_such_days", "not_available", "as_chosen", "lowered"};
-    if (herd->kind != CATTLE) return out;
+    if (!has_yard(herd)) return out;
     uint8_t label[LABEL_ROOM];
     size_t length = printed_label(herd, label);
     struct why w = why_of(herd);
@@ -939,7 +974,7 @@ static uint8_t *put_why_in_words(uint8_t *out, const struct herd *herd) {
     static const char *const goes_on[] = {"since there is no such day and the chosen share stays",
                                           "since no yard is available and the chosen share is", "the same as the chosen share of",
                                           "lowered from the chosen share of"};
-    if (herd->kind != CATTLE) return out;
+    if (!has_yard(herd)) return out;
     uint8_t label[LABEL_ROOM];
     size_t length = printed_label(herd, label);
     struct why w = why_of(herd);

@@ -11,24 +11,27 @@ from pathlib import Path
 import damage
 import faults
 from arithmetic import BILLION, CUTS
-from dice import Dice
 from farmfile import RECORD_END
-from farms import as_record, file_of, herd_lines, line_for, new_labels, quoted, written
+from farms import FIRST_KINDS, FarmDice, as_record, file_of, herd_lines, line_for, new_labels, quoted, written
 from inputs import (
     CATTLE,
+    DAIRY_COWS,
     EXCRETION_NUMBERS,
     FREE_FACTOR,
     HOURS,
     KINDS,
+    KINDS_WITH_A_YARD,
     PIGS,
     ROUGHAGE,
     STANDARD,
     Number,
+    module_path,
 )
 from model import HOURS_A_YEAR, c_grazing, housing_nh3_rate, k_grazing
 from reading import LONGEST_LABEL, MOST_BYTES, MOST_HERDS
 from values import (
     AIR_SCRUBBERS,
+    DAIRY_STANDARD_KILOGRAMS,
     DAYS_A_YEAR,
     FLOOR_REDUCTIONS,
     GRAMS_A_KILOGRAM,
@@ -45,19 +48,23 @@ RANDOM_FILES = 600
 FILES_A_PAIR = 3
 PAST_THE_LAST_HERD_FILES = 40
 TOO_LONG_FILES = 16
+# The throws that have dairy cows too.
+SEED_WITH_COWS = 20241103
+RANDOM_FILES_WITH_COWS = 120
 
 # One herd of each kind to spoil.
 EXAMPLES = {
     ROUGHAGE: ("red_deer", "25", "40.5", STANDARD, "10", "180", "12.5"),
     CATTLE: ("12", "55.125", "60.25", "200", "not_available", "solid_floor", "0", "200", "8"),
     PIGS: ("10", "13", "70", "Outdoor", "none", "none", "none", "0"),
+    DAIRY_COWS: ("40", "105.5", STANDARD, "250", "not_available", "unpaved_floor", "0", "180", "6.5"),
 }
 
 # Animals, kilograms a head and TAN in percent of the largest herd; all its N is TAN.
 LARGEST = tuple(str(listed.values.most) for listed in EXCRETION_NUMBERS)
 LARGEST_TAN = int(LARGEST[0]) * int(LARGEST[1]) * GRAMS_A_KILOGRAM
 
-_, NOT_SUPPLIED, PARTLY, _ = YARD_SHARES
+_, NOT_SUPPLIED, PARTLY, EXCLUSIVELY = YARD_SHARES
 
 WORDS_FOR_STANDARD = ("standard", "STANDARD", "Standard", "sTANDARd", "standarD")
 
@@ -168,7 +175,7 @@ def every_byte():
 
 
 def spoilt_values():
-    for kind in KINDS:
+    for kind in FIRST_KINDS:
         for place, listed in enumerate(kind.inputs):
             for text in faults.bad_values(listed):
                 yield changed(kind, place, text=text)
@@ -191,13 +198,20 @@ def accepted_texts(kind, listed):
         texts += [f"0.{zeros}", f"0.{one}", f"1.{zeros}", f"{most - 1}.{nines}", f"{most}.{zeros}"]
     if listed.values.least < 0:
         texts += faults.BELOW_ZERO
-    if kind.takes_standard and listed.has_standard:
+    if kind.takes_standard(listed):
         texts += WORDS_FOR_STANDARD
     return texts
 
 
+def bent_names(kind, place):
+    for bend in faults.BENT_NAMES:
+        line = example_lines(kind)[place]
+        module, name = bend(line.module, line.name)
+        yield changed(kind, place, module=module, name=name)
+
+
 def spoilt_records():
-    for kind in KINDS:
+    for kind in FIRST_KINDS:
         last = len(kind.inputs) - 1
         for place in (0, last):
             for label in faults.BAD_LABELS:
@@ -206,10 +220,7 @@ def spoilt_records():
                 yield changed(kind, place, write=faults.counting(change))
             for end in faults.END_BREAKS:
                 yield changed(kind, place, write=faults.breaking_end(end))
-            for bend in faults.BENT_NAMES:
-                line = example_lines(kind)[place]
-                module, name = bend(line.module, line.name)
-                yield changed(kind, place, module=module, name=name)
+            yield from bent_names(kind, place)
     for module, name in faults.UNLISTED:
         yield changed(PIGS, 1, module=module, name=name)
     for spoil in faults.FIELD_BREAKS:
@@ -218,14 +229,25 @@ def spoilt_records():
             yield changed(PIGS, len(PIGS.inputs) - 1, write=faults.breaking_field(spoil, field))
 
 
+def spoilt_cows():
+    """What hangs on the inputs of dairy cows: their ranges, modules and names."""
+    for place, listed in enumerate(DAIRY_COWS.inputs):
+        for text in faults.bad_for_its_rule(listed):
+            yield changed(DAIRY_COWS, place, text=text)
+    for place in (0, len(DAIRY_COWS.inputs) - 1):
+        yield from bent_names(DAIRY_COWS, place)
+    for module, name in faults.UNLISTED_OF_DAIRY_COWS:
+        yield changed(DAIRY_COWS, 1, module=module, name=name)
+
+
 def forbidden_standards():
-    for kind in (CATTLE, PIGS):
-        for place, listed in enumerate(kind.inputs):
-            if listed.has_standard:
-                for word in WORDS_FOR_STANDARD:
-                    yield changed(kind, place, text=word)
-                    yield changed(kind, place, text=word, module="x")
-                    yield changed(kind, place, text=word, label="")
+    for kind in KINDS:
+        for listed in kind.refused_standards():
+            place = kind.inputs.index(listed)
+            for word in WORDS_FOR_STANDARD:
+                yield changed(kind, place, text=word)
+                yield changed(kind, place, text=word, module="x")
+                yield changed(kind, place, text=word, label="")
 
 
 def missing_inputs():
@@ -246,6 +268,10 @@ def torn_and_mixed_herds():
         for place in range(len(herd)):
             yield file_of(herd[: place + 1] + guest[:1] + herd[place + 1 :])
             yield file_of(herd + [guest[place % len(guest)]] + between[1:])
+    yield changed(PIGS, 1, module=module_path(DAIRY_COWS, "Excretion"), name="animals")
+    for kind, other in itertools.permutations(KINDS_WITH_A_YARD):
+        for place, listed in enumerate(kind.inputs):
+            yield changed(kind, place, module=module_path(other, listed.module))
 
 
 def labels():
@@ -345,7 +371,7 @@ def either_side_of_the_ceiling():
     )
 
 
-def every_yard():
+def every_yard(kind):
     """Each exercise yard on each floor, with no, one and many days of pasture besides."""
     year = DAYS_A_YEAR
     grazing_and_yard = (
@@ -354,14 +380,14 @@ def every_yard():
     )  # fmt: skip
     yards = itertools.product(YARD_SHARES, FLOOR_REDUCTIONS, grazing_and_yard)
     yield from in_farms(
-        CATTLE,
+        kind,
         (
             ("7", "99.999", "61.37", str(yard), share, floor, "3", str(grazing), str(i % 25))
             for i, (share, floor, (grazing, yard)) in enumerate(yards)
         ),
     )
     five_grams = ("1", "0.005", "100", str(year), NOT_SUPPLIED, "solid_floor", "0", str(year), "24")
-    yield from in_farms(CATTLE, [five_grams])
+    yield from in_farms(kind, [five_grams])
 
 
 def every_pig_house():
@@ -391,15 +417,20 @@ def few_grams_of_pigs():
     )
 
 
+def beside_the_edges_of(standard):
+    """Kilograms a head where the note begins, below the standard and above it, and a gram to both sides."""
+    for edge in (LEAST_OF_STANDARD, MOST_OF_STANDARD):
+        for away in (-1, 0, 1):
+            grams = int(edge * standard * GRAMS_A_KILOGRAM) + away
+            yield f"{grams // GRAMS_A_KILOGRAM}.{grams % GRAMS_A_KILOGRAM:03}"
+
+
 def either_side_of_each_note():
     """N a head of each category, TAN and the free factor on both sides of where a note begins."""
     herds = []
     for category, standard in ROUGHAGE_STANDARD_KILOGRAMS.items():
-        for edge in (LEAST_OF_STANDARD, MOST_OF_STANDARD):
-            for away in (-1, 0, 1):
-                grams = int(edge * standard * GRAMS_A_KILOGRAM) + away
-                kilograms = f"{grams // GRAMS_A_KILOGRAM}.{grams % GRAMS_A_KILOGRAM:03}"
-                herds.append((category, "10", kilograms, STANDARD, "0", "200", "12"))
+        for kilograms in beside_the_edges_of(standard):
+            herds.append((category, "10", kilograms, STANDARD, "0", "200", "12"))
     for share in ("19.99", "20", "20.01", "29.99", "50.01", "59.99", "60", "60.01"):
         herds.append(("bison_older_than_3yr", "10", STANDARD, share, "0", "200", "12"))
     for free in ("0", "1", "-1"):
@@ -407,8 +438,30 @@ def either_side_of_each_note():
     yield from in_farms(ROUGHAGE, herds)
 
 
+def either_side_of_each_note_of_cows():
+    """The same of dairy cows, with the word for TAN in any letter case, and the yard's share lowered or not."""
+    outdoors = ("165", EXCLUSIVELY, "solid_floor", "0", "200", "12")
+    shares = ("34.99", "35", "35.01", "54.99", "55", "55.01", "74.99", "75", "75.01", *WORDS_FOR_STANDARD)
+    herds = [("10", kilograms, STANDARD, *outdoors) for kilograms in beside_the_edges_of(DAIRY_STANDARD_KILOGRAMS)]
+    herds += [("10", "112", share, *outdoors) for share in shares]
+    herds += [("10", "78.399", "75.01", "166", yard, "solid_floor", "-1", "200", "12") for yard in YARD_SHARES]
+    yield from in_farms(DAIRY_COWS, herds)
+
+
+def cattle_and_cows():
+    """The same herd under both kinds, side by side, over the range of the free factor and past the yard's ceiling."""
+    sizes = itertools.cycle((LARGEST, ("9999", "199.999", "99.99"), ("1", "0.009", "100"), ("37", "112", "55")))
+    frees = (*range(FREE_FACTOR.least, FREE_FACTOR.most + 1, 10), -43, -42, -1, 1)
+    lines = []
+    for free, size in zip(frees, sizes):
+        texts = (*size, "211", PARTLY, "solid_floor", str(free), "180", "8.7")
+        for kind, name in zip(KINDS_WITH_A_YARD, ("cattle", "cows")):
+            lines += lines_of(kind, f"{name} {free}", texts)
+    yield file_of(lines)
+
+
 def many_herds(dice):
-    for kind in KINDS:
+    for kind in dice.kinds:
         names = new_labels(dice, MOST_HERDS + 1)
         full = [line for label in names for line in herd_lines(dice, label, kind)]
         yield written(dice, full[: -len(kind.inputs)])
@@ -452,7 +505,7 @@ def examples():
 
 def every_file():
     """All files of the pack, in order."""
-    dice = Dice(SEED)
+    dice, dice_with_cows = FarmDice(SEED, FIRST_KINDS), FarmDice(SEED_WITH_COWS)
     yield from examples()
     yield from edge_files()
     yield from every_byte()
@@ -466,7 +519,7 @@ def every_file():
     yield from every_tenth_of_an_hour()
     yield from every_free_factor()
     yield from either_side_of_the_ceiling()
-    yield from every_yard()
+    yield from every_yard(CATTLE)
     yield from every_pig_house()
     yield from few_grams_of_pigs()
     yield from either_side_of_each_note()
@@ -475,3 +528,9 @@ def every_file():
     yield from longest_files(dice)
     for _ in range(RANDOM_FILES):
         yield damage.random_file(dice)
+    yield from spoilt_cows()
+    yield from every_yard(DAIRY_COWS)
+    yield from either_side_of_each_note_of_cows()
+    yield from cattle_and_cows()
+    for _ in range(RANDOM_FILES_WITH_COWS):
+        yield damage.random_file(dice_with_cows)

@@ -13,10 +13,12 @@ from math import floor
 
 import values
 from arithmetic import BILLION, CUTS, EXACT
-from inputs import CATTLE, PIGS, ROUGHAGE
+from inputs import CATTLE, DAIRY_COWS, PIGS, ROUGHAGE
 from model import (
+    DAIRY_STANDARDS,
     HOURS_A_YEAR,
     c_grazing,
+    entered_tan_share,
     figures,
     housing_nh3_rate,
     k_grazing,
@@ -25,13 +27,14 @@ from model import (
     pig_factors,
     pig_house,
     red_air_scrubber,
+    roughage_standards,
     scrubbed_share,
     share_into_pasture,
     share_into_yard,
     tan_share,
     yard_factor,
 )
-from values import DAYS_A_YEAR, HOURS_A_DAY, PERCENT
+from values import DAYS_A_YEAR, HOURS_A_DAY
 
 TENTHS = 10
 HUNDREDTHS = 100
@@ -39,7 +42,7 @@ THOUSANDTHS = 1000
 TEN_THOUSANDTHS = 10_000
 DAY = HOURS_A_DAY * TENTHS
 INTO_YARD = TENTHS * DAYS_A_YEAR
-CATTLE_INTO_PASTURE = DAY * TENTHS * DAYS_A_YEAR
+INTO_PASTURE_WITH_A_YARD = DAY * TENTHS * DAYS_A_YEAR
 ROUGHAGE_INTO_PASTURE = DAY * DAYS_A_YEAR
 YARD_NH3 = TEN_THOUSANDTHS * HUNDREDTHS * HUNDREDTHS
 
@@ -74,7 +77,7 @@ def roughage(given, worked):
     days, hours = given["grazing_days"], given["grazing_hours"]
     outdoors = hours / HOURS_A_DAY * days / DAYS_A_YEAR
     return [
-        excretion(worked, tan_share(given)),
+        excretion(worked, tan_share(given, roughage_standards(given))),
         *into("Grazing", "grazing", worked, outdoors, ROUGHAGE_INTO_PASTURE),
         *gases(worked, values.ROUGHAGE_PASTURE),
         *housing(days, hours, left_by_free_factor(given), worked),
@@ -82,19 +85,27 @@ def roughage(given, worked):
 
 
 def cattle(given, worked):
+    return with_a_yard(given, worked, entered_tan_share(given), values.CATTLE_PASTURE)
+
+
+def dairy_cows(given, worked):
+    return with_a_yard(given, worked, tan_share(given, DAIRY_STANDARDS), values.DAIRY_PASTURE)
+
+
+def with_a_yard(given, worked, share, rates):
     return [
-        excretion(worked, given["tan_fraction"] * PERCENT),
+        excretion(worked, share),
         *into("Yard", "yard", worked, share_into_yard(given), INTO_YARD),
         Cut("Yard", "nh3_nyard", worked["tan_into_yard"] * yard_factor(given), YARD_NH3),
-        *into("Grazing", "grazing", worked, share_into_pasture(given), CATTLE_INTO_PASTURE),
-        *gases(worked, values.CATTLE_PASTURE),
+        *into("Grazing", "grazing", worked, share_into_pasture(given), INTO_PASTURE_WITH_A_YARD),
+        *gases(worked, rates),
     ]
 
 
 def pigs(given, worked):
     """What they put on pasture is all or nothing, and no cut."""
     return [
-        excretion(worked, given["tan_fraction"] * PERCENT),
+        excretion(worked, entered_tan_share(given)),
         *gases(worked, values.PIG_PASTURE),
         *pig_factor_cuts(given),
         *pig_ammonia_cuts(given, worked),
@@ -102,7 +113,7 @@ def pigs(given, worked):
     ]
 
 
-CUTS_OF_KIND = {ROUGHAGE: roughage, CATTLE: cattle, PIGS: pigs}
+CUTS_OF_KIND = {ROUGHAGE: roughage, CATTLE: cattle, PIGS: pigs, DAIRY_COWS: dairy_cows}
 
 
 def excretion(worked, share):

@@ -28,7 +28,7 @@ from faults import (
     breaking_field,
     counting,
 )
-from inputs import CATTLE, KINDS, LISTED, PIGS, STANDARD, module_path
+from inputs import LISTED, PIGS, STANDARD, module_path
 from reading import MOST_BYTES, MOST_HERDS
 
 # Spoiling a line of a farm: each changes the line that it is given.
@@ -61,7 +61,7 @@ def spoil_name(dice, lines, line):
 
 
 def forbidden_standard(dice, lines, line):
-    listed = dice.pick([listed for listed in line.kind.inputs if listed.has_standard])
+    listed = dice.pick(line.kind.refused_standards())
     line.module, line.name = module_path(line.kind, listed.module), listed.name
     line.text = odd_case(dice, STANDARD)
 
@@ -76,7 +76,7 @@ def label_of_earlier_herd(dice, lines, line):
 
 
 def other_kind(dice, lines, line):
-    kind = dice.pick([kind for kind in KINDS if kind is not line.kind])
+    kind = dice.pick([kind for kind in dice.kinds if kind is not line.kind])
     shared = [listed for listed in kind.inputs if listed.name == line.name]
     listed = shared[0] if shared and dice.one_in(2) else dice.pick(kind.inputs)
     line.module, line.name = module_path(kind, listed.module), listed.name
@@ -114,11 +114,11 @@ FAULTS_OF_FIRST_RECORDS = (2, 3, 4, 5, 6, 7, 8)
 
 
 def spot(dice, lines):
-    """A line where each fault can be put: later in a herd of cattle or pigs, not the first herd."""
+    """A line where each fault can be put: later in a herd that is not roughage, not the first herd."""
     fit = [
         line
         for line in lines
-        if not line.kind.takes_standard
+        if line.kind.refused_standards()
         and line.label != lines[0].label
         and line is not herd_of(lines, line)[0]
     ]
@@ -169,8 +169,9 @@ def put_fault(dice, lines, line, number):
 def short_herds(dice, count):
     """Herds of one record each: enough to count them, short of inputs."""
     lines = []
+    kinds = [kind for kind in dice.kinds if kind.refused_standards()]
     for label in new_labels(dice, count):
-        kind = dice.pick((CATTLE, PIGS))
+        kind = dice.pick(kinds)
         listed = dice.pick([listed for listed in kind.inputs if listed.module == "Excretion"])
         lines.append(line_for(kind, label, listed, text_for(dice, kind, listed)))
     return lines

@@ -9,7 +9,7 @@ from arithmetic import CUTS
 from cases import edge_files, every_pig_house, every_yard, examples, lines_of
 from farmfile import RECORD_END
 from farms import file_of
-from inputs import CATTLE
+from inputs import CATTLE, KINDS_WITH_A_YARD
 from listing import EXCRETION, GRAZING, HOUSING_AMMONIA, INTO_HOUSING, PIG_GASES, PIG_HOUSING, YARD
 from model import figures
 from reading import Refused, read_farm
@@ -46,8 +46,9 @@ def doubles(file):
 
 
 def every_file():
-    yield file_of([line for i, given in enumerate(BELOW_ZERO) for line in lines_of(CATTLE, f"Below {i}", given)])
+    for kind in KINDS_WITH_A_YARD:
+        yield file_of([line for i, given in enumerate(BELOW_ZERO) for line in lines_of(kind, f"Below {i}", given)])
     yield from examples()
     yield from edge_files()
-    yield from every_yard()
+    yield from every_yard(CATTLE)
     yield from every_pig_house()

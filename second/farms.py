@@ -2,11 +2,22 @@
 
 from dataclasses import dataclass
 
+from dice import Dice
 from farmfile import COMMA, QUOTE, RECORD_END, SPECIAL
-from inputs import KINDS, MINUS, STANDARD, Number, module_path
+from inputs import CATTLE, KINDS, MINUS, PIGS, ROUGHAGE, STANDARD, Number, module_path
 from reading import LABEL_BYTES, LONGEST_LABEL
 
 LETTERS = sorted(LABEL_BYTES)
+# With these alone the throws come out as they did before there were dairy cows.
+FIRST_KINDS = (ROUGHAGE, CATTLE, PIGS)
+
+
+class FarmDice(Dice):
+    """Throws for farms whose herds are of some kinds."""
+
+    def __init__(self, seed, kinds=KINDS):
+        super().__init__(seed)
+        self.kinds = kinds
 
 
 def as_record(fields):
@@ -45,7 +56,7 @@ def odd_case(dice, word):
 
 
 def text_for(dice, kind, listed):
-    if kind.takes_standard and listed.has_standard and dice.one_in(3):
+    if kind.takes_standard(listed) and dice.one_in(3):
         return odd_case(dice, STANDARD)
     if isinstance(listed.values, Number):
         return number_text(dice, listed.values)
@@ -81,7 +92,7 @@ def farm_lines(dice, herds):
     return [
         line
         for label in new_labels(dice, herds)
-        for line in herd_lines(dice, label, dice.pick(KINDS))
+        for line in herd_lines(dice, label, dice.pick(dice.kinds))
     ]
 
 

@@ -2,7 +2,7 @@
 
 from farmfile import COMMA, QUOTE, RECORD_END
 from farms import as_record, quoted
-from inputs import CATTLE, MINUS, PIGS, ROUGHAGE, STANDARD, Number, module_path
+from inputs import CATTLE, DAIRY_COWS, MINUS, PIGS, ROUGHAGE, STANDARD, Number, module_path
 from reading import FIELDS_A_RECORD, LONGEST_LABEL
 
 BAD_LABELS = (
@@ -37,7 +37,7 @@ UNLISTED = (
     ("Livestock::", "animals"),
     ("Livestock", "n_excretion"),
     ("Excretion", "animals"),
-    ("Livestock::DairyCow::Excretion", "animals"),
+    ("Livestock::DairyCow", "animals"),
     ("Livestock::Pig::Excretion", "animals"),
     (module_path(CATTLE, "Excretion"), "animalcategory"),
     (module_path(CATTLE, "Excretion"), "dimensioning_barn"),
@@ -66,6 +66,32 @@ UNLISTED = (
     (module_path(ROUGHAGE, "Excretion"), "grazing_hours"),
     (module_path(ROUGHAGE, "Grazing"), "yard_days"),
     (module_path(ROUGHAGE, "Excretion"), "n_excretion_animal"),
+)
+
+# The same of dairy cows: names of 2.2 to 2.20 that are no inputs here, and modules mixed up.
+UNLISTED_OF_DAIRY_COWS = (
+    ("Livestock::DairyCows::Excretion", "animals"),
+    ("Livestock::Dairycow::Excretion", "animals"),
+    ("Livestock::Dairy::Outdoor", "yard_days"),
+    ("Livestock::OtherCattle::DairyCow::Excretion", "animals"),
+    (module_path(DAIRY_COWS, "Excretion"), "animalcategory"),
+    (module_path(DAIRY_COWS, "Excretion"), "dimensioning_barn"),
+    (module_path(DAIRY_COWS, "Excretion"), "n_excretion_animal"),
+    (module_path(DAIRY_COWS, "Excretion"), "tan_content"),
+    (module_path(DAIRY_COWS, "Excretion"), "yard_days"),
+    (module_path(DAIRY_COWS, "Excretion"), "free_correction_factor"),
+    (module_path(DAIRY_COWS, "Excretion::CMilk"), "milk_yield"),
+    (module_path(DAIRY_COWS, "Housing"), "free_correction_factor"),
+    (module_path(DAIRY_COWS, "Housing::CFreeFactor"), "free_correction_factor"),
+    (module_path(DAIRY_COWS, "Housing::Type"), "housing_type"),
+    (module_path(DAIRY_COWS, "Outdoor"), "animals"),
+    (module_path(DAIRY_COWS, "Outdoor"), "tan_fraction"),
+    (module_path(DAIRY_COWS, "Yard"), "yard_days"),
+    (module_path(DAIRY_COWS, "Yard"), "exercise_yard"),
+    (module_path(DAIRY_COWS, "Yard"), "free_correction_factor"),
+    (module_path(DAIRY_COWS, "Grazing"), "grazing_days"),
+    (module_path(DAIRY_COWS, "Grazing"), "grazing_hours"),
+    (module_path(DAIRY_COWS, "Grazing"), "n_into_grazing"),
 )
 
 # Ways of bending a listed pair so that it is listed no more.
@@ -194,8 +220,8 @@ NEARLY_STANDARD = (
 )
 
 
-def bad_numbers(rule):
-    """Texts that are no number of the rule, or one out of its range."""
+def out_of_range(rule):
+    """Numbers beyond the ends of the rule, or with more decimals than it takes."""
     digits = "0" * rule.decimals
     beyond = [str(rule.most + 1), f"{rule.most}0", f"{rule.most + 1}.{digits or '0'}"]
     too_fine = [f"1.{digits}0", f"0.{digits}1", f"{rule.most}.{digits}0"]
@@ -205,7 +231,7 @@ def bad_numbers(rule):
         below = [MINUS + text for text in (*beyond, *too_fine)]
     else:
         below = BELOW_ZERO
-    return (*BAD_NUMBERS, *beyond, *too_fine, *below)
+    return (*beyond, *too_fine, *below)
 
 
 def bad_names(names):
@@ -257,9 +283,15 @@ def bad_values(listed):
     """Texts that give refusal 7 for an input of any kind of herd."""
     if not isinstance(listed.values, Number):
         return bad_names(listed.values.names)
-    if listed.has_standard:
-        return (*bad_numbers(listed.values), *NEARLY_STANDARD)
-    return (*bad_numbers(listed.values), *NEARLY_STANDARD, STANDARD, "Standard")
+    return (*BAD_NUMBERS, *bad_for_its_rule(listed))
+
+
+def bad_for_its_rule(listed):
+    """Those that hang on the input's own range or names, and on its standard."""
+    if not isinstance(listed.values, Number):
+        return bad_names(listed.values.names)
+    words = NEARLY_STANDARD if listed.has_standard else (*NEARLY_STANDARD, STANDARD, "Standard")
+    return (*out_of_range(listed.values), *words)
 
 
 def bare(field):

@@ -1,4 +1,4 @@
-"""The inputs of the three kinds of herd: where they stand and what they may hold."""
+"""The inputs of each kind of herd: where they stand and what they may hold."""
 
 import re
 from dataclasses import dataclass
@@ -61,6 +61,8 @@ class OneOf:
 
 @dataclass(frozen=True)
 class Input:
+    """`has_standard` tells whether the word is known there, if only to be refused."""
+
     module: str
     name: str
     values: object
@@ -69,18 +71,22 @@ class Input:
 
 @dataclass(frozen=True, eq=False)
 class Kind:
-    """A kind of herd. `takes_standard` tells whether the word may replace a number."""
+    """A kind of herd. `standards` are the names of the inputs whose number the word may replace."""
 
     path: str
-    takes_standard: bool
     inputs: tuple
+    standards: frozenset = frozenset()
+
+    def takes_standard(self, listed):
+        return listed.name in self.standards
+
+    def refused_standards(self):
+        return [listed for listed in self.inputs if listed.has_standard and not self.takes_standard(listed)]
 
 
-EXCRETION_NUMBERS = (
-    Input("Excretion", "animals", Number(10000)),
-    Input("Excretion", "inp_n_excretion", Number(200, 3), has_standard=True),
-    Input("Excretion", "tan_fraction", Number(100, 2), has_standard=True),
-)
+N_A_HEAD = Input("Excretion", "inp_n_excretion", Number(200, 3), has_standard=True)
+TAN_FRACTION = Input("Excretion", "tan_fraction", Number(100, 2), has_standard=True)
+EXCRETION_NUMBERS = (Input("Excretion", "animals", Number(10000)), N_A_HEAD, TAN_FRACTION)
 DAYS = Number(values.DAYS_A_YEAR)
 HOURS = Number(values.HOURS_A_DAY, 1)
 FREE_FACTOR = Signed(100)
@@ -88,7 +94,6 @@ MITIGATION = "Housing::MitigationOptions"
 
 ROUGHAGE = Kind(
     "Livestock::RoughageConsuming",
-    True,
     (
         Input("Excretion", "animalcategory", OneOf(tuple(values.ROUGHAGE_STANDARD_KILOGRAMS))),
         *EXCRETION_NUMBERS,
@@ -96,23 +101,20 @@ ROUGHAGE = Kind(
         Input("Grazing", "grazing_days", DAYS),
         Input("Grazing", "grazing_hours", HOURS),
     ),
+    frozenset({N_A_HEAD.name, TAN_FRACTION.name}),
 )
-CATTLE = Kind(
-    "Livestock::OtherCattle",
-    False,
-    (
-        *EXCRETION_NUMBERS,
-        Input("Outdoor", "yard_days", DAYS),
-        Input("Outdoor", "exercise_yard", OneOf(tuple(values.YARD_SHARES))),
-        Input("Outdoor", "floor_properties_exercise_yard", OneOf(tuple(values.FLOOR_REDUCTIONS))),
-        Input("Outdoor", "free_correction_factor", FREE_FACTOR),
-        Input("Outdoor", "grazing_days", DAYS),
-        Input("Outdoor", "grazing_hours", HOURS),
-    ),
+CATTLE_INPUTS = (
+    *EXCRETION_NUMBERS,
+    Input("Outdoor", "yard_days", DAYS),
+    Input("Outdoor", "exercise_yard", OneOf(tuple(values.YARD_SHARES))),
+    Input("Outdoor", "floor_properties_exercise_yard", OneOf(tuple(values.FLOOR_REDUCTIONS))),
+    Input("Outdoor", "free_correction_factor", FREE_FACTOR),
+    Input("Outdoor", "grazing_days", DAYS),
+    Input("Outdoor", "grazing_hours", HOURS),
 )
+CATTLE = Kind("Livestock::OtherCattle", CATTLE_INPUTS)
 PIGS = Kind(
     "Livestock::FatteningPigs",
-    False,
     (
         *EXCRETION_NUMBERS,
         Input("Housing::Type", "housing_type", OneOf(tuple(values.PIG_HOUSES))),
@@ -122,7 +124,10 @@ PIGS = Kind(
         Input("Housing::CFreeFactor", "free_correction_factor", FREE_FACTOR),
     ),
 )
-KINDS = (ROUGHAGE, CATTLE, PIGS)
+# Request W9: a standard for N awaits milk yield and feed.
+DAIRY_COWS = Kind("Livestock::DairyCow", CATTLE_INPUTS, frozenset({TAN_FRACTION.name}))
+KINDS = (ROUGHAGE, CATTLE, PIGS, DAIRY_COWS)
+KINDS_WITH_A_YARD = (CATTLE, DAIRY_COWS)
 
 
 def module_path(kind, module):

@@ -1,7 +1,7 @@
 """Writing the figures, the notes, the cuts and the reasons down, in the order of the rules."""
 
 from farmfile import COMMA, QUOTE, RECORD_END
-from inputs import CATTLE, PIGS, ROUGHAGE, module_path
+from inputs import CATTLE, DAIRY_COWS, PIGS, ROUGHAGE, module_path
 from totals import TOTALS
 from values import GRAMS_A_KILOGRAM
 from why import fields, sentence
@@ -42,10 +42,12 @@ PIG_GASES = (
     ("n2_nsolid", "no_nsolid", "n2o_nsolid", "n2_nliquid", "no_nliquid", "n2o_nliquid"),
 )
 
+CATTLE_ORDER = (EXCRETION, YARD, GRAZING, INTO_HOUSING)
 HERD_ORDER = {
     ROUGHAGE: (EXCRETION, GRAZING, INTO_HOUSING, HOUSING_AMMONIA),
-    CATTLE: (EXCRETION, YARD, GRAZING, INTO_HOUSING),
+    CATTLE: CATTLE_ORDER,
     PIGS: (EXCRETION, GRAZING, INTO_HOUSING, PIG_HOUSING, PIG_GASES),
+    DAIRY_COWS: CATTLE_ORDER,
 }
 
 FARM_LABEL = ""

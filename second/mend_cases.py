@@ -3,8 +3,7 @@
 import itertools
 
 import damage
-from dice import Dice
-from farms import farm_file
+from farms import FIRST_KINDS, FarmDice, farm_file
 from mend import CR, LF, MARK, QUOTE
 
 SEED = 20221106
@@ -65,7 +64,7 @@ def random_mix(dice):
 
 def every_file():
     """All files of the pack, in order."""
-    dice = Dice(SEED)
+    dice = FarmDice(SEED, FIRST_KINDS)
     yield from NAMED
     yield from mixes()
     for _ in range(FARMS):

@@ -11,7 +11,7 @@ from typing import NamedTuple
 
 import values
 from arithmetic import CUTS
-from inputs import CATTLE, PIGS, ROUGHAGE, STANDARD
+from inputs import CATTLE, DAIRY_COWS, KINDS_WITH_A_YARD, PIGS, ROUGHAGE, STANDARD
 from values import DAYS_A_YEAR, HOURS_A_DAY, PERCENT
 
 LAST_TERM_OF_SERIES = 20
@@ -24,7 +24,8 @@ def figures(herd, sums):
 
 
 def roughage(given, sums):
-    excreted = excretion(given, kilograms_a_head(given), tan_share(given), sums)
+    standards = roughage_standards(given)
+    excreted = excretion(given, kilograms_a_head(given, standards), tan_share(given, standards), sums)
     outdoors = given["grazing_hours"] / HOURS_A_DAY * given["grazing_days"] / DAYS_A_YEAR
     grazed = into_grazing(excreted, outdoors, sums)
     housed = into_housing(excreted, grazed)
@@ -38,7 +39,15 @@ def roughage(given, sums):
 
 
 def cattle(given, sums):
-    excreted = excretion(given, given["inp_n_excretion"], given["tan_fraction"] * PERCENT, sums)
+    return with_a_yard(given, entered_tan_share(given), values.CATTLE_PASTURE, sums)
+
+
+def dairy_cows(given, sums):
+    return with_a_yard(given, tan_share(given, DAIRY_STANDARDS), values.DAIRY_PASTURE, sums)
+
+
+def with_a_yard(given, share, rates, sums):
+    excreted = excretion(given, given["inp_n_excretion"], share, sums)
     yarded = into_yard(excreted, share_into_yard(given), sums)
     grazed = into_grazing(excreted, share_into_pasture(given), sums)
     return {
@@ -46,13 +55,13 @@ def cattle(given, sums):
         **yarded,
         **yard_ammonia(given, yarded, sums),
         **grazed,
-        **pasture(grazed, values.CATTLE_PASTURE, sums),
+        **pasture(grazed, rates, sums),
         **into_housing(excreted, grazed, yarded),
     }
 
 
 def pigs(given, sums):
-    excreted = excretion(given, given["inp_n_excretion"], given["tan_fraction"] * PERCENT, sums)
+    excreted = excretion(given, given["inp_n_excretion"], entered_tan_share(given), sums)
     outdoors = Fraction(given["housing_type"] == values.OUTDOOR)
     grazed = into_grazing(excreted, outdoors, sums)
     housed = into_housing(excreted, grazed)
@@ -66,10 +75,10 @@ def pigs(given, sums):
     }
 
 
-FIGURES_OF_KIND = {ROUGHAGE: roughage, CATTLE: cattle, PIGS: pigs}
+FIGURES_OF_KIND = {ROUGHAGE: roughage, CATTLE: cattle, PIGS: pigs, DAIRY_COWS: dairy_cows}
 
 
-# Excretion (2.22, 2.50, 2.84)
+# Excretion (2.2, 2.22, 2.50, 2.84)
 
 
 def excretion(given, kilograms, share, sums):
@@ -77,21 +86,35 @@ def excretion(given, kilograms, share, sums):
     return {"n_excretion": n, "tan_excretion": sums.grams(n * share)}
 
 
-def standard_kilograms(given):
-    return values.ROUGHAGE_STANDARD_KILOGRAMS[given["animalcategory"]]
+class Standards(NamedTuple):
+    """Kilograms of N a head, and TAN's share of it."""
+
+    kilograms: Fraction
+    tan_share: Fraction
 
 
-def kilograms_a_head(given):
+def roughage_standards(given):
+    kilograms = values.ROUGHAGE_STANDARD_KILOGRAMS[given["animalcategory"]]
+    return Standards(kilograms, values.ROUGHAGE_STANDARD_TAN_SHARE)
+
+
+DAIRY_STANDARDS = Standards(values.DAIRY_STANDARD_KILOGRAMS, values.DAIRY_STANDARD_TAN_SHARE)
+
+
+def kilograms_a_head(given, standards):
     entered = given["inp_n_excretion"]
-    return standard_kilograms(given) if entered == STANDARD else entered
+    return standards.kilograms if entered == STANDARD else entered
 
 
-def tan_share(given):
-    entered = given["tan_fraction"]
-    return values.ROUGHAGE_STANDARD_TAN_SHARE if entered == STANDARD else entered * PERCENT
+def tan_share(given, standards):
+    return standards.tan_share if given["tan_fraction"] == STANDARD else entered_tan_share(given)
 
 
-# Where the excretion falls (2.33, 2.34, 2.35, 2.61, 2.88)
+def entered_tan_share(given):
+    return given["tan_fraction"] * PERCENT
+
+
+# Where the excretion falls (2.18 to 2.20, 2.33 to 2.35, 2.61, 2.88)
 
 
 def days_with_both(given):
@@ -149,7 +172,7 @@ def into_housing(excreted, grazed, yarded=NO_YARD):
     }
 
 
-# Exercise yard (2.34)
+# Exercise yard (2.19, 2.34)
 
 
 def yard_ammonia(given, yarded, sums):
@@ -176,7 +199,7 @@ def left_by_free_factor(given):
     return 1 - given["free_correction_factor"] * PERCENT
 
 
-# Pasture (2.35, 2.61, 2.88)
+# Pasture (2.20, 2.35, 2.61, 2.88)
 
 
 def pasture(grazed, rates, sums):
@@ -338,17 +361,23 @@ class Notes(NamedTuple):
 
 
 def notes(herd):
-    given = herd.given
+    given, standards = herd.given, standards_of(herd)
     return Notes(
-        n_far_from_standard=herd.kind is ROUGHAGE and n_far_from_standard(given),
-        tan_far_from_standard=herd.kind is ROUGHAGE
-        and abs(tan_share(given) - values.ROUGHAGE_STANDARD_TAN_SHARE) > values.MOST_TAN_SHARE_AWAY,
+        n_far_from_standard=standards is not None and n_far_from_standard(given, standards),
+        tan_far_from_standard=standards is not None and tan_far_from_standard(given, standards),
         free_factor=given.get("free_correction_factor", 0) != 0,
-        share_lowered=herd.kind is CATTLE
+        share_lowered=herd.kind in KINDS_WITH_A_YARD
         and days_with_both(given) > 0
         and yard_share(given) > values.MOST_YARD_SHARE_WITH_GRAZING,
         factor_above_1=herd.kind is ROUGHAGE and housing_factor_above_1(given),
     )
+
+
+def standards_of(herd):
+    """Those that an entry is held to, or None for a kind that has none."""
+    if herd.kind is ROUGHAGE:
+        return roughage_standards(herd.given)
+    return DAIRY_STANDARDS if herd.kind is DAIRY_COWS else None
 
 
 def housing_factor_above_1(given):
@@ -356,7 +385,11 @@ def housing_factor_above_1(given):
     return housing_nh3_rate_before_ceiling(c, left, CUTS) > values.MOST_FACTOR
 
 
-def n_far_from_standard(given):
-    kilograms, standard = kilograms_a_head(given), standard_kilograms(given)
+def n_far_from_standard(given, standards):
+    kilograms, standard = kilograms_a_head(given, standards), standards.kilograms
     least, most = values.LEAST_OF_STANDARD * standard, values.MOST_OF_STANDARD * standard
     return not least <= kilograms <= most
+
+
+def tan_far_from_standard(given, standards):
+    return abs(tan_share(given, standards) - standards.tan_share) > values.MOST_TAN_SHARE_AWAY

@@ -19,9 +19,10 @@ TABLE = Path(__file__).resolve().parent.parent / "crates" / "page" / "specs" / "
 ROW = re.compile(r'prints\s+"([^"]*)"\s+\((tech|out)\s+"([^"]*)"\)\s+"([^"]*)"')
 SECTION = re.compile(r"^## (?:\*\*)?(\d+\.\d+) ", re.MULTILINE)
 NAMED = re.compile(r"^(?:#+ )?\*\*(\w+)\*\*(.*)$", re.MULTILINE)
-PARAMETERS = re.compile(r"^#+ \W*Technical Parameters\W*$", re.MULTILINE)
-# No formula uses the first; the formula of the second is not needed, since no area increases.
-NOT_TAKEN = {"k_grazing_a", "k_area"}
+# A line by itself; in 2.2 the first parameter stands on it.
+PARAMETERS = re.compile(r"^(?:#+ \W*|\*\*)Technical Parameters(?:\W*$|\*\*)", re.MULTILINE)
+# No formula uses the first. Those of the others are not needed: no area increases, and N of dairy cows is entered.
+NOT_TAKEN = {"k_grazing_a", "k_area", "feed_influence_on_Nsol"}
 
 
 @dataclass(frozen=True)

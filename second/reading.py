@@ -63,7 +63,7 @@ def take_record(herds, number, fields):
         raise Refused(5, number)
     kind, listed = LISTED[module, name]
     if listed.has_standard and is_standard(text):
-        if not kind.takes_standard:
+        if not kind.takes_standard(listed):
             raise Refused(6, number)
         value = STANDARD
     else:

@@ -22,14 +22,14 @@ import printed
 from arithmetic import BILLION, CUTS, EXACT, HALF, Cuts
 from cuts import cuts
 from dice import Dice
-from farms import farm_lines, file_of, herd_lines, line_for, new_labels, written
-from inputs import CATTLE, HOURS, KINDS, PIGS, ROUGHAGE, STANDARD, Number
+from farms import FarmDice, farm_lines, file_of, herd_lines, line_for, new_labels, written
+from inputs import CATTLE, DAIRY_COWS, HOURS, KINDS, KINDS_WITH_A_YARD, PIGS, ROUGHAGE, STANDARD, Number
 from model import (
     Notes, c_grazing, figures, housing_nh3_rate, k_grazing, notes, pig_house_ammonia, share_into_yard
 )
 from reading import MOST_BYTES, MOST_HERDS, Refused, read_farm
 from totals import totals
-from urvendlo import CUTS_OFF, NOTES, WHY, WHY_WORDS, answer
+from urvendlo import CUTS_OFF, FIGURES, NOTES, WHY, WHY_WORDS, answer
 from values import DAYS_A_YEAR, YARD_SHARES
 from why import REASONS, why
 
@@ -85,6 +85,9 @@ OUTDOOR_PIGS = {
     "free_correction_factor": "0",
 }
 HOUSED_PIGS = {**OUTDOOR_PIGS, "housing_type": "Slurry_Conventional"}
+# Dairy cows by the standard of 2.2, kept as the cattle of the rows marked C.
+COWS = {**C, "inp_n_excretion": "112", "tan_fraction": "standard"}
+HERD_OF_KIND = {ROUGHAGE: DEER, CATTLE: C, PIGS: OUTDOOR_PIGS, DAIRY_COWS: COWS}
 
 LARGEST = {"animals": "10000", "inp_n_excretion": "200", "tan_fraction": "100"}
 
@@ -184,16 +187,20 @@ GRAZING_LINES = """
     Grazing n_into_grazing, Grazing tan_into_grazing, Grazing nh3_ngrazing, Grazing n2_ngrazing,
     Grazing no_ngrazing, Grazing n2o_ngrazing, Grazing n_remain_grazing, Grazing tan_remain_grazing,
 """
+CATTLE_LINES = (
+    "Excretion n_excretion, Excretion tan_excretion,"
+    + "Yard n_into_yard, Yard tan_into_yard, Yard nh3_nyard,"
+    + "Yard n_outyard_liquid, Yard tan_outyard_liquid,"
+    + GRAZING_LINES
+    + "Housing n_into_housing, Housing tan_into_housing"
+)
 HERD_LINES = {
     ROUGHAGE: "Excretion n_excretion, Excretion tan_excretion,"
     + GRAZING_LINES
     + "Housing n_into_housing, Housing tan_into_housing,"
     + "Housing nh3_nhousing, Housing n_outhousing, Housing tan_outhousing",
-    CATTLE: "Excretion n_excretion, Excretion tan_excretion,"
-    + "Yard n_into_yard, Yard tan_into_yard, Yard nh3_nyard,"
-    + "Yard n_outyard_liquid, Yard tan_outyard_liquid,"
-    + GRAZING_LINES
-    + "Housing n_into_housing, Housing tan_into_housing",
+    CATTLE: CATTLE_LINES,
+    DAIRY_COWS: CATTLE_LINES,
     PIGS: "Excretion n_excretion, Excretion tan_excretion,"
     + GRAZING_LINES
     + "Housing n_into_housing, Housing tan_into_housing,"
@@ -219,6 +226,7 @@ BALANCES_OF_KIND = {
         ("tan_into_housing", ("nh3_nhousing", "tan_outhousing")),
     ),
     CATTLE: (),
+    DAIRY_COWS: (),
     PIGS: (
         ("n_into_housing", ("nh3_nhousing", "tan_air_scrubber", "n_outhousing")),
         ("tan_into_housing", ("nh3_nhousing", "tan_air_scrubber", "tan_outhousing")),
@@ -363,7 +371,12 @@ class EdgeHerds(unittest.TestCase):
         self.assertEqual(refusal(file_of(itertools.chain(*herds))), (9, 64 * 8 + 1))
 
 
-HOUSE_GRAMS_AWAY = {ROUGHAGE: ROUGHAGE_HOUSING_GRAMS_AWAY, CATTLE: GRAMS_AWAY, PIGS: PIG_HOUSE_GRAMS_AWAY}
+HOUSE_GRAMS_AWAY = {
+    ROUGHAGE: ROUGHAGE_HOUSING_GRAMS_AWAY,
+    CATTLE: GRAMS_AWAY,
+    PIGS: PIG_HOUSE_GRAMS_AWAY,
+    DAIRY_COWS: GRAMS_AWAY,
+}
 
 
 def most_away(kind, name):
@@ -503,7 +516,7 @@ class Figures(unittest.TestCase):
                 self.check_herd(*read_farm(file_of(lines)))
 
     def test_farms(self):
-        dice = Dice(4)
+        dice = FarmDice(4)
         for number in range(FARMS):
             self.check_farm(read_farm(written(dice, farm_lines(dice, number))))
 
@@ -745,11 +758,38 @@ class Notices(unittest.TestCase):
                 {"exercise_yard": EXCLUSIVELY, "yard_days": "166"},
                 Notes(False, False, False, True, False),
             ),
+            (DAIRY_COWS, COWS, {}, none),
+            (DAIRY_COWS, COWS, {"free_correction_factor": "1"}, Notes(False, False, True, False, False)),
+            (DAIRY_COWS, COWS, {"free_correction_factor": "-100"}, Notes(False, False, True, False, False)),
+            (DAIRY_COWS, COWS, {"exercise_yard": EXCLUSIVELY, "yard_days": "165"}, none),
+            (
+                DAIRY_COWS,
+                COWS,
+                {"exercise_yard": EXCLUSIVELY, "yard_days": "166"},
+                Notes(False, False, False, True, False),
+            ),
             (PIGS, OUTDOOR_PIGS, {"tan_fraction": "0", "inp_n_excretion": "200"}, none),
             (PIGS, OUTDOOR_PIGS, {"free_correction_factor": "1"}, Notes(False, False, True, False, False)),
             (PIGS, HOUSED_PIGS, {"free_correction_factor": "100"}, Notes(False, False, True, False, False)),
         ):
             self.assertEqual(notes(herd(kind, texts, **changes)), expected, changes)
+
+    def test_n_of_cows(self):
+        for kilograms, noted in (
+            ("78.4", False), ("145.6", False), ("112", False), ("78.400", False), ("145.600", False),
+            ("78.399", True), ("145.601", True), ("0", True), ("200", True),
+        ):
+            expected = Notes(noted, False, False, False, False)
+            self.assertEqual(notes(herd(DAIRY_COWS, COWS, inp_n_excretion=kilograms)), expected, kilograms)
+
+    def test_tan_of_cows(self):
+        for share, noted in (
+            ("35", False), ("75", False), ("55", False), ("35.00", False), ("75.00", False),
+            ("34.99", True), ("75.01", True), ("0", True), ("100", True),
+            ("standard", False), ("STANDARD", False), ("Standard", False), ("sTaNdArD", False),
+        ):
+            expected = Notes(False, noted, False, False, False)
+            self.assertEqual(notes(herd(DAIRY_COWS, COWS, tan_fraction=share)), expected, share)
 
     def test_records(self):
         lowered = {**C, "exercise_yard": EXCLUSIVELY}
@@ -759,12 +799,114 @@ class Notices(unittest.TestCase):
             self.assertEqual(answer(file, NOTES), expected, file)
 
 
+class DairyCows(unittest.TestCase):
+    """Request W9: what dairy cows have of their own, and what they share with cattle."""
+
+    def test_figures(self):
+        """10 cows, 112 kg, TAN by the standard; yard and pasture as in row 1."""
+        worked = figures(herd(DAIRY_COWS, COWS), CUTS)
+        expected = {
+            "n_excretion": 1120000,
+            "tan_excretion": 616000,
+            "n_into_yard": 224000,
+            "tan_into_yard": 123200,
+            "nh3_nyard": 86240,
+            "n_outyard_liquid": 137760,
+            "tan_outyard_liquid": 36960,
+            "n_into_grazing": 245479,
+            "tan_into_grazing": 135013,
+            "nh3_ngrazing": 11206,
+            "n2_ngrazing": 0,
+            "no_ngrazing": 1350,
+            "n2o_ngrazing": 4909,
+            "n_remain_grazing": 228014,
+            "tan_remain_grazing": 117548,
+            "n_into_housing": 650521,
+            "tan_into_housing": 357787,
+        }
+        self.assertEqual(worked, expected)
+
+    def test_standard_share(self):
+        """The word, in any letter case, is 55 percent."""
+        due = figures(herd(DAIRY_COWS, COWS, tan_fraction="55"), CUTS)
+        for word in ("standard", "STANDARD", "Standard", "sTANDARd"):
+            self.assertEqual(figures(herd(DAIRY_COWS, COWS, tan_fraction=word), CUTS), due)
+
+    def test_as_cattle(self):
+        """With the same texts every command prints the same for both, but for the module and the notes on N and TAN."""
+        dice = Dice(9)
+        for label in range(HERDS_OF_A_KIND):
+            lines = herd_lines(dice, f"{label}", CATTLE)
+            cattle = file_of(lines)
+            cows = cattle.replace(b"OtherCattle", b"DairyCow")
+            for command in (FIGURES, CUTS_OFF, WHY, WHY_WORDS):
+                self.assertEqual(answer(cows, command), answer(cattle, command).replace(b"OtherCattle", b"DairyCow"))
+            fields = answer(cattle, NOTES).split(b",")
+            self.assertEqual(answer(cows, NOTES).split(b",")[3:], fields[3:])
+
+    def test_totals(self):
+        """Every figure of cows enters the total of its name, and none that they have not."""
+        cows, heifers, deer = herd(DAIRY_COWS, COWS), herd(CATTLE, C), herd(ROUGHAGE, DEER)
+        worked = [figures(read, CUTS) for read in (cows, heifers, deer)]
+        farm = totals(worked)
+        self.assertEqual(farm["n_excretion"], 1120000 + 730000 + 200000)
+        self.assertEqual(farm["tan_excretion"], 616000 + 438000 + 80000)
+        self.assertEqual(farm["nh3_nyard"], 86240 + 61320)
+        self.assertEqual(farm["nh3_ngrazing"], 11206 + 7968)
+        self.assertEqual(farm["nh3_nhousing"], 22000)
+        self.assertEqual(farm["nh3_nhousing_and_yard"], 22000 + 86240 + 61320)
+        self.assertEqual(farm["nh3_nlivestock"], 22000 + 86240 + 61320 + 11206 + 7968)
+        self.assertEqual(farm["n_into_housing"], 650521 + 424000 + 200000)
+
+    def test_cuts(self):
+        """TAN by the standard is cut from 5,500 ten-thousandths; the divisors are those of cattle."""
+        read = herd(DAIRY_COWS, COWS, animals="7", inp_n_excretion="99.999", free_correction_factor="7")
+        n = 7 * 99999
+        tan = n * 5500 // 10000
+        yard, grazed = tan * 2 * 365 // 3650, tan * 120 * 8 * 200 // 876000
+        made = {cut.name: (cut.quotient, cut.cut_off, cut.divisor) for cut in cuts(read)}
+        for name, due in (
+            ("tan_excretion", divmod_of(n * 5500, 10000)),
+            ("n_into_yard", divmod_of(n * 2 * 365, 3650)),
+            ("tan_into_yard", divmod_of(tan * 2 * 365, 3650)),
+            ("nh3_nyard", divmod_of(yard * 7000 * 100 * 93, 10**8)),
+            ("tan_into_grazing", divmod_of(tan * 120 * 8 * 200, 876000)),
+            ("nh3_ngrazing", divmod_of(grazed * 830, 10000)),
+        ):
+            self.assertEqual(made[name], due, name)
+
+    def test_standard_refused(self):
+        """6 for N, in any letter case; 7 for every other input but TAN, and for what is nearly the word."""
+        for word in ("standard", "STANDARD", "Standard"):
+            for place, listed in enumerate(DAIRY_COWS.inputs, start=1):
+                file = file_of(lines_of(DAIRY_COWS, {**COWS, listed.name: word}))
+                due = {"inp_n_excretion": (6, place), "tan_fraction": None}.get(listed.name, (7, place))
+                self.assertEqual(refusal(file), due, listed.name)
+        self.assertEqual(refusal(file_of(lines_of(DAIRY_COWS, {**COWS, "tan_fraction": "standard "}))), (7, 3))
+
+    def test_other_refusals(self):
+        """Cows are no cattle, a module of theirs that holds no input is none, and each input is needed."""
+        cows = lines_of(DAIRY_COWS, COWS)
+        for kind, other in itertools.permutations(KINDS, 2):
+            if DAIRY_COWS in (kind, other):
+                mixed = lines_of(kind, HERD_OF_KIND[kind]) + lines_of(other, HERD_OF_KIND[other])
+                self.assertEqual(refusal(file_of(mixed)), (10, len(kind.inputs) + 1))
+        for module, name in faults.UNLISTED_OF_DAIRY_COWS:
+            file = file_of([*cows, replace(cows[0], module=module, name=name)])
+            self.assertEqual(refusal(file), (5, 10), (module, name))
+        for place in range(len(cows)):
+            self.assertEqual(refusal(file_of(cows[:place] + cows[place + 1 :])), (12, 1))
+            self.assertEqual(refusal(file_of([*cows, cows[place]])), (11, 10))
+
+
 GASES = ["nh3_ngrazing", "n2_ngrazing", "no_ngrazing", "n2o_ngrazing"]
 INTO_GRAZING = ["n_into_grazing", "tan_into_grazing"]
 FACTORS = ["ef_nh3_nhousing:er_housing", "ef_nh3_nhousing:c_free_factor_housing"]
+CATTLE_CUTS = ["tan_excretion", "n_into_yard", "tan_into_yard", "nh3_nyard", *INTO_GRAZING, *GASES]
 CUT_NAMES = {
     ROUGHAGE: ["tan_excretion", *INTO_GRAZING, *GASES, "c_grazing", *FACTORS, "nh3_nhousing"],
-    CATTLE: ["tan_excretion", "n_into_yard", "tan_into_yard", "nh3_nyard", *INTO_GRAZING, *GASES],
+    CATTLE: CATTLE_CUTS,
+    DAIRY_COWS: CATTLE_CUTS,
     PIGS: [
         "tan_excretion",
         *GASES,
@@ -802,17 +944,18 @@ class Reasons(unittest.TestCase):
     }
 
     def test_edges(self):
-        for (days, yard), (word, both, chosen, share) in self.EDGES.items():
-            told = why(herd(CATTLE, C, yard_days=days, exercise_yard=yard))
+        for kind, (edge, due) in itertools.product(KINDS_WITH_A_YARD, self.EDGES.items()):
+            (days, yard), (word, both, chosen, share) = edge, due
+            told = why(herd(kind, HERD_OF_KIND[kind], yard_days=days, exercise_yard=yard))
             self.assertEqual((told.reason.word, told.days), (word, both))
             self.assertEqual((told.chosen, told.share), (Fraction(chosen), Fraction(share)))
 
     def test_share_is_that_of_the_figures(self):
         """The share of the year on the yard, worked out once more from what is told."""
         edges = range(0, DAYS_A_YEAR + 1, 73)
-        for grazing, yard_days, yard in itertools.product(edges, edges, YARD_SHARES):
+        for kind, grazing, yard_days, yard in itertools.product(KINDS_WITH_A_YARD, edges, edges, YARD_SHARES):
             changes = {"grazing_days": str(grazing), "yard_days": str(yard_days), "exercise_yard": yard}
-            read = herd(CATTLE, C, **changes)
+            read = herd(kind, HERD_OF_KIND[kind], **changes)
             told = why(read)
             days = told.chosen * (yard_days - told.days) + told.share * told.days
             self.assertEqual(share_into_yard(read.given), days / DAYS_A_YEAR)
@@ -1000,7 +1143,7 @@ def divmod_of(dividend, divisor):
 
 class Listings(unittest.TestCase):
     def test_every_output_name(self):
-        for kind, texts in ((ROUGHAGE, DEER), (CATTLE, C), (PIGS, OUTDOOR_PIGS)):
+        for kind, texts in HERD_OF_KIND.items():
             lines = answer(file_of(lines_of(kind, texts))).decode().split("\r\n")
             expected = [tuple(pair.split()) for pair in HERD_LINES[kind].split(",")]
             listed = [tuple(line.split(",")[1:3]) for line in lines if line.startswith("H,")]
@@ -1020,15 +1163,17 @@ class Listings(unittest.TestCase):
 class Refusals(unittest.TestCase):
     def test_single_faults(self):
         """Each way of spoiling a line gives its own refusal and that line's number."""
-        dice = Dice(5)
+        dice = FarmDice(5)
         for number in damage.FAULTS:
             for _ in range(100):
                 lines, line = damage.lines_with_spot(dice, 3)
                 damage.put_fault(dice, lines, line, number)
-                self.assertEqual(refusal(written(dice, lines)), (number, lines.index(line) + 1))
+                # With the last CRLF: an empty line at the end of a file without it is no record.
+                file = file_of(lines, lambda: dice.one_in(5))
+                self.assertEqual(refusal(file), (number, lines.index(line) + 1))
 
     def test_missing_inputs(self):
-        dice = Dice(6)
+        dice = FarmDice(6)
         for _ in range(100):
             lines = farm_lines(dice, 3)
             line = dice.pick(lines)
@@ -1068,7 +1213,7 @@ class Refusals(unittest.TestCase):
             self.assertEqual(refusal(file_of(lines)), (12, 1))
 
     def test_ranges(self):
-        for kind, texts in ((ROUGHAGE, DEER), (CATTLE, C), (PIGS, OUTDOOR_PIGS)):
+        for kind, texts in HERD_OF_KIND.items():
             for name in RANGES.keys() & texts.keys():
                 taken, not_taken = RANGES[name]
                 for text in taken:
@@ -1261,7 +1406,7 @@ class Mending(unittest.TestCase):
 
     def test_damaged_farms(self):
         """A farm file with a mark in front and no CRs at its records' ends comes back, and an accepted one stays."""
-        dice = Dice(8)
+        dice = FarmDice(8)
         for _ in range(FARMS):
             lines = farm_lines(dice, 2)
             file = written(dice, lines)
@@ -1272,10 +1417,13 @@ class Mending(unittest.TestCase):
             self.assertNotEqual(refusal(bare), None)
 
 
-# Rows as the table has them, of the sections on pig houses.
-PIG_ROWS = "\n".join(
-    f'prints "{section}" ({place} "{name}") "{text}"'
-    for section, place, name, text in (
+def rows_of_table(rows):
+    """Rows as the table has them, from section, place, name and text."""
+    return "\n".join(f'prints "{section}" ({place} "{name}") "{text}"' for section, place, name, text in rows)
+
+
+PIG_ROWS = rows_of_table(
+    (
         ("2.52", "out", "share_indoor", "0.5"),
         ("2.53", "tech", "er", "0.243"),
         ("2.53", "tech", "share_liquid", "1"),
@@ -1296,6 +1444,34 @@ PIG_ROWS = "\n".join(
             for house, rate in (("Slurry", slurry), ("Solid", solid))
             for fraction in ("solid", "liquid")
         ),
+    )
+)
+DAIRY_ROWS = rows_of_table(
+    (
+        ("2.2", "out", "n_excretion_animal", "0.7"),
+        ("2.2", "out", "n_excretion_animal", "1.3"),
+        ("2.2", "out", "tan_content", "0.2"),
+        ("2.2", "tech", "standard_N_excretion", "112"),
+        ("2.2", "tech", "share_Nsol", "0.55"),
+        ("2.18", "out", "days_with_grazing_and_yard", "365"),
+        ("2.19", "tech", "er_yard", "0.7"),
+        *(
+            ("2.19", "tech", f"share_available_roughage_is_{supplied}_supplied_in_the_exercise_yard", share)
+            for supplied, share in (("not", "0.1"), ("partly", "0.2"), ("exclusively", "0.6"))
+        ),
+        *(
+            ("2.19", "tech", f"red_floor_properties_{floor}", reduction)
+            for floor, reduction in (
+                ("solid_floor", "0.0"),
+                ("unpaved_floor", "0.5"),
+                ("perforated_floor", "0.75"),
+                ("paddock_or_pasture_used_as_exercise_yard", "0.9"),
+            )
+        ),
+        ("2.20", "tech", "er_dairycow_grazing", "0.083"),
+        ("2.20", "tech", "er_n2_dairycow_grazing", "0.0"),
+        ("2.20", "tech", "er_no_dairycow_grazing", "0.0055"),
+        ("2.20", "tech", "er_n2o_dairycow_grazing", "0.02"),
     )
 )
 
@@ -1335,6 +1511,12 @@ class PrintedNumbers(unittest.TestCase):
         self.assertEqual(list(printed.faults(PIG_ROWS, document)), [])
         wrong = PIG_ROWS.replace('"2.54" (tech "er") "0.486"', '"2.54" (tech "er") "0.243"')
         self.assertEqual(list(printed.faults(wrong, document)), ["2.54: er is not printed as 0.243"])
+
+    def test_dairy_cows(self):
+        document = Path(os.environ[DOCUMENT]).read_text(encoding="utf-8")
+        self.assertEqual(list(printed.faults(DAIRY_ROWS, document)), [])
+        wrong = DAIRY_ROWS.replace('"112"', '"115"')
+        self.assertEqual(list(printed.faults(wrong, document)), ["2.2: standard_N_excretion is not printed as 115"])
 
     def test_table(self):
         table = printed.TABLE.read_text(encoding="utf-8")

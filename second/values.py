@@ -45,19 +45,19 @@ class PigHouse:
     gases: HouseRates
 
 
-# 2.34: the share of a day's excretion that falls on the exercise yard.
+# 2.19, 2.34: the share of a day's excretion that falls on the exercise yard.
 YARD_SHARES = {
     "not_available": Fraction(0),
     "available_roughage_is_not_supplied_in_the_exercise_yard": Fraction("0.1"),
     "available_roughage_is_partly_supplied_in_the_exercise_yard": Fraction("0.2"),
     "available_roughage_is_exclusively_supplied_in_the_exercise_yard": Fraction("0.6"),
 }
-# 2.34 names the "partly" share as the most that is left on a day with pasture too.
+# 2.19 and 2.34 name the "partly" share as the most that is left on a day with pasture too.
 MOST_YARD_SHARE_WITH_GRAZING = YARD_SHARES[
     "available_roughage_is_partly_supplied_in_the_exercise_yard"
 ]
 
-# 2.34: by how much a floor lowers the ammonia of the yard.
+# 2.19, 2.34: by how much a floor lowers the ammonia of the yard.
 FLOOR_REDUCTIONS = {
     "solid_floor": Fraction(0),
     "unpaved_floor": Fraction("0.5"),
@@ -65,6 +65,11 @@ FLOOR_REDUCTIONS = {
     "paddock_or_pasture_used_as_exercise_yard": Fraction("0.9"),
 }
 YARD_NH3_RATE = Fraction("0.7")
+
+# 2.20
+DAIRY_PASTURE = PastureRates(
+    nh3=Fraction("0.083"), n2=Fraction(0), no=Fraction("0.0055"), n2o=Fraction("0.02")
+)
 
 # 2.35
 CATTLE_PASTURE = PastureRates(
@@ -120,7 +125,12 @@ ROUGHAGE_STANDARD_KILOGRAMS = {
     "rabbit_young": Fraction("0.79"),
 }
 ROUGHAGE_STANDARD_TAN_SHARE = Fraction("0.4")
-# 2.84: an entry outside these bounds earns a note.
+
+# 2.2: the same of a dairy cow. Its share_Nsol is also what the word `standard` stands for.
+DAIRY_STANDARD_KILOGRAMS = Fraction(112)
+DAIRY_STANDARD_TAN_SHARE = Fraction("0.55")
+
+# 2.2, 2.84: an entry outside these bounds earns a note.
 LEAST_OF_STANDARD = Fraction("0.7")
 MOST_OF_STANDARD = Fraction("1.3")
 MOST_TAN_SHARE_AWAY = Fraction("0.2")

@@ -9,11 +9,10 @@ from collections.abc import Callable
 from dataclasses import dataclass
 from fractions import Fraction
 
-from inputs import CATTLE
+from inputs import KINDS_WITH_A_YARD
 from model import days_with_both, yard_share
 from values import DAYS_A_YEAR, MOST_YARD_SHARE_WITH_GRAZING
 
-KINDS_WITH_A_YARD = (CATTLE,)
 NO_YARD = "not_available"
 
 

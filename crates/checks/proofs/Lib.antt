@@ -5,3 +5,4 @@ pub mod HerdSteps
 pub mod Accepts
 pub mod Places
 pub mod Refuses
+pub mod Examples

@@ -18,12 +18,12 @@ use Rattle.kinds.specs.declared.HousingType.{HousingType}
 use Rattle.kinds.specs.declared.HousingType.the-variants as housed
 use Rattle.kinds.specs.declared.Inputs.{Inputs}
 use Rattle.kinds.specs.declared.Inputs.the-variants as kinds
-use Rattle.kinds.specs.Sound.{mostGrams, SoundRoughage}
+use Rattle.kinds.specs.Sound.{mostGrams, SoundRoughage, SoundCattle}
 use Rattle.rates.specs.declared.Rates.{Rates}
 use Rattle.rates.specs.Rates.{cattleRates, pigsRates, roughageRates}
 use Rattle.rates.specs.Bounds.{RatesOf}
-use Rattle.excretion.specs.Excretion.{«n_excretion_animal», tanFraction, withTan}
-use Rattle.excretion.proofs.Modest.{roughage-grams-le, roughage-fraction-le}
+use Rattle.excretion.specs.Excretion.{«n_excretion_animal», roughageFraction, cattleFraction, withTan}
+use Rattle.excretion.proofs.Modest.{roughage-grams-le, roughage-fraction-le, cattle-fraction-le}
 use Rattle.yard.specs.Yard.{yardTime, «ef_nh3_nyard»}
 use Rattle.pasture.specs.declared.Gases.{Gases}
 use Rattle.pasture.specs.Pasture.{outdoorGrazingTime, roughageGrazingTime, pigsIntoGrazing}
@@ -89,7 +89,7 @@ module _ (r : Roughage) {n fraction : ℕ} {tan nh3 none : Quotient} {yard into 
 
 module _ (r : Roughage) (s : SoundRoughage r) (grams fraction : ℕ)
     (qn : grams ≡ «n_excretion_animal» (r .animalcategory) (r .«inp_n_excretion»))
-    (qt : fraction ≡ tanFraction (r .«tan_fraction»)) where
+    (qt : fraction ≡ roughageFraction r) where
   pub grams-within : grams ≤ mostGrams
   grams-within = rw qn (roughage-grams-le r s)
 
@@ -119,12 +119,18 @@ module _ (r : Rates) (o : Outdoor) {n fraction : ℕ} {tan nh3 none : Quotient} 
       ec
       ∙ rw (ef, eo, eg .is, ei .of-n .cut, ei .of-tan .cut, ea .cut, ey .of-n .cut, ey .of-tan .cut, et .cut) refl
 
-pub is-cattle : (k : Cattle) (r : Rates) (n : ℕ) (c : Cuts) → RatesOf cattleRates r
-    → UpTo mostN (k .animals * k .«inp_n_excretion») n
-    → c ≡ cutsUnder outdoorNames (toldOutdoor r (k .outdoor) (withTan dividing n (k .«tan_fraction»)))
-    → c ≡ cutsOf (kinds.Cattle k)
-unfolding cutsOf
-is-cattle k r n c er en ec = ec ∙ rw (en .is, er .is) refl
+module _ (k : Cattle) (s : SoundCattle k) (fraction : ℕ) (qt : fraction ≡ cattleFraction k) where
+  pub cattle-within : fraction ≤ tenThousandths
+  cattle-within = rw qt (cattle-fraction-le k s)
+
+  pub is-cattle : (r : Rates) (n : ℕ) (c : Cuts) → RatesOf (cattleRates (k .kind)) r
+      → UpTo mostN (k .animals * k .«inp_n_excretion») n
+      → c ≡ cutsUnder outdoorNames (toldOutdoor r (k .outdoor) (withTan dividing n fraction))
+      → c ≡ cutsOf (kinds.Cattle k)
+  unfolding cutsOf
+  is-cattle r n c er en ec = ec ∙ rw (en .is, er .is, qt) refl
+
+pub ruleset cattle-steps = (cattle-within, is-cattle)
 
 -- ---- pigs
 

@@ -56,7 +56,7 @@ fn roughage_cuts(r: Roughage) -> Cuts
     let entered_n = r.inp_n_excretion;
     let entered_tan = r.tan_fraction;
     let grams = excretion::n_excretion_animal(r.animalcategory, entered_n);
-    let fraction = excretion::tan_fraction(entered_tan);
+    let fraction = excretion::tan_fraction(tables::SHARE_NSOL, entered_tan);
     roughage_from(r, excretion::n_excretion(r.animals, grams), fraction)
 }
 
@@ -86,9 +86,12 @@ fn cattle_cuts(c: Cattle) -> Cuts
     requires { ⌜ SoundCattle c ⌝ }
     ensures { λ r. ⌜ r ≡ cutsOf (kinds.Cattle c) ⌝ }
 {
+    let kind = c.kind;
     let outdoor = c.outdoor;
+    let entered_tan = c.tan_fraction;
+    let fraction = excretion::tan_fraction(tables::DAIRY_SHARE_NSOL, entered_tan);
     let n = excretion::n_excretion(c.animals, c.inp_n_excretion);
-    outdoor_from(rates::cattle_rates(), outdoor, n, c.tan_fraction)
+    outdoor_from(rates::cattle_rates(kind), outdoor, n, fraction)
 }
 
 // Pigs that excrete so much N.

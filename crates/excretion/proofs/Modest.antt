@@ -14,27 +14,33 @@ use Rattle.amounts.specs.Arithmetic.{cutting}
 use Rattle.amounts.specs.Bounds.{mostN, Modest, PortionOf, UpTo}
 use Rattle.kinds.specs.declared.Entered.{Entered}
 use Rattle.kinds.specs.declared.Roughage.{Roughage}
-use Rattle.kinds.specs.Sound.{mostAnimals, mostGrams, EnteredTo, standard, number, SoundRoughage}
+use Rattle.kinds.specs.declared.Cattle.{Cattle}
+use Rattle.kinds.specs.Sound.{mostAnimals, mostGrams, EnteredTo, standard, number, SoundRoughage, SoundCattle}
 use Rattle.excretion.specs.declared.Excretion.{Excretion}
-use Rattle.excretion.specs.Excretion.{«n_excretion_animal», tanFraction, ExcretionIn, excreted, ofExcretion}
+use Rattle.excretion.specs.Excretion.{«n_excretion_animal», tanFraction, roughageFraction, cattleFraction}
+use Rattle.excretion.specs.Excretion.{ExcretionIn, excreted, ofExcretion}
 
--- ---- what a roughage herd enters, or leaves to the standard
+-- ---- what a herd enters, or leaves to the standard
 
 grams-le : (category : ℕ) {entered : Entered} → EnteredTo mostGrams entered
     → «n_excretion_animal» category entered ≤ mostGrams
 grams-le category standard = omega (arith, standard-most category)
 grams-le category (number h) = h
 
-fraction-le : {entered : Entered} → EnteredTo tenThousandths entered → tanFraction entered ≤ tenThousandths
-fraction-le standard = omega arith
-fraction-le (number h) = h
+fraction-le : {share : ℕ} {entered : Entered} → share ≤ tenThousandths → EnteredTo tenThousandths entered
+    → tanFraction share entered ≤ tenThousandths
+fraction-le most standard = most
+fraction-le most (number h) = h
 
 module _ (r : Roughage) (s : SoundRoughage r) where
   pub roughage-grams-le : «n_excretion_animal» (r .animalcategory) (r .«inp_n_excretion») ≤ mostGrams
   roughage-grams-le = grams-le (r .animalcategory) (s .grams)
 
-  pub roughage-fraction-le : tanFraction (r .«tan_fraction») ≤ tenThousandths
-  roughage-fraction-le = fraction-le (s .fraction)
+  pub roughage-fraction-le : roughageFraction r ≤ tenThousandths
+  roughage-fraction-le = fraction-le (omega arith) (s .fraction)
+
+pub cattle-fraction-le : (c : Cattle) → SoundCattle c → cattleFraction c ≤ tenThousandths
+cattle-fraction-le c s = fraction-le (omega arith) (s .fraction)
 
 -- ---- N and TAN
 

@@ -1,4 +1,4 @@
-// 2.22, 2.50 and 2.84: what the animals of a herd excrete in a year.
+// 2.2, 2.22, 2.50 and 2.84: what the animals of a herd excrete in a year.
 use amounts::TEN_THOUSANDTHS;
 use cut::Quotient;
 use kinds::Entered;
@@ -25,12 +25,12 @@ pub fn n_excretion_animal(category: u64, entered: Entered) -> u64
     }
 }
 
-// The soluble fraction, in ten-thousandths: share_Nsol, unless a number is entered.
-pub fn tan_fraction(entered: Entered) -> u64
-    ensures { λ r. ⌜ r ≡ tanFraction entered ⌝ }
+// The soluble fraction, in ten-thousandths: the page's share_Nsol, unless a number is entered.
+pub fn tan_fraction(share: u64, entered: Entered) -> u64
+    ensures { λ r. ⌜ r ≡ tanFraction share entered ⌝ }
 {
     match entered {
-        Entered::Standard => tables::SHARE_NSOL,
+        Entered::Standard => share,
         Entered::Number(fraction) => fraction,
     }
 }

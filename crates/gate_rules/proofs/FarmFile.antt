@@ -74,7 +74,13 @@ module _ (o : Outdoors) (fits : Fits o) (label : List ℕ) (good : GoodLabel lab
       (record { slot = 7; says = RecordSays.says good (record { inside = lit< tt; path = refl; name = refl }) grazing })
       (more
       (record { slot = 8; says = RecordSays.says good (record { inside = lit< tt; path = refl; name = refl }) hours })
-      none))))
+      (more
+      (record { slot = 3; says = RecordSays.says good (record { inside = lit< tt; path = refl; name = refl }) yard })
+      (more
+      (record { slot = 7; says = RecordSays.says good (record { inside = lit< tt; path = refl; name = refl }) grazing })
+      (more
+      (record { slot = 8; says = RecordSays.says good (record { inside = lit< tt; path = refl; name = refl }) hours })
+      none)))))))
 
 -- whatever a log comes to, a farm file takes it, for a herd of any good label
 pub farm-file-takes : (s : List ℕ) (o : Outdoors) → readLog s ≡ Gives o → (label : List ℕ) → GoodLabel label

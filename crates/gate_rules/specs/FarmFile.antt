@@ -6,7 +6,7 @@ use mathlib.Core.List.{List, [], _∷_}
 use Rattle.base.specs.Text.{bytes}
 use Rattle.decimal.specs.Writing.{wholeOf}
 use Rattle.inputs.specs.declared.Kind.{Kind}
-use Rattle.inputs.specs.declared.Kind.the-variants.{Roughage, Cattle}
+use Rattle.inputs.specs.declared.Kind.the-variants.{Roughage, Cattle, DairyCow}
 use Rattle.farm.specs.declared.Given.the-variants.{Value}
 use Rattle.rules.specs.Rules.{Record, RecordSays}
 use Rattle.gate.specs.declared.Outdoors.{Outdoors}
@@ -48,6 +48,9 @@ entriesOf o =
     ∷ (Cattle at "Livestock::OtherCattle::Outdoor" of "yard_days" is days (o .«yard_days»))
     ∷ (Cattle at "Livestock::OtherCattle::Outdoor" of "grazing_days" is days (o .«grazing_days»))
     ∷ (Cattle at "Livestock::OtherCattle::Outdoor" of "grazing_hours" is hours (o .«grazing_hours»))
+    ∷ (DairyCow at "Livestock::DairyCow::Outdoor" of "yard_days" is days (o .«yard_days»))
+    ∷ (DairyCow at "Livestock::DairyCow::Outdoor" of "grazing_days" is days (o .«grazing_days»))
+    ∷ (DairyCow at "Livestock::DairyCow::Outdoor" of "grazing_hours" is hours (o .«grazing_hours»))
     ∷ []
 
 -- the fields of the record, for the herd of this label

@@ -10,6 +10,8 @@ use Rattle.inputs.specs.declared.Kind.the-variants as kinds
 use Rattle.inputs.specs.Inputs.{countOf}
 use Rattle.farm.specs.declared.Given.{Given}
 use Rattle.farm.specs.declared.Herd.{Herd}
+use Rattle.kinds.specs.declared.CattleKind.{CattleKind}
+use Rattle.kinds.specs.declared.CattleKind.the-variants.{OtherCattle, DairyCow}
 use Rattle.kinds.proofs.Grown.{grownRoughage, grownCattle, grownPigs}
 use Rattle.excretion.specs.Excretion.{«n_excretion_animal»}
 use Rattle.typed.specs.Typed.{
@@ -20,9 +22,11 @@ use Rattle.typed.specs.Typed.{
   enteredAt,
   roughageOf,
   outdoorOf,
+  kindOf,
   cattleOf,
   pigsOf,
 }
+use Rattle.typed.proofs.Fields.{in-slots}
 use Rattle.growing.specs.Growing.{Grows, animals, entered-n, placeOf, NoFewer, no-fewer, More}
 
 -- ---- one input: the same, or a number that is no smaller
@@ -47,16 +51,19 @@ has-animals : (kind : Kind) → placeOf kind "animals" < countOf kind
 has-animals kinds.Roughage = omega arith
 has-animals kinds.Cattle = omega arith
 has-animals kinds.Pigs = omega arith
+has-animals kinds.DairyCow = omega arith
 
 has-n : (kind : Kind) → placeOf kind "inp_n_excretion" < countOf kind
 has-n kinds.Roughage = omega arith
 has-n kinds.Cattle = omega arith
 has-n kinds.Pigs = omega arith
+has-n kinds.DairyCow = omega arith
 
 apart : (kind : Kind) → placeOf kind "animals" < placeOf kind "inp_n_excretion"
 apart kinds.Roughage = omega arith
 apart kinds.Cattle = omega arith
 apart kinds.Pigs = omega arith
+apart kinds.DairyCow = omega arith
 
 pub record BothGrow (kind : Kind) (h g : Herd) : Type 0 where
   pub animals : NoLess (givenAt h (placeOf kind "animals")) (givenAt g (placeOf kind "animals"))
@@ -80,6 +87,24 @@ both-grow {kind = kind} entered-n m =
     }
 
 -- ---- kind by kind
+
+-- both kinds of cattle have the others from the third slot on
+others-alike : (h g : Herd) (k : CattleKind)
+    → ((place : ℕ) → place < 9 → (place ≡ 0 → ⊥) → (place ≡ 1 → ⊥) → givenAt g place ≡ givenAt h place)
+    → cattleOf k g ≡ grownCattle (numberAt g 0) (numberAt g 1) (cattleOf k h)
+unfolding outdoorOf
+others-alike h g k o =
+    rw (
+      in-slots g k,
+      in-slots h k,
+      o 2 (omega arith) (λ e. omega arith) (λ e. omega arith),
+      o 3 (omega arith) (λ e. omega arith) (λ e. omega arith),
+      o 4 (omega arith) (λ e. omega arith) (λ e. omega arith),
+      o 5 (omega arith) (λ e. omega arith) (λ e. omega arith),
+      o 6 (omega arith) (λ e. omega arith) (λ e. omega arith),
+      o 7 (omega arith) (λ e. omega arith) (λ e. omega arith),
+      o 8 (omega arith) (λ e. omega arith) (λ e. omega arith),
+    )
 
 module _ {h g : Herd} where
   module _ (b : BothGrow kinds.Roughage h g) where
@@ -105,29 +130,20 @@ module _ {h g : Herd} where
     unfolding roughageOf
     roughage-head category = head-grows category (b .n)
 
-  module _ (b : BothGrow kinds.Cattle h g) where
-    pub cattle-alike : cattleOf g ≡ grownCattle (numberAt g 0) (numberAt g 1) (cattleOf h)
-    unfolding cattleOf outdoorOf
-    cattle-alike =
-        let o : (place : ℕ) → place < 9 → (place ≡ 0 → ⊥) → (place ≡ 1 → ⊥) → givenAt g place ≡ givenAt h place
-        = b .others in
-        rw (
-          o 2 (omega arith) (λ e. omega arith) (λ e. omega arith),
-          o 3 (omega arith) (λ e. omega arith) (λ e. omega arith),
-          o 4 (omega arith) (λ e. omega arith) (λ e. omega arith),
-          o 5 (omega arith) (λ e. omega arith) (λ e. omega arith),
-          o 6 (omega arith) (λ e. omega arith) (λ e. omega arith),
-          o 7 (omega arith) (λ e. omega arith) (λ e. omega arith),
-          o 8 (omega arith) (λ e. omega arith) (λ e. omega arith),
-        )
+  pub cattle-alike : (k : CattleKind) → BothGrow (kindOf k) h g
+      → cattleOf k g ≡ grownCattle (numberAt g 0) (numberAt g 1) (cattleOf k h)
+  cattle-alike OtherCattle b = others-alike h g OtherCattle (b .others)
+  cattle-alike DairyCow b = others-alike h g DairyCow (b .others)
 
-    pub cattle-animals : cattleOf h .animals ≤ numberAt g 0
-    unfolding cattleOf
-    cattle-animals = number-grows (b .animals)
+  pub cattle-animals : (k : CattleKind) → BothGrow (kindOf k) h g → cattleOf k h .animals ≤ numberAt g 0
+  unfolding cattleOf
+  cattle-animals OtherCattle b = number-grows (b .animals)
+  cattle-animals DairyCow b = number-grows (b .animals)
 
-    pub cattle-head : cattleOf h .«inp_n_excretion» ≤ numberAt g 1
-    unfolding cattleOf
-    cattle-head = number-grows (b .n)
+  pub cattle-head : (k : CattleKind) → BothGrow (kindOf k) h g → cattleOf k h .«inp_n_excretion» ≤ numberAt g 1
+  unfolding cattleOf
+  cattle-head OtherCattle b = number-grows (b .n)
+  cattle-head DairyCow b = number-grows (b .n)
 
   module _ (b : BothGrow kinds.Pigs h g) where
     pub pigs-alike : pigsOf g ≡ grownPigs (numberAt g 0) (numberAt g 1) (pigsOf h)

@@ -10,7 +10,9 @@ use Rattle.inputs.specs.declared.Kind.the-variants as kinds
 use Rattle.farm.specs.declared.Herd.{Herd}
 use Rattle.farm.specs.declared.Checked.the-variants.{Accepted}
 use Rattle.checks.specs.Checks.{checkHerd}
-use Rattle.typed.specs.Typed.{numberAt, enteredAt, roughageOf, cattleOf, pigsOf}
+use Rattle.kinds.specs.declared.CattleKind.{CattleKind}
+use Rattle.kinds.specs.declared.CattleKind.the-variants.{OtherCattle, DairyCow}
+use Rattle.typed.specs.Typed.{numberAt, enteredAt, roughageOf, kindOf, cattleOf, pigsOf}
 use Rattle.outputs.specs.Sections.{FiguresIn}
 use Rattle.outputs.specs.Grams.{gramsOf}
 use Rattle.herd.specs.Herd.{figuresOf}
@@ -37,6 +39,13 @@ by-name : {f g : FiguresIn cutting} → NoLessEmitted f g
 by-name e = more (whole-le (e .yard)) (more (whole-le (e .pasture)) (more (whole-le (e .housing)) none))
 
 module _ {name : String} (grows : Grows name) (h g : Herd) (accepted : checkHerd h ≡ Accepted) where
+  of-cattle : (k : CattleKind) → More name (kindOf k) h g → NoLessAmmonia (herdFigures h) (herdFigures g)
+  unfolding figuresOf
+  of-cattle k m =
+      let b = both-grow grows m in
+      rw (typed-cattle h k (m .kind-of-first), typed-cattle g k (m .kind-of-second), cattle-alike k b)
+      (by-name (cattle-grows (numberAt g 0) (cattleOf k h) (numberAt g 1) (cattle-animals k b) (cattle-head k b)))
+
   of-kind : (kind : Kind) → More name kind h g → NoLessAmmonia (herdFigures h) (herdFigures g)
   unfolding figuresOf
   of-kind kinds.Roughage m =
@@ -44,10 +53,8 @@ module _ {name : String} (grows : Grows name) (h g : Herd) (accepted : checkHerd
       rw (typed-roughage h (m .kind-of-first), typed-roughage g (m .kind-of-second), roughage-alike b)
       (by-name (roughage-grows (numberAt g 1) (roughageOf h) (enteredAt g 2)
       (roughage-sound h accepted (m .kind-of-first)) (roughage-animals b) (roughage-head b _)))
-  of-kind kinds.Cattle m =
-      let b = both-grow grows m in
-      rw (typed-cattle h (m .kind-of-first), typed-cattle g (m .kind-of-second), cattle-alike b)
-      (by-name (cattle-grows (numberAt g 0) (cattleOf h) (numberAt g 1) (cattle-animals b) (cattle-head b)))
+  of-kind kinds.Cattle m = of-cattle OtherCattle m
+  of-kind kinds.DairyCow m = of-cattle DairyCow m
   of-kind kinds.Pigs m =
       let b = both-grow grows m in
       rw (typed-pigs h (m .kind-of-first), typed-pigs g (m .kind-of-second), pigs-alike b)

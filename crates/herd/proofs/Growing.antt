@@ -14,7 +14,7 @@ use Rattle.kinds.specs.Sound.{SoundRoughage}
 use Rattle.kinds.proofs.Grown.{grownRoughage, grownCattle, grownPigs}
 use Rattle.rates.specs.declared.Rates.{Rates}
 use Rattle.rates.specs.Rates.{cattleRates}
-use Rattle.excretion.specs.Excretion.{ExcretionIn, «n_excretion_animal», tanFraction}
+use Rattle.excretion.specs.Excretion.{ExcretionIn, «n_excretion_animal», roughageFraction, cattleFraction}
 use Rattle.excretion.proofs.Growing.{NoLessExcreted, excretion-grows}
 use Rattle.yard.proofs.Growing.{yard-grows}
 use Rattle.pasture.proofs.Growing.{
@@ -91,13 +91,13 @@ module _ (animals : ℕ) where
       → NoLessEmitted (ofRoughage cutting r) (ofRoughage cutting (grownRoughage animals entered r))
   roughage-grows r entered s ha hg =
       roughage-emits _ _
-      (excretion-grows (r .animals) animals _ _ (tanFraction (r .«tan_fraction»)) ha hg) r animals entered s
+      (excretion-grows (r .animals) animals _ _ (roughageFraction r) ha hg) r animals entered s
 
   pub cattle-grows : (c : Cattle) (grams : ℕ) → c .animals ≤ animals → c .«inp_n_excretion» ≤ grams
       → NoLessEmitted (ofCattle cutting c) (ofCattle cutting (grownCattle animals grams c))
   cattle-grows c grams ha hg =
-      outdoor-emits _ _ (excretion-grows (c .animals) animals (c .«inp_n_excretion») grams (c .«tan_fraction») ha hg)
-      cattleRates (c .outdoor)
+      outdoor-emits _ _ (excretion-grows (c .animals) animals (c .«inp_n_excretion») grams (cattleFraction c) ha hg)
+      (cattleRates (c .kind)) (c .outdoor)
 
   pub pigs-grow : (p : Pigs) (grams : ℕ) → p .animals ≤ animals → p .«inp_n_excretion» ≤ grams
       → NoLessEmitted (ofPigs cutting p) (ofPigs cutting (grownPigs animals grams p))

@@ -20,8 +20,8 @@ use Rattle.rates.specs.declared.Rates.{Rates}
 use Rattle.rates.specs.Rates.{cattleRates}
 use Rattle.rates.specs.Bounds.{ModestRates, RatesOf}
 use Rattle.excretion.specs.declared.Excretion.{Excretion}
-use Rattle.excretion.specs.Excretion.{excreted, ofExcretion, «n_excretion_animal», tanFraction}
-use Rattle.excretion.proofs.Modest.{excretion-modest, roughage-grams-le, roughage-fraction-le}
+use Rattle.excretion.specs.Excretion.{excreted, ofExcretion, «n_excretion_animal», roughageFraction, cattleFraction}
+use Rattle.excretion.proofs.Modest.{excretion-modest, roughage-grams-le, roughage-fraction-le, cattle-fraction-le}
 use Rattle.yard.specs.declared.Yard.{Yard}
 use Rattle.yard.specs.Yard.{onYard, noYard, ofYard}
 use Rattle.pasture.specs.declared.Grazing.{Grazing}
@@ -122,23 +122,26 @@ module _ (r : Rates) (o : Outdoor) (hr : ModestRates r) (s : SoundOutdoor o) (e 
     outdoor-grams = are-grams (of-outdoor r o (ofExcretion e) hr s m) (plain e y g h) is-outdoor
 
 -- ---- cattle
-module _ (c : Cattle) (s : SoundCattle c) (e : Excretion)
-    (q : ofExcretion e ≡ excreted cutting (c .animals) (c .«inp_n_excretion») (c .«tan_fraction»)) where
-  pub cattle-modest : Modest (e .«n_excretion») (e .«tan_excretion»)
-  cattle-modest =
-      excretion-modest (c .animals) (c .«inp_n_excretion») (c .«tan_fraction») (s .animals) (s .grams) (s .fraction) e q
+module _ (c : Cattle) (s : SoundCattle c) (fraction : ℕ) (qt : fraction ≡ cattleFraction c) where
+  pub cattle-within : fraction ≤ tenThousandths
+  cattle-within = rw qt (cattle-fraction-le c s)
 
-  pub cattle-grams : (r : Rates) (f : Figures) → RatesOf cattleRates r
-      → f .grams ≡ gramsOf (outdoorOn cutting r (c .outdoor) (ofExcretion e))
-      → f .grams ≡ gramsOf (ofCattle cutting c)
-  cattle-grams r f er p =
-      p ∙ ap (λ x. gramsOf (outdoorOn cutting x (c .outdoor) (ofExcretion e))) (er .is)
-      ∙ ap (λ x. gramsOf (outdoorOn cutting cattleRates (c .outdoor) x)) q
+  module _ (e : Excretion) (q : ofExcretion e ≡ excreted cutting (c .animals) (c .«inp_n_excretion») fraction) where
+    pub cattle-modest : Modest (e .«n_excretion») (e .«tan_excretion»)
+    cattle-modest =
+        excretion-modest (c .animals) (c .«inp_n_excretion») fraction (s .animals) (s .grams) cattle-within e q
+
+    pub cattle-grams : (r : Rates) (f : Figures) → RatesOf (cattleRates (c .kind)) r
+        → f .grams ≡ gramsOf (outdoorOn cutting r (c .outdoor) (ofExcretion e))
+        → f .grams ≡ gramsOf (ofCattle cutting c)
+    cattle-grams r f er p =
+        p ∙ ap (λ x. gramsOf (outdoorOn cutting x (c .outdoor) (ofExcretion e))) (er .is)
+        ∙ ap (λ x. gramsOf (outdoorOn cutting (cattleRates (c .kind)) (c .outdoor) x)) (rw (← qt) q)
 
 -- ---- roughage-consuming animals
 module _ (r : Roughage) (s : SoundRoughage r) (grams fraction : ℕ)
     (qn : grams ≡ «n_excretion_animal» (r .animalcategory) (r .«inp_n_excretion»))
-    (qt : fraction ≡ tanFraction (r .«tan_fraction»)) where
+    (qt : fraction ≡ roughageFraction r) where
   pub grams-within : grams ≤ mostGrams
   grams-within = rw qn (roughage-grams-le r s)
 
@@ -250,7 +253,7 @@ figures-of-pigs i p = figures-are i (kinds.Pigs p)
 
 pub ruleset outdoor-steps = (yard-in-n, yard-in-tan, grazing-in-n, grazing-in-tan, outdoor-small, outdoor-grams)
 
-pub ruleset cattle-steps = (cattle-modest, cattle-grams)
+pub ruleset cattle-steps = (cattle-within, cattle-modest, cattle-grams)
 
 pub ruleset roughage-steps = (
   grams-within,

@@ -9,8 +9,8 @@ use Rattle.kinds.specs.Sound.{SoundOutdoor, SoundRoughage, SoundPigs, Sound, ro
 use Rattle.rates.specs.declared.Rates.{Rates}
 use Rattle.rates.specs.Bounds.{ModestRates}
 use Rattle.rates.proofs.Modest.{cattle-rates-modest}
-use Rattle.excretion.specs.Excretion.{ExcretionIn, «n_excretion_animal», tanFraction}
-use Rattle.excretion.proofs.Modest.{excreted-modest, roughage-grams-le, roughage-fraction-le}
+use Rattle.excretion.specs.Excretion.{ExcretionIn, «n_excretion_animal», roughageFraction, cattleFraction}
+use Rattle.excretion.proofs.Modest.{excreted-modest, roughage-grams-le, roughage-fraction-le, cattle-fraction-le}
 use Rattle.outputs.specs.Sections.{FiguresIn}
 use Rattle.herd.specs.Herd.{roughageOn, ofRoughage, outdoorOn, pigsOn, ofPigs, figuresIn}
 
@@ -28,7 +28,7 @@ module _ (r : Roughage) (s : SoundRoughage r) where
   pub roughage-starts : let e = ofRoughage cutting r .excretion in Modest (e .«n_excretion») (e .«tan_excretion»)
   roughage-starts =
       excreted-modest (r .animals) («n_excretion_animal» (r .animalcategory) (r .«inp_n_excretion»))
-      (tanFraction (r .«tan_fraction»)) (s .animals) (roughage-grams-le r s) (roughage-fraction-le r s)
+      (roughageFraction r) (s .animals) (roughage-grams-le r s) (roughage-fraction-le r s)
 
 module _ (p : Pigs) (s : SoundPigs p) where
   pub pigs-start : let e = ofPigs cutting p .excretion in Modest (e .«n_excretion») (e .«tan_excretion»)
@@ -38,7 +38,7 @@ module _ (p : Pigs) (s : SoundPigs p) where
 pub made : {i : Inputs} → Sound i → Made (figuresIn cutting i)
 made (roughage {r} s) = of-roughage r _ s (roughage-starts r s)
 made (cattle {c} s) =
-    of-outdoor _ (c .outdoor) _ cattle-rates-modest (s .outdoor)
-    (excreted-modest (c .animals) (c .«inp_n_excretion») (c .«tan_fraction») (s .animals) (s .grams) (s .fraction))
+    of-outdoor _ (c .outdoor) _ (cattle-rates-modest (c .kind)) (s .outdoor)
+    (excreted-modest (c .animals) (c .«inp_n_excretion») (cattleFraction c) (s .animals) (s .grams) (cattle-fraction-le c s))
 made (pigs {p} s) =
     of-pigs p _ s (pigs-start p s)

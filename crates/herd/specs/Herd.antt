@@ -11,7 +11,8 @@ use Rattle.kinds.specs.declared.Inputs.the-variants as kinds
 use Rattle.rates.specs.declared.Rates.{Rates}
 use Rattle.rates.specs.Rates.{cattleRates}
 use Rattle.excretion.specs.declared.Excretion.{Excretion}
-use Rattle.excretion.specs.Excretion.{ExcretionIn, excreted, «n_excretion_animal», tanFraction, ofExcretion}
+use Rattle.excretion.specs.Excretion.{ExcretionIn, excreted, «n_excretion_animal», ofExcretion}
+use Rattle.excretion.specs.Excretion.{roughageFraction, cattleFraction}
 use Rattle.yard.specs.declared.Yard.{Yard}
 use Rattle.yard.specs.Yard.{YardIn, onYard, noYard, ofYard}
 use Rattle.pasture.specs.declared.Grazing.{Grazing}
@@ -47,10 +48,10 @@ module _ (A : Arithmetic) where
   ofRoughage r =
       roughageOn r
       (excreted A (r .animals) («n_excretion_animal» (r .animalcategory) (r .«inp_n_excretion»))
-      (tanFraction (r .«tan_fraction»)))
+      (roughageFraction r))
 
-  -- a kind with the module `Outdoor`: 2.33 to 2.35, at its rates; into the housing (2.23) goes what yard and pasture
-  -- leave
+  -- a kind with the module `Outdoor`: 2.33 to 2.35, or 2.18 to 2.20, at its rates; into the housing goes what yard and
+  -- pasture leave (2.23)
   abbrev pub outdoorFrom : ExcretionIn A → YardIn A → GrazingIn A → FiguresIn A
   outdoorFrom e y g =
       withoutPigHouse e y g
@@ -64,9 +65,11 @@ module _ (A : Arithmetic) where
       (onYard A o (e .«n_excretion») (e .«tan_excretion»))
       (outdoorGrazing A r o (e .«n_excretion») (e .«tan_excretion»))
 
-  -- 2.22
+  -- 2.22 or 2.2
   abbrev pub ofCattle : Cattle → FiguresIn A
-  ofCattle c = outdoorOn cattleRates (c .outdoor) (excreted A (c .animals) (c .«inp_n_excretion») (c .«tan_fraction»))
+  ofCattle c =
+      outdoorOn (cattleRates (c .kind)) (c .outdoor)
+      (excreted A (c .animals) (c .«inp_n_excretion») (cattleFraction c))
 
   -- 2.50, 2.61, 2.62; into the housing (2.51) goes what the pasture leaves
   abbrev pub pigsFrom : Pigs → ExcretionIn A → GrazingIn A → Amount → Amount → FiguresIn A

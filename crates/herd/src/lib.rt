@@ -37,7 +37,7 @@ fn roughage_figures(r: Roughage) -> Figures
     let entered_n = r.inp_n_excretion;
     let entered_tan = r.tan_fraction;
     let grams = excretion::n_excretion_animal(r.animalcategory, entered_n);
-    let fraction = excretion::tan_fraction(entered_tan);
+    let fraction = excretion::tan_fraction(tables::SHARE_NSOL, entered_tan);
     let e = excretion::excreted(r.animals, grams, fraction);
     let g = pasture::roughage_grazing(r, e.n_excretion, e.tan_excretion);
     let n = e.n_excretion - g.n_into_grazing;
@@ -61,9 +61,12 @@ fn cattle_figures(c: Cattle) -> Figures
     requires { ⌜ SoundCattle c ⌝ }
     ensures { λ f. ⌜ f .grams ≡ gramsOf (ofCattle cutting c) ⌝ }
 {
+    let kind = c.kind;
     let outdoor = c.outdoor;
-    let e = excretion::excreted(c.animals, c.inp_n_excretion, c.tan_fraction);
-    outdoor_figures(rates::cattle_rates(), outdoor, e)
+    let entered_tan = c.tan_fraction;
+    let fraction = excretion::tan_fraction(tables::DAIRY_SHARE_NSOL, entered_tan);
+    let e = excretion::excreted(c.animals, c.inp_n_excretion, fraction);
+    outdoor_figures(rates::cattle_rates(kind), outdoor, e)
 }
 
 // A pig herd, from what it excretes.

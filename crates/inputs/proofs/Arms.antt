@@ -3,15 +3,15 @@
 use Prim.Native.Nat.{ℕ, zero, suc, _+_, _-_, _<_, _≤_}
 use mathlib.Core.Path.{_≡_, refl, sym, ap, _∙_}
 use mathlib.Core.Bool.{false}
-use mathlib.Core.List.{List, [], _∷_}
+use mathlib.Core.List.{List, [], _∷_, map}
 use native.Mathlib.Omega.{arith}
 use lib.Dec.{lit≤, eqb}
-use lib.ListN.{length, getD}
+use lib.ListN.{length, getD, drop}
 use borrow.Author.Tests.{ne-eqb}
 use Rattle.names.specs.declared.Found.{Found}
 use Rattle.names.specs.declared.Found.the-variants.{At}
 use Rattle.inputs.specs.declared.Kind.{Kind}
-use Rattle.inputs.specs.declared.Kind.the-variants.{Roughage, Cattle, Pigs}
+use Rattle.inputs.specs.declared.Kind.the-variants.{Roughage, Cattle, Pigs, DairyCow}
 use Rattle.inputs.specs.declared.Input.{Input}
 use Rattle.inputs.specs.declared.Module.{Module}
 use Rattle.inputs.specs.declared.Module.the-variants.{Of, Nowhere}
@@ -46,6 +46,25 @@ module _ (k : Kind) where
   numbered-last slot o h =
       let past = none-below (countOf k - 1) slot o in
       h ∙ ap numbered (sym (getD-last (rowsOf k) slot (omega arith)))
+
+-- but for TAN, the inputs of dairy cows have the names and forms of those of other cattle
+numbered-getD : (rows : List Row) (slot : ℕ) (d : Row)
+    → numbered (getD rows slot d) ≡ getD (map numbered rows) slot (numbered d)
+numbered-getD [] slot d = refl
+numbered-getD (row ∷ rows) zero d = refl
+numbered-getD (row ∷ rows) (suc slot) d = numbered-getD rows slot d
+
+alike : (slot : ℕ) → (slot ≡ 2 → ⊥) → numbered (rowAt Cattle slot) ≡ numbered (rowAt DairyCow slot)
+alike zero h = refl
+alike (suc zero) h = refl
+alike (suc (suc zero)) h = absurd (h refl)
+alike (suc (suc (suc more))) h =
+    numbered-getD (drop 3 (rowsOf Cattle)) more (lastOf (rowsOf Cattle))
+    ∙ sym (numbered-getD (drop 3 (rowsOf DairyCow)) more (lastOf (rowsOf DairyCow)))
+
+pub as-other-cattle : (slot : ℕ) {r : Input} → (slot ≡ 2 → ⊥) → r ≡ numbered (rowAt Cattle slot)
+    → r ≡ numbered (rowAt DairyCow slot)
+as-other-cattle slot h e = e ∙ alike slot h
 
 -- ---- of a kind
 
@@ -103,6 +122,14 @@ module _ (name : Found) where
   unfolding findPlaced placedAmong firstRow isPlaced findSlots findWithin
   pigs-free-factor = refl
 
+  pub dairy-excretion : findPlaced (At 10) name ≡ findWithin (Of DairyCow 0 3) name
+  unfolding findPlaced placedAmong firstRow isPlaced findSlots findWithin
+  dairy-excretion = refl
+
+  pub dairy-outdoor : findPlaced (At 11) name ≡ findWithin (Of DairyCow 3 9) name
+  unfolding findPlaced placedAmong firstRow isPlaced findSlots findWithin
+  dairy-outdoor = refl
+
 pub ruleset stretches = (
   roughage-excretion,
   roughage-housing,
@@ -114,15 +141,17 @@ pub ruleset stretches = (
   pigs-air-scrubber,
   pigs-mitigation,
   pigs-free-factor,
+  dairy-excretion,
+  dairy-outdoor,
 )
 
-above : (i place : ℕ) → i < 10 → 10 ≤ place → eqb i place ≡ false
+above : (i place : ℕ) → i < 12 → 12 ≤ place → eqb i place ≡ false
 above i place b past = ne-eqb i place (λ e. omega arith)
 
-pub module-none : (place : ℕ) → NoneOf 10 place → (name : Found) → findPlaced (At place) name ≡ findWithin Nowhere name
+pub module-none : (place : ℕ) → NoneOf 12 place → (name : Found) → findPlaced (At place) name ≡ findWithin Nowhere name
 unfolding findPlaced placedAmong firstRow isPlaced findWithin
 module-none place o name =
-    let past = none-below 10 place o in
+    let past = none-below 12 place o in
     simp (
       above 0 place (lit≤ tt) past,
       above 1 place (lit≤ tt) past,
@@ -134,4 +163,6 @@ module-none place o name =
       above 7 place (lit≤ tt) past,
       above 8 place (lit≤ tt) past,
       above 9 place (lit≤ tt) past,
+      above 10 place (lit≤ tt) past,
+      above 11 place (lit≤ tt) past,
     )

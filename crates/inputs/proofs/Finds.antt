@@ -13,7 +13,7 @@ use Rattle.base.proofs.Clash.{clash}
 use Rattle.base.proofs.Holds.{both-true, same-eq}
 use Rattle.names.proofs.Tables.{entry-at, places}
 use Rattle.inputs.specs.declared.Kind.{Kind}
-use Rattle.inputs.specs.declared.Kind.the-variants.{Roughage, Cattle, Pigs}
+use Rattle.inputs.specs.declared.Kind.the-variants.{Roughage, Cattle, Pigs, DairyCow}
 use Rattle.inputs.specs.declared.Form.{Form}
 use Rattle.inputs.specs.declared.FoundInput.{FoundInput}
 use Rattle.inputs.specs.declared.FoundInput.the-variants.{At}
@@ -87,6 +87,7 @@ unfolding formOf findInput findAmong firstRow isRow sameBytes
 all-found Roughage = refl
 all-found Cattle = refl
 all-found Pigs = refl
+all-found DairyCow = refl
 
 pub find-input-of : (m n : List ℕ) (k : Kind) (slot : ℕ) → IsInput m n k slot → findInput m n ≡ At k slot (formOf k slot)
 find-input-of m n k slot h =

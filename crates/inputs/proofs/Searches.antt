@@ -18,7 +18,7 @@ use Rattle.names.specs.declared.Found.the-variants as founds
 use Rattle.names.specs.Find.{findText, isAt, modules, inputNames}
 use Rattle.names.proofs.Places.{same-text-at, modules-once, input-names-once}
 use Rattle.inputs.specs.declared.Kind.{Kind}
-use Rattle.inputs.specs.declared.Kind.the-variants.{Roughage, Cattle, Pigs}
+use Rattle.inputs.specs.declared.Kind.the-variants.{Roughage, Cattle, Pigs, DairyCow}
 use Rattle.inputs.specs.declared.Input.{Input}
 use Rattle.inputs.specs.declared.Module.{Module}
 use Rattle.inputs.specs.declared.Module.the-variants as stretches
@@ -48,6 +48,7 @@ all-placed : (k : Kind) → Placed (rowsOf k)
 all-placed Roughage = record { texts = refl; places = refl }
 all-placed Cattle = record { texts = refl; places = refl }
 all-placed Pigs = record { texts = refl; places = refl }
+all-placed DairyCow = record { texts = refl; places = refl }
 
 module _ (m n : List ℕ) {x y : Found} (qx : x ≡ findText modules m) (qy : y ≡ findText inputNames n) where
   row-placed : (row : Row) → said row ≡ own row → inside row ≡ true → isRow m n row ≡ isPlaced x y row

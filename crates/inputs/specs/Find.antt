@@ -1,4 +1,4 @@
--- Which input of the list a record's module and name are, byte for byte. It mirrors the code for its contracts; proofs/Founds.antt says what it
+-- Which input of the list a record's module and name are, byte for byte. It mirrors the code for its contracts; proofs/Finds.antt says what it
 -- means.
 use Prim.Native.Nat.{ℕ, zero, suc, _+_, _-_}
 use Prim.Native.String.{String}

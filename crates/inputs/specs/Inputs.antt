@@ -1,4 +1,4 @@
--- 01, The farm file: "Inputs per kind", in its order. The one list that says which inputs there are, where they stand in a file, and
+-- 01, The farm file: "Inputs per kind", in its order, and 02, W9. The one list that says which inputs there are, where they stand in a file, and
 -- what their values may be. To be believed. Numbers count in units of their last decimal: grams for kilograms with three, hundredths of a percent for
 -- percent with two, tenths of an hour for hours with one.
 use Prim.Native.Nat.{ℕ, _*_}
@@ -17,7 +17,7 @@ use Rattle.names.specs.declared.Names.the-variants.{
   HousingAirs,
 }
 use Rattle.inputs.specs.declared.Kind.{Kind}
-use Rattle.inputs.specs.declared.Kind.the-variants.{Roughage, Cattle, Pigs}
+use Rattle.inputs.specs.declared.Kind.the-variants.{Roughage, Cattle, Pigs, DairyCow}
 use Rattle.inputs.specs.declared.Form.{Form}
 use Rattle.inputs.specs.declared.Form.the-variants.{Number, OrStandard, NoStandard, Signed, OneOf}
 
@@ -105,16 +105,28 @@ rowsOf Pigs =
     ∷ ("Livestock::FatteningPigs::Housing::MitigationOptions" has "mitigation_housing_air" reads housingAir)
     ∷ ("Livestock::FatteningPigs::Housing::CFreeFactor" has "free_correction_factor" reads reduction)
     ∷ []
+rowsOf DairyCow =
+    ("Livestock::DairyCow::Excretion" has "animals" reads headCount)
+    ∷ ("Livestock::DairyCow::Excretion" has "inp_n_excretion" reads kilograms NoStandard)
+    ∷ ("Livestock::DairyCow::Excretion" has "tan_fraction" reads percentage OrStandard)
+    ∷ ("Livestock::DairyCow::Outdoor" has "yard_days" reads days)
+    ∷ ("Livestock::DairyCow::Outdoor" has "exercise_yard" reads yard)
+    ∷ ("Livestock::DairyCow::Outdoor" has "floor_properties_exercise_yard" reads floor)
+    ∷ ("Livestock::DairyCow::Outdoor" has "free_correction_factor" reads reduction)
+    ∷ ("Livestock::DairyCow::Outdoor" has "grazing_days" reads days)
+    ∷ ("Livestock::DairyCow::Outdoor" has "grazing_hours" reads hours)
+    ∷ []
 
 -- the kinds in the list's order
 abbrev pub kinds : List Kind
-kinds = Roughage ∷ Cattle ∷ Pigs ∷ []
+kinds = Roughage ∷ Cattle ∷ Pigs ∷ DairyCow ∷ []
 
 -- two kinds are one
 abbrev pub numberOf : Kind → ℕ
 numberOf Roughage = 0
 numberOf Cattle = 1
 numberOf Pigs = 2
+numberOf DairyCow = 3
 
 abbrev pub sameKind : Kind → Kind → Bool
 sameKind a b = eqb (numberOf a) (numberOf b)

@@ -7,16 +7,17 @@ use names::Names;
 ghost use mathlib.Core.Path.{_≡_};
 ghost use Rattle.names.specs.declared.Found.{Found};
 ghost use Rattle.names.specs.declared.Found.the-variants.{At};
-ghost use Rattle.inputs.specs.declared.Kind.the-variants.{Roughage, Cattle, Pigs};
+ghost use Rattle.inputs.specs.declared.Kind.the-variants.{Roughage, Cattle, Pigs, DairyCow};
 ghost use Rattle.inputs.specs.declared.Module.the-variants.{Of};
 ghost use Rattle.inputs.specs.Inputs.{numberOf, sameKind, countOf, rowAt, formOf};
 ghost use Rattle.inputs.specs.Find.{findInput, numbered, findPlaced, findWithin};
 
-// The three kinds of herd.
+// The four kinds of herd.
 pub enum Kind {
     Roughage,
     Cattle,
     Pigs,
+    DairyCow,
 }
 
 // How a value reads: a number, by its decimals and the most it may be in units of the last decimal; such a number for which `standard`
@@ -75,6 +76,7 @@ fn number_of(kind: Kind) -> u64
         Kind::Roughage => 0,
         Kind::Cattle => 1,
         Kind::Pigs => 2,
+        Kind::DairyCow => 3,
     }
 }
 
@@ -92,6 +94,7 @@ pub fn count_of(kind: Kind) -> usize
         Kind::Roughage => 7,
         Kind::Cattle => 9,
         Kind::Pigs => 8,
+        Kind::DairyCow => 9,
     }
 }
 
@@ -144,6 +147,16 @@ fn pigs(slot: usize) -> Input
     }
 }
 
+// Those of other cattle, but for the `standard` of TAN.
+fn dairy_cow(slot: usize) -> Input
+    ensures { λ r. ⌜ r ≡ numbered (rowAt DairyCow slot) ⌝ }
+{
+    match slot {
+        2 => Input(names::TAN_FRACTION, PERCENTAGE_OR_STANDARD),
+        _ => cattle(slot),
+    }
+}
+
 fn input_at(kind: Kind, slot: usize) -> Input
     ensures { λ r. ⌜ r ≡ numbered (rowAt kind slot) ⌝ }
 {
@@ -151,6 +164,7 @@ fn input_at(kind: Kind, slot: usize) -> Input
         Kind::Roughage => roughage(slot),
         Kind::Cattle => cattle(slot),
         Kind::Pigs => pigs(slot),
+        Kind::DairyCow => dairy_cow(slot),
     }
 }
 
@@ -182,6 +196,8 @@ fn module_at(place: usize) -> Module
         names::PIGS_AIR_SCRUBBER => Module::Of(Kind::Pigs, 4, 5),
         names::PIGS_MITIGATION => Module::Of(Kind::Pigs, 5, 7),
         names::PIGS_FREE_FACTOR => Module::Of(Kind::Pigs, 7, 8),
+        names::DAIRY_EXCRETION => Module::Of(Kind::DairyCow, 0, 3),
+        names::DAIRY_OUTDOOR => Module::Of(Kind::DairyCow, 3, 9),
         _ => Module::Nowhere,
     }
 }

@@ -21,6 +21,7 @@ grownRoughage animals n r =
 abbrev pub grownCattle : ℕ → ℕ → Cattle → Cattle
 grownCattle animals n c =
     record {
+      kind = c .kind;
       animals = animals;
       «inp_n_excretion» = n;
       «tan_fraction» = c .«tan_fraction»;

@@ -42,7 +42,7 @@ pub record SoundOutdoor (o : Outdoor) : Type 0 where
 pub record SoundCattle (c : Cattle) : Type 0 where
   pub animals : c .animals ≤ mostAnimals
   pub grams : c .«inp_n_excretion» ≤ mostGrams
-  pub fraction : c .«tan_fraction» ≤ tenThousandths
+  pub fraction : EnteredTo tenThousandths (c .«tan_fraction»)
   pub outdoor : SoundOutdoor (c .outdoor)
 
 pub record SoundPigs (p : Pigs) : Type 0 where

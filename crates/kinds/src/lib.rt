@@ -10,7 +10,7 @@ pub enum Entered {
     Number(u64),
 }
 
-// 2.34, share_excretion.
+// 2.34 and 2.19, share_excretion.
 pub enum ExerciseYard {
     NotAvailable,
     NotSupplied,
@@ -18,7 +18,7 @@ pub enum ExerciseYard {
     Exclusively,
 }
 
-// 2.34, c_floor_properties_exercise_yard.
+// 2.34 and 2.19, c_floor_properties_exercise_yard.
 pub enum Floor {
     Solid,
     Unpaved,
@@ -53,7 +53,7 @@ pub enum HousingAir {
     None,
 }
 
-// 2.33, the module `Outdoor`: exercise yard and grazing.
+// 2.33 and 2.18, the module `Outdoor`: exercise yard and grazing.
 pub struct Outdoor {
     pub yard_days: u64,
     pub exercise_yard: ExerciseYard,
@@ -74,11 +74,18 @@ pub struct Roughage {
     pub grazing_hours: u64,
 }
 
-// Other cattle.
+// Cattle by the section of their excretion: 2.22, or 2.2 (02, W9).
+pub enum CattleKind {
+    OtherCattle,
+    DairyCow,
+}
+
+// Other cattle and dairy cows. `standard` for TAN is read for dairy cows alone.
 pub struct Cattle {
+    pub kind: CattleKind,
     pub animals: u64,
     pub inp_n_excretion: u64,
-    pub tan_fraction: u64,
+    pub tan_fraction: Entered,
     pub outdoor: Outdoor,
 }
 

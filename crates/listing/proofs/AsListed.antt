@@ -13,7 +13,7 @@ use Rattle.base.specs.Text.{bytes}
 use Rattle.base.proofs.Runs.{run-at}
 use Rattle.base.proofs.Table.{both-left, both-right}
 use Rattle.inputs.specs.declared.Kind.{Kind}
-use Rattle.inputs.specs.declared.Kind.the-variants.{Roughage, Cattle, Pigs}
+use Rattle.inputs.specs.declared.Kind.the-variants.{Roughage, Cattle, Pigs, DairyCow}
 use Rattle.farm.specs.declared.Label.{Label}
 use Rattle.farm.specs.Labels.{text}
 use Rattle.outputs.specs.declared.Figures.{Figures}
@@ -70,6 +70,7 @@ herd-numbers : (k : Kind) → T (all (λ (n : ℕ). ltb n (length herdEntries)) 
 herd-numbers Roughage = tt
 herd-numbers Cattle = tt
 herd-numbers Pigs = tt
+herd-numbers DairyCow = tt
 
 pub herd-known : (k : Kind) {grams : List ℤ} {lines : List ℕ} → length grams ≡ length rows → lines ≡ map number (linesOf k) → Known herdTable herdStarts grams lines
 herd-known k {grams} n e = rw e (record {
@@ -86,6 +87,8 @@ unfolding herdLines
 as-listed label Roughage f = numbered-is label (bytes (pathOf Roughage)) herdEntries (f .grams) (map number (linesOf Roughage)) tt
 as-listed label Cattle f = numbered-is label (bytes (pathOf Cattle)) herdEntries (f .grams) (map number (linesOf Cattle)) tt
 as-listed label Pigs f = numbered-is label (bytes (pathOf Pigs)) herdEntries (f .grams) (map number (linesOf Pigs)) tt
+as-listed label DairyCow f =
+    numbered-is label (bytes (pathOf DairyCow)) herdEntries (f .grams) (map number (linesOf DairyCow)) tt
 
 pub herd-is : (l : Label) (k : Kind) (f : Figures) {owner lines : List ℕ} → owner ≡ ownerOf (text l) (bytes (pathOf k))
     → lines ≡ map number (linesOf k) → numbered owner herdTable herdStarts (f .grams) lines ≡ herdListing l k f

@@ -13,7 +13,7 @@ use Rattle.base.specs.Pick.{pick}
 use Rattle.base.specs.Text.{bytes}
 use Rattle.decimal.specs.Writing.{kilogramsOf}
 use Rattle.inputs.specs.declared.Kind.{Kind}
-use Rattle.inputs.specs.declared.Kind.the-variants.{Roughage, Cattle, Pigs}
+use Rattle.inputs.specs.declared.Kind.the-variants.{Roughage, Cattle, Pigs, DairyCow}
 use Rattle.outputs.specs.declared.Figures.{Figures}
 use Rattle.outputs.specs.declared.Totals.{Totals}
 use Rattle.outputs.specs.Names.{number, totalNumber, totalTexts}
@@ -76,6 +76,7 @@ lineRoom without k n =
 pub data Lacks : Kind → List String → Type 0 where
   roughage : Lacks Roughage noN2
   cattle : Lacks Cattle noN2
+  dairy-cows : Lacks DairyCow noN2
   pigs-outdoors : Lacks Pigs outdoors
   pigs-on-slurry : Lacks Pigs onSlurry
   pigs-on-litter : Lacks Pigs onLitter
@@ -83,6 +84,7 @@ pub data Lacks : Kind → List String → Type 0 where
 rooms : {k : Kind} {without : List String} → Lacks k without → sumOf (lineRoom without k) (linesOf k) ≤ herdRoom
 rooms Lacks.roughage = leb→le _ _ tt
 rooms Lacks.cattle = leb→le _ _ tt
+rooms Lacks.dairy-cows = leb→le _ _ tt
 rooms Lacks.pigs-outdoors = leb→le _ _ tt
 rooms Lacks.pigs-on-slurry = leb→le _ _ tt
 rooms Lacks.pigs-on-litter = leb→le _ _ tt

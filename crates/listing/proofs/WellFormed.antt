@@ -18,7 +18,7 @@ use Rattle.base.proofs.Holds.{both-true}
 use Rattle.csv.specs.Grammar.{comma, quote, cr, lf, Text, Plain, Inside, FieldOf, RecordOf, FileOf}
 use Rattle.decimal.specs.Writing.{lowest, width, wholeOf, thousandthsOf, sign, kilogramsOf}
 use Rattle.inputs.specs.declared.Kind.{Kind}
-use Rattle.inputs.specs.declared.Kind.the-variants.{Roughage, Cattle, Pigs}
+use Rattle.inputs.specs.declared.Kind.the-variants.{Roughage, Cattle, Pigs, DairyCow}
 use Rattle.farm.specs.declared.Label.{Label}
 use Rattle.farm.specs.Labels.{byteOk, allOk, text, labelOk}
 use Rattle.outputs.specs.declared.Figures.{Figures}
@@ -68,6 +68,7 @@ plain-path : (k : Kind) → Plain (bytes (pathOf k))
 plain-path Roughage = plain _ refl
 plain-path Cattle = plain _ refl
 plain-path Pigs = plain _ refl
+plain-path DairyCow = plain _ refl
 
 -- the section of a name and the name itself; every one that a kind lists, and every total, computed
 abbrev plainName : String → Bool
@@ -77,6 +78,7 @@ names-plain : (k : Kind) → all plainName (linesOf k) ≡ true
 names-plain Roughage = refl
 names-plain Cattle = refl
 names-plain Pigs = refl
+names-plain DairyCow = refl
 
 totals-plain : all (λ (n : String). allPast (bytes n)) totalTexts ≡ true
 totals-plain = refl

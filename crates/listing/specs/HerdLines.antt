@@ -1,14 +1,15 @@
--- 01, The listing, "Order", and 02, W1: the names that a herd of each kind lists, each under the section of its row.
+-- 01, The listing, "Order", and 02, W1 and W9: the names that a herd of each kind lists, each under the section of its row.
 use Prim.Native.String.{String}
 use mathlib.Core.List.{List, [], _∷_, _++_}
 use Rattle.inputs.specs.declared.Kind.{Kind}
-use Rattle.inputs.specs.declared.Kind.the-variants.{Roughage, Cattle, Pigs}
+use Rattle.inputs.specs.declared.Kind.the-variants.{Roughage, Cattle, Pigs, DairyCow}
 
 -- the module of a kind
 abbrev pub pathOf : Kind → String
 pathOf Roughage = "Livestock::RoughageConsuming"
 pathOf Cattle = "Livestock::OtherCattle"
 pathOf Pigs = "Livestock::FatteningPigs"
+pathOf DairyCow = "Livestock::DairyCow"
 
 abbrev excretion : List String
 excretion = "n_excretion" ∷ "tan_excretion" ∷ []
@@ -52,7 +53,12 @@ solidGases = "n2_nsolid" ∷ "no_nsolid" ∷ "n2o_nsolid" ∷ []
 abbrev pub liquidGases : List String
 liquidGases = "n2_nliquid" ∷ "no_nliquid" ∷ "n2o_nliquid" ∷ []
 
+abbrev outdoorLines : List String
+outdoorLines = excretion ++ yard ++ grazing ++ intoHousing
+
+-- 02, W9: "the lines are listed in the cattle order"
 abbrev pub linesOf : Kind → List String
 linesOf Roughage = excretion ++ grazing ++ intoHousing ++ roughageHousing
-linesOf Cattle = excretion ++ yard ++ grazing ++ intoHousing
+linesOf Cattle = outdoorLines
 linesOf Pigs = excretion ++ grazing ++ intoHousing ++ pigHousing ++ solidGases ++ liquidGases
+linesOf DairyCow = outdoorLines

@@ -12,7 +12,7 @@ use Rattle.base.specs.Runs.{joined, starts, all}
 use Rattle.base.specs.Text.{bytes}
 use Rattle.decimal.specs.Writing.{kilogramsOf}
 use Rattle.inputs.specs.declared.Kind.{Kind}
-use Rattle.inputs.specs.declared.Kind.the-variants.{Roughage, Cattle, Pigs}
+use Rattle.inputs.specs.declared.Kind.the-variants.{Roughage, Cattle, Pigs, DairyCow}
 use Rattle.outputs.specs.Names.{Row, rows, number, totalTexts}
 use Rattle.outputs.specs.Grams.{at}
 use Rattle.listing.specs.HerdLines.{pathOf, linesOf}
@@ -22,20 +22,27 @@ use Rattle.listing.specs.Listing.{labelField, each}
 -- ---- the kinds by number
 
 abbrev pub kinds : List Kind
-kinds = Roughage ∷ Cattle ∷ Pigs ∷ []
+kinds = Roughage ∷ Cattle ∷ Pigs ∷ DairyCow ∷ []
 
 abbrev pub kindNumber : Kind → ℕ
 kindNumber Roughage = 0
 kindNumber Cattle = 1
 kindNumber Pigs = 2
+kindNumber DairyCow = 3
 
 -- the path of each
 abbrev pub paths : List (List ℕ)
 paths = map (λ (k : Kind). bytes (pathOf k)) kinds
 
--- the numbers of the names that each lists
+-- the numbers of the names that a kind lists, list by list; both kinds with a yard have one
 abbrev pub listed : List (List ℕ)
-listed = map (λ (k : Kind). map number (linesOf k)) kinds
+listed = map (λ (k : Kind). map number (linesOf k)) (Roughage ∷ Cattle ∷ Pigs ∷ [])
+
+abbrev pub listNumber : Kind → ℕ
+listNumber Roughage = 0
+listNumber Cattle = 1
+listNumber Pigs = 2
+listNumber DairyCow = 1
 
 -- ---- what stands in a line between its owner and its amount, by the number of the name
 

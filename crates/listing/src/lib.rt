@@ -43,7 +43,7 @@ pub fn put_herd_lines(out: &mut [u8], at: usize, label: Label, kind: Kind, f: Fi
     let mut in_owner = [0u8; OWNER_MOST];
     let n = owners::put_owner(&mut in_owner, label, kind);
     let owner = base::part_of(&in_owner, 0, n);
-    let k = owners::number_of(kind);
+    let k = owners::list_of(kind);
     let from = texts::LINE_STARTS[k];
     let to = texts::LINE_STARTS[k + 1];
     let listed = texts::LINES;

@@ -1,4 +1,4 @@
-// Whose lines they are: a label as a field, a comma, and the path of a kind.
+// Whose lines they are: a label as a field, a comma, and the path of a kind; and which lines.
 use crate::labels;
 use crate::texts;
 use farm::Label;
@@ -11,16 +11,29 @@ ghost use Rattle.base.specs.Wrote.{Wrote};
 ghost use Rattle.farm.specs.Labels.{text};
 ghost use Rattle.listing.specs.Bounds.{longestOwner};
 ghost use Rattle.listing.specs.HerdLines.{pathOf};
-ghost use Rattle.listing.specs.Numbered.{kinds, kindNumber, ownerOf};
+ghost use Rattle.listing.specs.Numbered.{kinds, kindNumber, listed, listNumber, ownerOf};
 
-// The number of a kind, by which the tables have its path and its lines.
-pub fn number_of(kind: Kind) -> usize
+// The number of a kind, by which the table of the paths has its own.
+fn number_of(kind: Kind) -> usize
     ensures { λ r. ⌜ (r ≡ kindNumber kind) × (r < length kinds) ⌝ }
 {
     match kind {
         Kind::Roughage => 0,
         Kind::Cattle => 1,
         Kind::Pigs => 2,
+        Kind::DairyCow => 3,
+    }
+}
+
+// The number of a kind's lines among the lists of lines.
+pub fn list_of(kind: Kind) -> usize
+    ensures { λ r. ⌜ (r ≡ listNumber kind) × (r < length listed) ⌝ }
+{
+    match kind {
+        Kind::Roughage => 0,
+        Kind::Cattle => 1,
+        Kind::Pigs => 2,
+        Kind::DairyCow => 1,
     }
 }
 

@@ -4,17 +4,20 @@ use outputs::names;
 use outputs::total_names;
 
 // How many kinds of herd there are.
-const KINDS: usize = 3;
+const KINDS: usize = 4;
 
 // The path of each kind.
-pub const PATHS: [u8; 74] = *b"\
+pub const PATHS: [u8; 93] = *b"\
 Livestock::RoughageConsuming\
 Livestock::OtherCattle\
-Livestock::FatteningPigs";
+Livestock::FatteningPigs\
+Livestock::DairyCow";
 
-pub const PATH_STARTS: [usize; KINDS + 1] = [0, 28, 50, 74];
+pub const PATH_STARTS: [usize; KINDS + 1] = [0, 28, 50, 74, 93];
 
-// The lines of each kind.
+// The lists of lines: roughage, the kinds with a yard, pigs.
+const LISTS: usize = 3;
+
 pub const LINES: [usize; 55] = [
     // roughage
     names::N_EXCRETION,
@@ -32,7 +35,7 @@ pub const LINES: [usize; 55] = [
     names::NH3_NHOUSING,
     names::N_OUTHOUSING,
     names::TAN_OUTHOUSING,
-    // cattle
+    // cattle and dairy cows
     names::N_EXCRETION,
     names::TAN_EXCRETION,
     names::N_INTO_YARD,
@@ -76,7 +79,7 @@ pub const LINES: [usize; 55] = [
     names::N2O_NLIQUID,
 ];
 
-pub const LINE_STARTS: [usize; KINDS + 1] = [0, 15, 32, 55];
+pub const LINE_STARTS: [usize; LISTS + 1] = [0, 15, 32, 55];
 
 // What stands in a herd's line between its owner and its amount, by the number of the name.
 pub const MIDDLES: [u8; 734] = *b"\

@@ -16,7 +16,11 @@ use Rattle.farm.specs.declared.Checked.{Checked}
 use Rattle.farm.specs.declared.Checked.the-variants.{Accepted, Refused}
 use Rattle.farm.specs.Herds.{isMissing, noSlot}
 use Rattle.checks.specs.Checks.{fits, lacksOne, unfitOne, lacks, unfit, checkHerd}
+use Rattle.kinds.specs.declared.CattleKind.{CattleKind}
+use Rattle.kinds.specs.declared.CattleKind.the-variants.{OtherCattle, DairyCow}
+use Rattle.kinds.specs.declared.Inputs.the-variants as typed
 use Rattle.typed.specs.Typed.{givenAt, roughageOf, outdoorOf, cattleOf, pigsOf, typedAs, typedOf}
+use Rattle.typed.proofs.Fields.{in-slots}
 use Rattle.model.specs.Answers.{answerHerd, herdAnswer}
 use Rattle.model.specs.Truths.{SameInFront}
 
@@ -51,6 +55,23 @@ module _ (k : Kind) (h g : Herd) (front : take (countOf k) (g .slots) ≡ take (
       ∙ ap (λ (l : List Slot). getD l i noSlot) front
       ∙ getD-take (countOf k) (h .slots) i noSlot b)
 
+same-cattle : (h g : Herd) → ((i : ℕ) → i < 9 → givenAt g i ≡ givenAt h i) → (k : CattleKind) → cattleOf k g ≡ cattleOf k h
+unfolding outdoorOf
+same-cattle h g s k =
+    rw (
+      in-slots g k,
+      in-slots h k,
+      s 0 (omega arith),
+      s 1 (omega arith),
+      s 2 (omega arith),
+      s 3 (omega arith),
+      s 4 (omega arith),
+      s 5 (omega arith),
+      s 6 (omega arith),
+      s 7 (omega arith),
+      s 8 (omega arith),
+    )
+
 same-typed : (k : Kind) (h g : Herd) → take (countOf k) (g .slots) ≡ take (countOf k) (h .slots)
     → typedAs k g ≡ typedAs k h
 unfolding roughageOf outdoorOf cattleOf pigsOf
@@ -65,19 +86,9 @@ same-typed kinds.Roughage h g front =
       s 5 (omega arith),
       s 6 (omega arith),
     )
-same-typed kinds.Cattle h g front =
-    let s = same-given kinds.Cattle h g front in
-    rw (
-      s 0 (omega arith),
-      s 1 (omega arith),
-      s 2 (omega arith),
-      s 3 (omega arith),
-      s 4 (omega arith),
-      s 5 (omega arith),
-      s 6 (omega arith),
-      s 7 (omega arith),
-      s 8 (omega arith),
-    )
+same-typed kinds.Cattle h g front = ap typed.Cattle (same-cattle h g (same-given kinds.Cattle h g front) OtherCattle)
+same-typed kinds.DairyCow h g front =
+    ap typed.Cattle (same-cattle h g (same-given kinds.DairyCow h g front) DairyCow)
 same-typed kinds.Pigs h g front =
     let s = same-given kinds.Pigs h g front in
     rw (

@@ -27,6 +27,7 @@ use Rattle.kinds.specs.declared.ExerciseYard.the-variants.{NotAvailable}
 use Rattle.kinds.specs.declared.HousingType.{HousingType}
 use Rattle.kinds.specs.declared.HousingType.the-variants.{Outdoor}
 use Rattle.kinds.specs.declared.Roughage.{Roughage}
+use Rattle.kinds.specs.declared.CattleKind.{CattleKind}
 use Rattle.kinds.specs.declared.Cattle.{Cattle}
 use Rattle.kinds.specs.declared.Pigs.{Pigs}
 use Rattle.kinds.specs.declared.Inputs.{Inputs}
@@ -34,7 +35,7 @@ use Rattle.kinds.specs.declared.Inputs.the-variants as typed
 use Rattle.kinds.specs.Sound.{SoundRoughage, SoundCattle, Sound, roughage, cattle}
 use Rattle.kinds.specs.Sound as sound
 use Rattle.rates.specs.Rates.{cattleRates}
-use Rattle.excretion.specs.Excretion.{ExcretionIn, excreted}
+use Rattle.excretion.specs.Excretion.{ExcretionIn, excreted, cattleFraction}
 use Rattle.yard.specs.Yard.{YardIn, onYard, noYard}
 use Rattle.yard.proofs.Truths.{tan-into-yard-in-n, not-available-no-yard}
 use Rattle.pasture.specs.Pasture.{
@@ -67,7 +68,8 @@ use Rattle.pig_house.proofs.Truths.{
   outdoor-fractions-are-empty,
   outdoors-no-gases,
 }
-use Rattle.typed.specs.Typed.{roughageOf, outdoorOf, cattleOf, pigsOf, typedOf}
+use Rattle.typed.specs.Typed.{roughageOf, outdoorOf, kindOf, cattleOf, pigsOf, typedOf}
+use Rattle.typed.proofs.Fields.{in-slots}
 use Rattle.typed.proofs.Sound.{typed-sound}
 use Rattle.outputs.specs.declared.Figures.{Figures}
 use Rattle.outputs.specs.Sections.{FiguresIn}
@@ -186,6 +188,7 @@ housing-emits-part h accepted free e = emits-part (typed-sound h accepted) free 
 abbrev daysChanged : ℕ → Cattle → Cattle
 daysChanged days c =
     record {
+      kind = c .kind;
       animals = c .animals;
       «inp_n_excretion» = c .«inp_n_excretion»;
       «tan_fraction» = c .«tan_fraction»;
@@ -197,21 +200,24 @@ module _ (c : Cattle) (days : ℕ) (s : SoundCattle c) (few : days ≤ year)
   same-cattle : figuresOf (typed.Cattle (daysChanged days c)) ≡ figuresOf (typed.Cattle c)
   unfolding figuresOf
   same-cattle =
-      let e = excreted cutting (c .animals) (c .«inp_n_excretion») (c .«tan_fraction») in
+      let e = excreted cutting (c .animals) (c .«inp_n_excretion») (cattleFraction c) in
+      let r = cattleRates (c .kind) in
       let n = e .«n_excretion» in
       let tan = e .«tan_excretion» in
       let o = c .outdoor in
-      let grazing = outdoorGrazing cutting cattleRates (withYardDays days o) n tan in
+      let grazing = outdoorGrazing cutting r (withYardDays days o) n tan in
       ap (λ (y : YardIn cutting). herdOf (outdoorFrom cutting e y grazing))
       (not-available-no-yard (withYardDays days o) no-yard n tan ∙ sym (not-available-no-yard o no-yard n tan))
       ∙ ap (λ (g : GrazingIn cutting). herdOf (outdoorFrom cutting e (onYard cutting o n tan) g))
-      (not-available-same-pasture cutting cattleRates o days n tan (s .outdoor) few no-yard)
+      (not-available-same-pasture cutting r o days n tan (s .outdoor) few no-yard)
 
-module _ (h g : Herd) (same : SameButYardDays h g) where
-  other-days : cattleOf g ≡ daysChanged (cattleOf g .outdoor .«yard_days») (cattleOf h)
-  unfolding cattleOf outdoorOf
+module _ (h g : Herd) (same : SameButYardDays h g) (k : CattleKind) where
+  other-days : cattleOf k g ≡ daysChanged (cattleOf k g .outdoor .«yard_days») (cattleOf k h)
+  unfolding outdoorOf
   other-days =
       rw (
+        in-slots g k,
+        in-slots h k,
         same 0 (λ e. omega arith),
         same 1 (λ e. omega arith),
         same 2 (λ e. omega arith),
@@ -222,15 +228,14 @@ module _ (h g : Herd) (same : SameButYardDays h g) where
         same 8 (λ e. omega arith),
       )
 
-  pub yard-days-without-yard : checkHerd h ≡ Accepted → checkHerd g ≡ Accepted → h .kind ≡ kinds.Cattle
-      → g .kind ≡ kinds.Cattle
-      → outdoorOf kinds.Cattle h .«exercise_yard» ≡ NotAvailable → herdFigures g ≡ herdFigures h
+  pub yard-days-without-yard : checkHerd h ≡ Accepted → checkHerd g ≡ Accepted → h .kind ≡ kindOf k → g .kind ≡ kindOf k
+      → outdoorOf (kindOf k) h .«exercise_yard» ≡ NotAvailable → herdFigures g ≡ herdFigures h
   unfolding cattleOf
   yard-days-without-yard ah ag kh kg no-yard =
-      rw (typed-cattle g kg, typed-cattle h kh)
+      rw (typed-cattle g k kg, typed-cattle h k kh)
       (ap (λ (c : Cattle). figuresOf (typed.Cattle c)) other-days
-      ∙ same-cattle (cattleOf h) (cattleOf g .outdoor .«yard_days») (cattle-sound h ah kh)
-      (cattle-sound g ag kg .outdoor .yard) no-yard)
+      ∙ same-cattle (cattleOf k h) (cattleOf k g .outdoor .«yard_days») (cattle-sound h ah k kh)
+      (cattle-sound g ag k kg .outdoor .yard) no-yard)
 
 -- ---- pigs
 

@@ -1,8 +1,8 @@
 -- 01, Herds on both sides of an edge: the rows marked (P), as one table under one statement (`edges` of
 -- proofs/Edges.antt). With them the c of row 9, which a program runs: no figure shows it, since nothing goes into the
 -- housing there. Then the rows of the notes (crate `notes`, specs/Rows), 01's example of a cut that is no rounding to
--- nearest, a row for each share and each floor, rows of three pig houses (02, W1), and rows of free factors below zero
--- (02, W3). To be believed.
+-- nearest, a row for each share and each floor, rows of three pig houses (02, W1), of free factors below zero (02, W3),
+-- and of dairy cows (02, W9). To be believed.
 use Prim.Native.Nat.{ℕ}
 use Prim.Native.String.{String}
 use mathlib.Core.Path.{_≡_}
@@ -22,7 +22,7 @@ use Rattle.kinds.specs.declared.HousingAir.the-variants as air
 use Rattle.kinds.specs.declared.Inputs.{Inputs}
 use Rattle.housing.specs.Housing.{«c_grazing»}
 use Rattle.notes.specs.Rows as notes
-use Rattle.notes.specs.Rows.{Row, told, _gets_, below, cattle, outdoors, roughage, pigsIn, pigs, category}
+use Rattle.notes.specs.Rows.{Row, told, _gets_, below, cattle, dairyCows, outdoors, roughage, pigsIn, pigs, category}
 use Rattle.outputs.specs.Grams.{figure}
 use Rattle.herd.specs.Herd.{figuresOf}
 
@@ -100,6 +100,10 @@ litterHouse = pigs (13 kg) 7000 housed.DeepLitter
 -- 02, W3: the same with twice its rate
 abbrev litterTwice : Inputs
 litterTwice = pigsIn (13 kg) 7000 housed.DeepLitter scrubber.None air.None (below 100)
+
+-- 02, W9: 10 dairy cows of 112 kg at the TAN of 2.2, 1,120,000 g N and 616,000 g TAN
+abbrev milked : Inputs
+milked = dairyCows 10 (112 kg) Standard (outdoors 365 Exclusively Solid (pos 0) 200 120)
 
 -- ---- the table
 
@@ -216,6 +220,24 @@ further =
     -- deep litter comes to 0.972, and to no ceiling
     ∷ gives litterTwice "nh3_nhousing" (pos 88452)
     ∷ gives litterTwice "tan_outhousing_solid" (pos 2548)
+    -- 02, W9: the yard has 0.6 of 165 days and 0.2 of 200
+    ∷ gives milked "n_excretion" (pos 1120000)
+    ∷ gives milked "tan_excretion" (pos 616000)
+    ∷ gives milked "n_into_yard" (pos 426520)
+    ∷ gives milked "tan_into_yard" (pos 234586)
+    ∷ gives milked "nh3_nyard" (pos 164210)
+    ∷ gives milked "n_outyard_liquid" (pos 262310)
+    ∷ gives milked "tan_outyard_liquid" (pos 70376)
+    ∷ gives milked "n_into_grazing" (pos 245479)
+    ∷ gives milked "tan_into_grazing" (pos 135013)
+    ∷ gives milked "nh3_ngrazing" (pos 11206)
+    ∷ gives milked "n2_ngrazing" (pos 0)
+    ∷ gives milked "no_ngrazing" (pos 1350)
+    ∷ gives milked "n2o_ngrazing" (pos 4909)
+    ∷ gives milked "n_remain_grazing" (pos 228014)
+    ∷ gives milked "tan_remain_grazing" (pos 117548)
+    ∷ gives milked "n_into_housing" (pos 448001)
+    ∷ gives milked "tan_into_housing" (pos 246401)
     ∷ []
 
 abbrev pub table : List Edge

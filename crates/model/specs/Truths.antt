@@ -58,7 +58,8 @@ EmitsNoMore f = natAbs (figure "nh3_nhousing" f) ≤ natAbs (figure "tan_into_ho
 abbrev pub EmitsPart : Figures → Type 0
 EmitsPart f = 100 * natAbs (figure "nh3_nhousing" f) ≤ 73 * natAbs (figure "tan_into_housing" f)
 
--- two records of cattle that say the same of every input but the yard days
+-- two records of cattle, or of dairy cows, that say the same of every input but the yard days, which have one place in
+-- both lists
 abbrev pub SameButYardDays : Herd → Herd → Type 0
 SameButYardDays h g =
     (place : ℕ) → (place ≡ placeNamed "yard_days" (rowsOf Cattle) → ⊥) → givenAt g place ≡ givenAt h place

@@ -48,6 +48,8 @@ modules =
     ∷ "Livestock::FatteningPigs::Housing::AirScrubber"
     ∷ "Livestock::FatteningPigs::Housing::MitigationOptions"
     ∷ "Livestock::FatteningPigs::Housing::CFreeFactor"
+    ∷ "Livestock::DairyCow::Excretion"
+    ∷ "Livestock::DairyCow::Outdoor"
     ∷ []
 
 abbrev pub inputNames : List String

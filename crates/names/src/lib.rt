@@ -50,6 +50,10 @@ pub const PIGS_MITIGATION: usize = 8;
 
 pub const PIGS_FREE_FACTOR: usize = 9;
 
+pub const DAIRY_EXCRETION: usize = 10;
+
+pub const DAIRY_OUTDOOR: usize = 11;
+
 // Which module a path is.
 pub fn find_module(text: &[u8]) -> Found
     ensures { λ r. ⌜ r ≡ findText modules (now (text .entry)) ⌝ }
@@ -104,12 +108,14 @@ pub fn find_module(text: &[u8]) -> Found
         text,
         b"Livestock::FatteningPigs::Housing::MitigationOptions",
     );
-    or_at(
+    let f = or_at(
         f,
         PIGS_FREE_FACTOR,
         text,
         b"Livestock::FatteningPigs::Housing::CFreeFactor",
-    )
+    );
+    let f = or_at(f, DAIRY_EXCRETION, text, b"Livestock::DairyCow::Excretion");
+    or_at(f, DAIRY_OUTDOOR, text, b"Livestock::DairyCow::Outdoor")
 }
 
 // ---- input names

@@ -19,10 +19,11 @@ use Rattle.cut.specs.Frac.{Frac, whole, per, _⊗_, Within}
 use Rattle.cut.proofs.Signed.{dn}
 use Rattle.tables.specs.Standards.{_kg}
 use Rattle.tables.specs.Growth.{expNum, expDen, growthNum, growthDen, kOf, withinDay, kAt, nearest}
-use Rattle.amounts.specs.Units.{billionths}
+use Rattle.amounts.specs.Units.{tenThousandths, billionths}
 use Rattle.amounts.specs.Arithmetic.{Arithmetic}
 use Rattle.amounts.specs.Portion.{portion}
-use Rattle.kinds.specs.declared.Entered.the-variants.{Number}
+use Rattle.kinds.specs.declared.Entered.{Entered}
+use Rattle.kinds.specs.declared.Entered.the-variants.{Standard, Number}
 use Rattle.kinds.specs.declared.ExerciseYard.the-variants.{Partly, Exclusively}
 use Rattle.kinds.specs.declared.Floor.the-variants.{Solid}
 use Rattle.kinds.specs.declared.HousingType.{HousingType}
@@ -31,11 +32,13 @@ use Rattle.kinds.specs.declared.AirScrubber.the-variants.{Biotrickling}
 use Rattle.kinds.specs.declared.HousingFloor.the-variants as floor
 use Rattle.kinds.specs.declared.HousingAir.the-variants as air
 use Rattle.kinds.specs.declared.Roughage.{Roughage as RoughageHerd}
+use Rattle.kinds.specs.declared.CattleKind.{CattleKind}
+use Rattle.kinds.specs.declared.CattleKind.the-variants.{OtherCattle, DairyCow}
 use Rattle.kinds.specs.declared.Cattle.{Cattle as CattleHerd}
 use Rattle.kinds.specs.declared.Pigs.{Pigs as PigHerd}
 use Rattle.kinds.specs.declared.Inputs.{Inputs}
 use Rattle.kinds.specs.declared.Inputs.the-variants.{Roughage, Cattle, Pigs}
-use Rattle.kinds.specs.Sound.{Sound, roughage, cattle, pigs, number}
+use Rattle.kinds.specs.Sound.{Sound, EnteredTo, roughage, cattle, pigs, standard, number}
 use Rattle.yard.specs.Yard.{«days_with_grazing_and_yard», shareLowered, «share_excretion_with_grazing», yardTime}
 use Rattle.pasture.specs.Pasture.{outdoorGrazingTime, roughageGrazingTime, gas}
 use Rattle.outputs.specs.Names.{Total, texts, totals, totalTexts, totalNumber}
@@ -132,10 +135,15 @@ row4-exact = refl
 
 pub row4-within : Within promised (figure "tan_remain_grazing" (figuresOf row4)) (exactFigure "tan_remain_grazing" row4)
 unfolding promisedAt
-row4-within = within-figure row4 (cattle (omega arith)) "tan_remain_grazing"
+row4-within = within-figure row4 (cattle (record {
+  animals = lit≤ tt;
+  grams = lit≤ tt;
+  fraction = number (lit≤ tt);
+  outdoor = record { yard = lit≤ tt; free = lit≤ tt; days = lit≤ tt; hours = lit≤ tt };
+})) "tan_remain_grazing"
 
--- ---- the largest herd of each kind, 10,000 head, 200 kg, TAN 100 percent, with pigs outdoors and in a house; and a
--- farm of the four
+-- ---- the largest herd of each kind, 10,000 head, 200 kg, TAN 100 percent, with pigs outdoors and in a house, and
+-- dairy cows at the TAN of 2.2; and a farm of the five
 
 -- a roughage herd: head, grams a head, TAN in ten-thousandths, free factor, grazing days, hours in tenths
 abbrev roughageHerd : ℕ → ℕ → ℕ → ℤ → ℕ → ℕ → Inputs
@@ -153,12 +161,14 @@ roughageHerd head grams tan free days hours =
 abbrev largestRoughage : Inputs
 largestRoughage = roughageHerd 10000 (200 kg) 10000 (pos 0) 200 120
 
-abbrev largestCattle : Inputs
-largestCattle =
+-- a herd of cattle: which, and the TAN as entered
+abbrev cattleHerd : CattleKind → Entered → Inputs
+cattleHerd kind tan =
     Cattle (record {
+      kind = kind;
       animals = 10000;
       «inp_n_excretion» = 200 kg;
-      «tan_fraction» = 10000;
+      «tan_fraction» = tan;
       outdoor = record {
         «yard_days» = 365;
         «exercise_yard» = Exclusively;
@@ -168,6 +178,12 @@ largestCattle =
         «grazing_hours» = 235;
       };
     })
+
+abbrev largestCattle : Inputs
+largestCattle = cattleHerd OtherCattle (Number 10000)
+
+abbrev largestDairyCows : Inputs
+largestDairyCows = cattleHerd DairyCow Standard
 
 -- a pig herd with a biotrickling filter: head, grams a head, TAN in ten-thousandths, housing type
 abbrev pigHerd : ℕ → ℕ → ℕ → HousingType → Inputs
@@ -190,18 +206,18 @@ abbrev largestHousedPigs : Inputs
 largestHousedPigs = pigHerd 10000 (200 kg) 10000 SlurryLabel
 
 abbrev largest : List Inputs
-largest = largestRoughage ∷ largestCattle ∷ largestPigs ∷ largestHousedPigs ∷ []
+largest = largestRoughage ∷ largestCattle ∷ largestPigs ∷ largestHousedPigs ∷ largestDairyCows ∷ []
 
 roughage-sound : Sound largestRoughage
 roughage-sound =
     roughage (record { animals = lit≤ tt; grams = number (lit≤ tt); fraction = number (lit≤ tt); free = lit≤ tt; days = lit≤ tt; hours = lit≤ tt })
 
-cattle-sound : Sound largestCattle
-cattle-sound =
+cattle-sound : (kind : CattleKind) (tan : Entered) → EnteredTo tenThousandths tan → Sound (cattleHerd kind tan)
+cattle-sound kind tan s =
     cattle (record {
       animals = lit≤ tt;
       grams = lit≤ tt;
-      fraction = lit≤ tt;
+      fraction = s;
       outdoor = record { yard = lit≤ tt; free = lit≤ tt; days = lit≤ tt; hours = lit≤ tt };
     })
 
@@ -212,22 +228,25 @@ housed-pigs-sound : Sound largestHousedPigs
 housed-pigs-sound = pigs (record { animals = lit≤ tt; grams = lit≤ tt; fraction = lit≤ tt; free = lit≤ tt })
 
 pub largest-sound : Each Sound largest
-largest-sound = more roughage-sound (more cattle-sound (more pigs-sound (more housed-pigs-sound none)))
+largest-sound =
+    more roughage-sound
+    (more (cattle-sound OtherCattle (Number 10000) (number (lit≤ tt)))
+    (more pigs-sound (more housed-pigs-sound (more (cattle-sound DairyCow Standard standard) none))))
 
 pub largest-herds : Each (λ i. (n : ℕ) → Within (promisedAt i n) (at (figuresOf i .grams) n) (exactAt i n)) largest
 largest-herds = each-map within-herd largest-sound
 
 pub largest-farm : (t : ℕ)
-    → Within (promisedOfTotal t * 4) (farmTotal (map figuresOf largest) t) (exactOfTotal largest t)
+    → Within (promisedOfTotal t * 5) (farmTotal (map figuresOf largest) t) (exactOfTotal largest t)
 largest-farm = within-farm largest largest-sound
 
 -- under a name, as a call has it
-pub largest-on-pasture : Within 40 (total "nh3_ngrazing" (totalsOf (map figuresOf largest)))
+pub largest-on-pasture : Within 50 (total "nh3_ngrazing" (totalsOf (map figuresOf largest)))
     (exactOfTotal largest (totalNumber "nh3_ngrazing"))
 unfolding promisedOfTotal
 largest-on-pasture = within-total (λ i. i) largest largest-sound "nh3_ngrazing"
 
-pub largest-housed : Within 160 (total "nh3_nhousing" (totalsOf (map figuresOf largest)))
+pub largest-housed : Within 200 (total "nh3_nhousing" (totalsOf (map figuresOf largest)))
     (exactOfTotal largest (totalNumber "nh3_nhousing"))
 unfolding promisedOfTotal
 largest-housed = within-total (λ i. i) largest largest-sound "nh3_nhousing"

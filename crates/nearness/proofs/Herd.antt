@@ -7,7 +7,7 @@ use Rattle.cut.proofs.Near.{near-within}
 use Rattle.kinds.specs.declared.Inputs.{Inputs}
 use Rattle.kinds.specs.declared.Inputs.the-variants as kinds
 use Rattle.kinds.specs.Sound.{Sound, roughage, cattle, pigs}
-use Rattle.excretion.proofs.Modest.{roughage-grams-le, roughage-fraction-le}
+use Rattle.excretion.proofs.Modest.{roughage-grams-le, roughage-fraction-le, cattle-fraction-le}
 use Rattle.outputs.specs.Names.{number}
 use Rattle.outputs.specs.Grams.{at, figure}
 use Rattle.herd.specs.Herd.{figuresOf}
@@ -26,7 +26,8 @@ unfolding errorsAt figuresOf exactOf exactAt
 near-herd (kinds.Roughage r) (roughage s) =
     near-roughage r s _ _
     (near-excreted _ _ _ (s .animals) (roughage-grams-le r s) (roughage-fraction-le r s))
-near-herd (kinds.Cattle c) (cattle s) = near-cattle c s _ _ (near-excreted _ _ _ (s .animals) (s .grams) (s .fraction))
+near-herd (kinds.Cattle c) (cattle s) =
+    near-cattle c s _ _ (near-excreted _ _ _ (s .animals) (s .grams) (cattle-fraction-le c s))
 near-herd (kinds.Pigs p) (pigs s) = near-pigs p _ _ (near-excreted _ _ _ (s .animals) (s .grams) (s .fraction))
 
 pub within-herd : (i : Inputs) → Sound i → (n : ℕ) → Within (promisedAt i n) (at (figuresOf i .grams) n) (exactAt i n)

@@ -11,6 +11,8 @@ use Rattle.amounts.specs.Units.{tenths, percent, tenThousandths, year, day}
 use Rattle.amounts.specs.Arithmetic.{cutting}
 use Rattle.amounts.specs.Bounds.{Modest}
 use Rattle.kinds.specs.declared.Outdoor.{Outdoor}
+use Rattle.kinds.specs.declared.CattleKind.{CattleKind}
+use Rattle.kinds.specs.declared.CattleKind.the-variants.{OtherCattle, DairyCow}
 use Rattle.kinds.specs.declared.Cattle.{Cattle}
 use Rattle.kinds.specs.Sound.{SoundOutdoor, SoundCattle}
 use Rattle.rates.specs.declared.Rates.{Rates}
@@ -97,6 +99,16 @@ module _ (r : Rates) (hr : ModestRates r) (o : Outdoor) (s : SoundOutdoor o) (e 
       and near-no-pig-house
       and near-no-nx-ox
 
+-- at the rates of either kind of cattle
+near-of : (k : CattleKind) (o : Outdoor) → SoundOutdoor o → (e : ExcretionIn cutting) (e′ : ExcretionIn exact)
+    → NearExcretion e e′
+    → NearFigures cattleErrors (outdoorOn cutting (cattleRates k) o e) (outdoorOn exact (cattleRates k) o e′)
+near-of OtherCattle o s e e′ near =
+    near-at (near-outdoor (cattleRates OtherCattle) (cattle-rates-modest OtherCattle) o s e e′ near)
+near-of DairyCow o s e e′ near =
+    near-at (near-outdoor (cattleRates DairyCow) (cattle-rates-modest DairyCow) o s e e′ near)
+
 pub near-cattle : (c : Cattle) → SoundCattle c → (e : ExcretionIn cutting) (e′ : ExcretionIn exact) → NearExcretion e e′
-    → NearFigures cattleErrors (outdoorOn cutting cattleRates (c .outdoor) e) (outdoorOn exact cattleRates (c .outdoor) e′)
-near-cattle c s e e′ near = near-at (near-outdoor cattleRates cattle-rates-modest (c .outdoor) (s .outdoor) e e′ near)
+    → let r = cattleRates (c .kind) in
+    NearFigures cattleErrors (outdoorOn cutting r (c .outdoor) e) (outdoorOn exact r (c .outdoor) e′)
+near-cattle c s = near-of (c .kind) (c .outdoor) (s .outdoor)

@@ -1,4 +1,4 @@
--- 01, Notes, and that of 02, W3, on both sides of every edge: herds, and the notes that each gets, by name; of a herd that gets none the
+-- 01, Notes, and those of 02, W3 and W9, on both sides of every edge: herds, and the notes that each gets, by name; of a herd that gets none the
 -- list is empty. Row 8 of 01 is among them (Herds on both sides of an edge), and all are lines of the one table of crate
 -- `model`, specs/Edges. proofs/Rows.antt computes them from the definitions. To be believed.
 use Prim.Native.Nat.{ℕ, _+_, _-_}
@@ -23,6 +23,8 @@ use Rattle.kinds.specs.declared.AirScrubber.the-variants as scrubbed
 use Rattle.kinds.specs.declared.HousingFloor.the-variants as floored
 use Rattle.kinds.specs.declared.HousingAir.{HousingAir}
 use Rattle.kinds.specs.declared.HousingAir.the-variants as aired
+use Rattle.kinds.specs.declared.CattleKind.{CattleKind}
+use Rattle.kinds.specs.declared.CattleKind.the-variants.{OtherCattle, DairyCow}
 use Rattle.kinds.specs.declared.Outdoor.{Outdoor}
 use Rattle.kinds.specs.declared.Inputs.{Inputs}
 use Rattle.kinds.specs.declared.Inputs.the-variants as kinds
@@ -31,10 +33,23 @@ use Rattle.notes.specs.Notes.{notesOf}
 
 -- ---- herds
 
+abbrev cattleOf : CattleKind → ℕ → ℕ → Entered → Outdoor → Inputs
+cattleOf kind animals grams tan outdoor =
+    kinds.Cattle (record {
+      kind = kind;
+      animals = animals;
+      «inp_n_excretion» = grams;
+      «tan_fraction» = tan;
+      outdoor = outdoor;
+    })
+
 -- animals, grams a head and ten-thousandths of TAN, and what is outdoors
 abbrev pub cattle : ℕ → ℕ → ℕ → Outdoor → Inputs
-cattle animals grams tan outdoor =
-    kinds.Cattle (record { animals = animals; «inp_n_excretion» = grams; «tan_fraction» = tan; outdoor = outdoor })
+cattle animals grams tan outdoor = cattleOf OtherCattle animals grams (entered.Number tan) outdoor
+
+-- the same of dairy cows, whose TAN may be left to the standard
+abbrev pub dairyCows : ℕ → ℕ → Entered → Outdoor → Inputs
+dairyCows = cattleOf DairyCow
 
 -- yard days, the yard, its floor and free factor, grazing days and tenths of an hour
 abbrev pub outdoors : ℕ → ExerciseYard → Floor → ℤ → ℕ → ℕ → Outdoor
@@ -229,11 +244,33 @@ ofCeiling =
     ∷ inHousing (below 100) 0 240 gets ("free_factor" ∷ [])
     ∷ []
 
+-- ---- dairy cows, by 2.2 (02, W9)
+
+-- grams a head and TAN as entered; without a yard
+abbrev milked : ℕ → Entered → Inputs
+milked grams tan = dairyCows 10 grams tan (outdoors 0 NotAvailable Solid (pos 0) 0 0)
+
+abbrev ofDairyCows : List Row
+ofDairyCows =
+    milked (78400 g) entered.Standard gets []
+    ∷ milked (145600 g) entered.Standard gets []
+    ∷ milked (78399 g) entered.Standard gets ("n_off_standard" ∷ [])
+    ∷ milked (145601 g) entered.Standard gets ("n_off_standard" ∷ [])
+    ∷ milked (112 kg) (entered.Number 3500) gets []
+    ∷ milked (112 kg) (entered.Number 7500) gets []
+    ∷ milked (112 kg) (entered.Number 3499) gets ("tan_off_standard" ∷ [])
+    ∷ milked (112 kg) (entered.Number 7501) gets ("tan_off_standard" ∷ [])
+    -- free factor not 0, and the share lowered, as for other cattle
+    ∷ dairyCows 10 (112 kg) entered.Standard (outdoors 0 NotAvailable Solid (below 1) 0 0) gets ("free_factor" ∷ [])
+    ∷ dairyCows 10 (112 kg) entered.Standard (outdoors 165 Exclusively Solid (pos 0) 200 120) gets []
+    ∷ dairyCows 10 (112 kg) entered.Standard (outdoors 166 Exclusively Solid (pos 0) 200 120) gets ("share_lowered" ∷ [])
+    ∷ []
+
 -- ---- what a kind is not told, at values that another kind would be told of
 
 abbrev ofOthers : List Row
 ofOthers =
-    -- cattle have no standard
+    -- other cattle have no standard
     cattle 10 0 0 (outdoors 0 NotAvailable Solid (pos 0) 0 0) gets []
     ∷ cattle 10 (200 kg) 10000 (outdoors 0 NotAvailable Solid (pos 0) 0 0) gets []
     -- nor a housing of which more than the flow is known, and the yard's ceiling is no note
@@ -248,4 +285,4 @@ ofOthers =
     ∷ []
 
 abbrev pub table : List Row
-table = ofN ++ ofTan ++ ofFree ++ ofShare ++ ofCeiling ++ ofOthers
+table = ofN ++ ofTan ++ ofFree ++ ofShare ++ ofCeiling ++ ofDairyCows ++ ofOthers

@@ -1,14 +1,17 @@
 // 01, Notes, and 02, W3: what an adviser is told beside the figures.
 use amounts::TENTHS;
 use kinds::Cattle;
+use kinds::CattleKind;
 use kinds::Entered;
 use kinds::Inputs;
 use kinds::Pigs;
 use kinds::Roughage;
 ghost use mathlib.Core.Path.{_≡_};
+ghost use Prim.Native.Nat.{_≤_};
 ghost use Rattle.amounts.specs.Units.{tenThousandths};
 ghost use Rattle.kinds.specs.Sound.{EnteredTo, SoundRoughage, SoundCattle, Sound, mostGrams};
-ghost use Rattle.notes.specs.Notes.{offStandard, offShare, freeEntered, roughageNotes, cattleNotes, pigsNotes, noNotes};
+ghost use Rattle.notes.specs.Notes.{offStandard, offShare, freeEntered, cattleOffStandard, cattleOffShare};
+ghost use Rattle.notes.specs.Notes.{roughageNotes, cattleNotes, pigsNotes, noNotes};
 ghost use Rattle.notes.specs.Notes.{notesOf, inOrder};
 
 pub struct Notes {
@@ -29,31 +32,30 @@ const HIGH: u64 = 13;
 
 const OFF: u64 = 2000;
 
-fn n_off_standard(category: u64, entered: Entered) -> bool
-    requires { ⌜ EnteredTo mostGrams entered ⌝ }
-    ensures { λ r. ⌜ r ≡ offStandard category entered ⌝ }
+fn n_off_standard(standard: u64, entered: Entered) -> bool
+    requires { ⌜ (standard ≤ mostGrams) × EnteredTo mostGrams entered ⌝ }
+    ensures { λ r. ⌜ r ≡ offStandard standard entered ⌝ }
 {
     let Entered::Number(grams) = entered else {
         return false;
     };
-    let standard = tables::standard(category);
     if TENTHS * grams < LOW * standard {
         return true;
     }
     HIGH * standard < TENTHS * grams
 }
 
-fn tan_off_standard(entered: Entered) -> bool
-    requires { ⌜ EnteredTo tenThousandths entered ⌝ }
-    ensures { λ r. ⌜ r ≡ offShare entered ⌝ }
+fn tan_off_standard(share: u64, entered: Entered) -> bool
+    requires { ⌜ (share ≤ tenThousandths) × EnteredTo tenThousandths entered ⌝ }
+    ensures { λ r. ⌜ r ≡ offShare share entered ⌝ }
 {
     let Entered::Number(fraction) = entered else {
         return false;
     };
-    if fraction + OFF < tables::SHARE_NSOL {
+    if fraction + OFF < share {
         return true;
     }
-    tables::SHARE_NSOL + OFF < fraction
+    share + OFF < fraction
 }
 
 fn free_entered(free: i64) -> bool
@@ -69,11 +71,32 @@ fn roughage_notes(r: Roughage) -> Notes
     let entered_n = r.inp_n_excretion;
     let entered_tan = r.tan_fraction;
     Notes {
-        n_off_standard: n_off_standard(r.animalcategory, entered_n),
-        tan_off_standard: tan_off_standard(entered_tan),
+        n_off_standard: n_off_standard(tables::standard(r.animalcategory), entered_n),
+        tan_off_standard: tan_off_standard(tables::SHARE_NSOL, entered_tan),
         free_factor: free_entered(r.free_correction_factor),
         share_lowered: false, // no yard
         factor_above_1: housing::above_ceiling(r),
+    }
+}
+
+// 2.2; other cattle have no standards.
+fn cattle_n_off_standard(kind: CattleKind, grams: u64) -> bool
+    requires { ⌜ grams ≤ mostGrams ⌝ }
+    ensures { λ r. ⌜ r ≡ cattleOffStandard kind grams ⌝ }
+{
+    match kind {
+        CattleKind::OtherCattle => false, // no standard
+        CattleKind::DairyCow => n_off_standard(tables::DAIRY_STANDARD, Entered::Number(grams)),
+    }
+}
+
+fn cattle_tan_off_standard(kind: CattleKind, entered: Entered) -> bool
+    requires { ⌜ EnteredTo tenThousandths entered ⌝ }
+    ensures { λ r. ⌜ r ≡ cattleOffShare kind entered ⌝ }
+{
+    match kind {
+        CattleKind::OtherCattle => false,
+        CattleKind::DairyCow => tan_off_standard(tables::DAIRY_SHARE_NSOL, entered),
     }
 }
 
@@ -81,10 +104,12 @@ fn cattle_notes(c: Cattle) -> Notes
     requires { ⌜ SoundCattle c ⌝ }
     ensures { λ n. ⌜ n ≡ cattleNotes c ⌝ }
 {
+    let kind = c.kind;
+    let entered_tan = c.tan_fraction;
     let outdoor = c.outdoor;
     Notes {
-        n_off_standard: false, // no standard
-        tan_off_standard: false,
+        n_off_standard: cattle_n_off_standard(kind, c.inp_n_excretion),
+        tan_off_standard: cattle_tan_off_standard(kind, entered_tan),
         free_factor: free_entered(outdoor.free_correction_factor),
         share_lowered: yard::share_lowered(outdoor),
         factor_above_1: false, // a yard alone

@@ -1,6 +1,7 @@
 -- The numbers that 001 prints, as it prints them, in its order of sections: each with its name there and the parameter
 -- that the formulas use. Of these sections every technical parameter is here but k_grazing_a, 0.9989, which stands in
--- no formula, and k_area, 0.5, whose area_increase is 0 (02, W1); and of the numbers inside their formulas those that
+-- no formula, k_area, 0.5, whose area_increase is 0 (02, W1), and feed_influence_on_Nsol, 1, of a `standard` N that
+-- dairy cows do not have (02, W9); and of the numbers inside their formulas those that
 -- have a name in ours. The theorem over the table is `every-parameter-printed` of proofs/Printed; `second/printed.py`
 -- looks each name and text up in 001.
 use Prim.Native.Nat.{ℕ, _^_}
@@ -10,7 +11,7 @@ use mathlib.Core.Path.{_≡_}
 use Rattle.base.specs.Text.{bytes}
 use Rattle.decimal.specs.declared.Number.the-variants.{Value}
 use Rattle.decimal.specs.Reading.{numberOf}
-use Rattle.tables.specs.Standards.{Standard, _kg, standardOf, «share_Nsol»}
+use Rattle.tables.specs.Standards.{Standard, _kg, standardOf, «share_Nsol», dairyStandard, dairyShare}
 use Rattle.tables.specs.Growth.{«k_grazing_b»}
 use Rattle.amounts.specs.Units.{tenths, percent, thousandths, tenThousandths, billionths, year, day}
 use Rattle.kinds.specs.declared.ExerciseYard.the-variants.{NotAvailable}
@@ -19,6 +20,7 @@ use Rattle.kinds.specs.declared.HousingType.the-variants as housed
 use Rattle.kinds.specs.declared.AirScrubber.the-variants as scrubber
 use Rattle.kinds.specs.declared.HousingFloor.the-variants as floor
 use Rattle.kinds.specs.declared.HousingAir.the-variants as air
+use Rattle.kinds.specs.declared.CattleKind.the-variants.{OtherCattle, DairyCow}
 use Rattle.rates.specs.Rates.{cattleRates, pigsRates, roughageRates}
 use Rattle.excretion.specs.Excretion.{leastOfStandard, mostOfStandard, mostOffShare}
 use Rattle.yard.specs.Yard.{
@@ -83,6 +85,47 @@ pub record Printed : Type 0 where
 abbrev pub prints : String → Place → String → Unit → ℕ → Printed
 prints s p t u n = record { section = s; place = p; text = t; unit = u; parameter = n }
 
+-- 2.2
+abbrev pub dairyExcretion : List Printed
+dairyExcretion =
+    prints "2.2" (out "n_excretion_animal") "0.7" inTenths leastOfStandard
+    ∷ prints "2.2" (out "n_excretion_animal") "1.3" inTenths mostOfStandard
+    ∷ prints "2.2" (out "tan_content") "0.2" inTenThousandths mostOffShare
+    ∷ prints "2.2" (tech "standard_N_excretion") "112" inGrams dairyStandard
+    ∷ prints "2.2" (tech "share_Nsol") "0.55" inTenThousandths dairyShare
+    ∷ []
+
+-- 2.18
+abbrev pub dairyOutdoor : List Printed
+dairyOutdoor = prints "2.18" (out "days_with_grazing_and_yard") "365" wholes year ∷ []
+
+-- 2.19
+abbrev pub dairyYard : List Printed
+dairyYard =
+    prints "2.19" (out "share_excretion") "0" inTenths («share_excretion» NotAvailable)
+    ∷ prints "2.19" (tech "er_yard") "0.7" inTenThousandths «er_yard»
+    ∷ prints "2.19" (tech "share_available_roughage_is_exclusively_supplied_in_the_exercise_yard") "0.6" inTenths
+    «share_available_roughage_is_exclusively_supplied_in_the_exercise_yard»
+    ∷ prints "2.19" (tech "share_available_roughage_is_partly_supplied_in_the_exercise_yard") "0.2" inTenths
+    «share_available_roughage_is_partly_supplied_in_the_exercise_yard»
+    ∷ prints "2.19" (tech "share_available_roughage_is_not_supplied_in_the_exercise_yard") "0.1" inTenths
+    «share_available_roughage_is_not_supplied_in_the_exercise_yard»
+    ∷ prints "2.19" (tech "red_floor_properties_solid_floor") "0.0" inPercent («red_floor_properties» Solid)
+    ∷ prints "2.19" (tech "red_floor_properties_unpaved_floor") "0.5" inPercent («red_floor_properties» Unpaved)
+    ∷ prints "2.19" (tech "red_floor_properties_perforated_floor") "0.75" inPercent («red_floor_properties» Perforated)
+    ∷ prints "2.19" (tech "red_floor_properties_paddock_or_pasture_used_as_exercise_yard") "0.9" inPercent («red_floor_properties» Paddock)
+    ∷ []
+
+-- 2.20
+abbrev pub dairyGrazing : List Printed
+dairyGrazing =
+    prints "2.20" (out "n_into_grazing") "24" inTenths day
+    ∷ prints "2.20" (tech "er_dairycow_grazing") "0.083" inTenThousandths (cattleRates DairyCow .nh3)
+    ∷ prints "2.20" (tech "er_n2_dairycow_grazing") "0.0" inTenThousandths (cattleRates DairyCow .n2)
+    ∷ prints "2.20" (tech "er_no_dairycow_grazing") "0.0055" inTenThousandths (cattleRates DairyCow .no)
+    ∷ prints "2.20" (tech "er_n2o_dairycow_grazing") "0.02" inTenThousandths (cattleRates DairyCow .n2o)
+    ∷ []
+
 -- 2.33
 abbrev pub outdoor : List Printed
 outdoor = prints "2.33" (out "days_with_grazing_and_yard") "365" wholes year ∷ []
@@ -108,10 +151,10 @@ yard =
 abbrev pub cattleGrazing : List Printed
 cattleGrazing =
     prints "2.35" (out "n_into_grazing") "24" inTenths day
-    ∷ prints "2.35" (tech "er_cattle_grazing") "0.083" inTenThousandths (cattleRates .nh3)
-    ∷ prints "2.35" (tech "er_n2_cattle_grazing") "0.0" inTenThousandths (cattleRates .n2)
-    ∷ prints "2.35" (tech "er_no_cattle_grazing") "0.0055" inTenThousandths (cattleRates .no)
-    ∷ prints "2.35" (tech "er_n2o_cattle_grazing") "0.02" inTenThousandths (cattleRates .n2o)
+    ∷ prints "2.35" (tech "er_cattle_grazing") "0.083" inTenThousandths (cattleRates OtherCattle .nh3)
+    ∷ prints "2.35" (tech "er_n2_cattle_grazing") "0.0" inTenThousandths (cattleRates OtherCattle .n2)
+    ∷ prints "2.35" (tech "er_no_cattle_grazing") "0.0055" inTenThousandths (cattleRates OtherCattle .no)
+    ∷ prints "2.35" (tech "er_n2o_cattle_grazing") "0.02" inTenThousandths (cattleRates OtherCattle .n2o)
     ∷ []
 
 -- 2.52
@@ -242,7 +285,11 @@ roughageGrazing =
 
 abbrev pub table : List Printed
 table =
-    outdoor
+    dairyExcretion
+    ++ dairyOutdoor
+    ++ dairyYard
+    ++ dairyGrazing
+    ++ outdoor
     ++ yard
     ++ cattleGrazing
     ++ pigHouses

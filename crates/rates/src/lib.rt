@@ -1,4 +1,5 @@
-// 2.35, 2.61 and 2.88, Technical Parameters: what a pasture emits of what comes onto it, kind by kind.
+// 2.20, 2.35, 2.61 and 2.88, Technical Parameters: what a pasture emits of what comes onto it, kind by kind.
+use kinds::CattleKind;
 ghost use Prim.Native.Nat.{_+_, _≤_};
 ghost use Rattle.amounts.specs.Units.{tenThousandths};
 ghost use Rattle.rates.specs.Rates.{rates, cattleRates, pigsRates, roughageRates};
@@ -19,11 +20,14 @@ fn rates_of(nh3: u64, n2: u64, no: u64, n2o: u64) -> Rates
     Rates { nh3, n2, no, n2o }
 }
 
-// 2.35.
-pub fn cattle_rates() -> Rates
-    ensures { λ r. ⌜ RatesOf cattleRates r ⌝ }
+// 2.35 and 2.20.
+pub fn cattle_rates(kind: CattleKind) -> Rates
+    ensures { λ r. ⌜ RatesOf (cattleRates kind) r ⌝ }
 {
-    rates_of(830, 0, 55, 200)
+    match kind {
+        CattleKind::OtherCattle => rates_of(830, 0, 55, 200),
+        CattleKind::DairyCow => rates_of(830, 0, 55, 200),
+    }
 }
 
 // 2.61.

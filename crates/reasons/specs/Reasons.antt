@@ -1,6 +1,7 @@
 -- 02, W2: "the reason behind the share on days with both: no such days, yard not available, share as chosen, or
 -- lowered, with the number of overlapping days. Exactly one is given, the first in that order whose fact holds in the
--- herd's record, and the share follows from it." Over 2.33 and 2.34 (crate `yard`). To be believed.
+-- herd's record, and the share follows from it." Over 2.33 and 2.34, and of dairy cows 2.18 and
+-- 2.19 (crate `yard`). To be believed.
 use Prim.Native.Nat.{ℕ, _+_, _≤_, _<_}
 use Prim.Native.String.{String}
 use mathlib.Core.Path.{_≡_}
@@ -42,7 +43,7 @@ word Lowered = "lowered"
 abbrev pub partly : ℕ
 partly = «share_available_roughage_is_partly_supplied_in_the_exercise_yard»
 
--- the share as chosen: 2.34, share_excretion
+-- the share as chosen: 2.34 and 2.19, share_excretion
 abbrev pub chosenShare : Outdoor → ℕ
 chosenShare o = «share_excretion» (o .«exercise_yard»)
 
@@ -80,7 +81,7 @@ whyOf o =
       share = shareFrom (reasonOf o) (chosenShare o);
     }
 
--- a kind with the module `Outdoor` of 2.33 is told the reason; the others have no yard
+-- a kind with the module `Outdoor` of 2.33 or 2.18 is told the reason; the others have no yard
 unfoldable pub toldOf : Inputs → Told
 toldOf (kinds.Roughage r) = NoYard
 toldOf (kinds.Cattle c) = Because (whyOf (c .outdoor))

@@ -51,6 +51,9 @@ mitigated label name value = line label "Livestock::FatteningPigs::Housing::Miti
 abbrev freed : String → String → List ℕ
 freed label value = line label "Livestock::FatteningPigs::Housing::CFreeFactor" "free_correction_factor" value
 
+abbrev cows : String → String → List ℕ
+cows name value = line "C1" "Livestock::DairyCow::Excretion" name value
+
 abbrev deer : String → String → List ℕ
 deer name value = line "D" "Livestock::RoughageConsuming::Excretion" name value
 
@@ -194,6 +197,11 @@ examples =
     ∷ (pig "P1" "animals" "-1" gives refused 1 BadValue)
     ∷ (pig "P1" "inp_n_excretion" "-13" gives refused 1 BadValue)
     ∷ (line "C1" "Livestock::OtherCattle::Outdoor" "yard_days" "-1" gives refused 1 BadValue)
+    -- 02, W9: `standard` is no N of dairy cows, but their TAN in any letter case; they are no other cattle
+    ∷ (cows "inp_n_excretion" "standard" gives refused 1 StandardForbidden)
+    ∷ (cows "tan_fraction" "Standard" gives refused 1 InputMissing)
+    ∷ (cows "yard_days" "1" gives refused 1 NotInTheList)
+    ∷ (cows "animals" "1" ++ line "C1" "Livestock::OtherCattle::Excretion" "tan_fraction" "55" gives refused 2 OtherKind)
     ∷ (pigs ++ pig "P2" "animals" "1" ++ pig "P1" "animals" "1" gives refused 10 EarlierLabel)
     ∷ (herdsFrom 10 64 gives refused 1 InputMissing)
     ∷ (herdsFrom 10 65 gives refused 65 NoRoomForHerd)

@@ -9,14 +9,14 @@ use native.Mathlib.Omega.{arith}
 use lib.Dec.{eqb}
 use lib.ListN.{length, getD, set, replicate, length-set, length-append}
 use lib.Seq.{getD-set-same, getD-set-other, ext-getD}
-use borrow.Author.Tests.{eqb-true, eqb-false, not-false}
+use borrow.Author.Tests.{eq-eqb, eqb-true, eqb-false, not-false}
 use Rattle.base.proofs.Clash.{clash}
 use Rattle.base.specs.Each.{Each, none, more}
 use Rattle.base.proofs.Each.{each-map}
 use Rattle.inputs.specs.declared.Kind.{Kind}
-use Rattle.inputs.specs.declared.Kind.the-variants.{Roughage, Cattle, Pigs}
+use Rattle.inputs.specs.declared.Kind.the-variants.{Roughage, Cattle, Pigs, DairyCow}
 use Rattle.inputs.specs.declared.Form.{Form}
-use Rattle.inputs.specs.Inputs.{Row, rowsOf, sameKind, countOf}
+use Rattle.inputs.specs.Inputs.{Row, rowsOf, kinds, numberOf, sameKind, countOf}
 use Rattle.farm.specs.declared.Label.{Label}
 use Rattle.farm.specs.declared.Given.{Given}
 use Rattle.farm.specs.declared.Slot.{Slot}
@@ -35,20 +35,18 @@ use Rattle.rules.proofs.Entries.{reads, one-given}
 -- ---- kinds
 
 pub own-kind : (k : Kind) → sameKind k k ≡ true
-own-kind Roughage = refl
-own-kind Cattle = refl
-own-kind Pigs = refl
+own-kind k = eq-eqb (numberOf k) (numberOf k) refl
+
+-- a kind stands in the list at its number
+kind-at : (d k : Kind) → getD kinds (numberOf k) d ≡ k
+kind-at d Roughage = refl
+kind-at d Cattle = refl
+kind-at d Pigs = refl
+kind-at d DairyCow = refl
 
 pub kind-one : (a b : Kind) → sameKind a b ≡ true → a ≡ b
-kind-one Roughage Roughage e = refl
-kind-one Cattle Cattle e = refl
-kind-one Pigs Pigs e = refl
-kind-one Roughage Cattle e = cc
-kind-one Roughage Pigs e = cc
-kind-one Cattle Roughage e = cc
-kind-one Cattle Pigs e = cc
-kind-one Pigs Roughage e = cc
-kind-one Pigs Cattle e = cc
+kind-one a b e =
+    sym (kind-at a a) ∙ ap (λ (n : ℕ). getD kinds n a) (eqb-true (numberOf a) (numberOf b) e) ∙ kind-at a b
 
 pub kind-two : (a b : Kind) → sameKind a b ≡ false → a ≡ b → ⊥
 kind-two a b e d = let t : false ≡ true = sym e ∙ ap (λ (k : Kind). sameKind k b) d ∙ own-kind b in clash cc

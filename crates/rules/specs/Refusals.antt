@@ -35,7 +35,7 @@ SameLabel r cs = labelText r ≡ labelText cs
 
 -- ---- 3 to 11, of the record cs that stands behind these
 
--- inp_n_excretion and tan_fraction of cattle or pigs
+-- inp_n_excretion and tan_fraction of cattle or pigs, inp_n_excretion of dairy cows (02, W9)
 pub data Forbids : Form → Type 0 where
   forbids : {decimals most : ℕ} → Forbids (NoStandard decimals most)
 

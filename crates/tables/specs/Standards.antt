@@ -1,5 +1,5 @@
--- 2.84, Technical Parameters: the nitrogen that an animal of each category excretes in a year, in grams, and the soluble share of it.
--- A category is known by its place in this list, which is in 01's order, counted from 0.
+-- 2.84 and 2.2, Technical Parameters: the nitrogen that an animal of each category, and a dairy cow, excretes in a year, in grams,
+-- and the soluble share of it. A category is known by its place in its list, which is in 01's order, counted from 0.
 use Prim.Native.Nat.{ℕ, _*_}
 use Prim.Native.String.{String}
 use mathlib.Core.List.{List, [], _∷_, map}
@@ -48,3 +48,13 @@ standardOf category = getD standards category 0
 -- share_Nsol, 0.4 for each category, in ten-thousandths
 abbrev pub «share_Nsol» : ℕ
 «share_Nsol» = 4000
+
+-- ---- 2.2: a dairy cow
+
+-- standard_N_excretion
+abbrev pub dairyStandard : ℕ
+dairyStandard = 112 kg
+
+-- share_Nsol, 0.55, in ten-thousandths
+abbrev pub dairyShare : ℕ
+dairyShare = 5500

@@ -7,6 +7,11 @@ ghost use Rattle.tables.specs.Growth.{withinDay, kOf};
 // The soluble share of what an animal of any category excretes, in ten-thousandths.
 pub const SHARE_NSOL: u64 = 4000;
 
+// 2.2: grams of nitrogen that a dairy cow excretes in a year, and the soluble share of it.
+pub const DAIRY_STANDARD: u64 = 112000;
+
+pub const DAIRY_SHARE_NSOL: u64 = 5500;
+
 // Grams of nitrogen a head and year, by category.
 const STANDARDS: [u64; 11] = [
     20000, // fallow_deer

@@ -12,6 +12,10 @@ use Rattle.farm.specs.declared.Given.{Given}
 use Rattle.farm.specs.declared.Given.the-variants.{Missing, Standard, Value, Signed}
 use Rattle.farm.specs.declared.Herd.{Herd}
 use Rattle.kinds.specs.declared.Entered.{Entered}
+use Rattle.kinds.specs.declared.Entered.the-variants as entered
+use Rattle.kinds.specs.declared.CattleKind.{CattleKind}
+use Rattle.kinds.specs.declared.CattleKind.the-variants.{OtherCattle, DairyCow}
+use Rattle.kinds.specs.declared.Cattle.{Cattle}
 use Rattle.kinds.specs.declared.ExerciseYard.{ExerciseYard}
 use Rattle.kinds.specs.declared.Floor.{Floor}
 use Rattle.kinds.specs.declared.HousingType.{HousingType}
@@ -20,7 +24,8 @@ use Rattle.kinds.specs.declared.HousingFloor.{HousingFloor}
 use Rattle.kinds.specs.declared.HousingAir.{HousingAir}
 use Rattle.kinds.specs.declared.Outdoor.{Outdoor}
 use Rattle.kinds.specs.Choices.{yardAt, floorAt, housingAt, scrubberAt, housingFloorAt, housingAirAt}
-use Rattle.typed.specs.Typed.{signedIn, numberAt, signedAt, enteredAt, roughageOf, outdoorOf, cattleOf, pigsOf}
+use Rattle.typed.specs.Typed.{signedIn, tanIn, givenAt, numberAt, signedAt, enteredAt}
+use Rattle.typed.specs.Typed.{roughageOf, outdoorOf, cattleOf, pigsOf}
 
 -- a number that may be below zero, by what is given
 module _ {g : Given} where
@@ -73,11 +78,35 @@ module _ (h : Herd) where
   is-outdoor yard-days at-yard at-floor days hours free yard floor e3 e4 ey e5 ef e6 e7 e8 =
       rw (ey, ef, e3, e4, e5, e6, e7, e8)
 
-  pub is-cattle : (animals n tan : ℕ) (o : Outdoor) → animals ≡ numberAt h 0 → n ≡ numberAt h 1 → tan ≡ numberAt h 2
-      → o ≡ outdoorOf kinds.Cattle h
-      → record { animals = animals; «inp_n_excretion» = n; «tan_fraction» = tan; outdoor = o } ≡ cattleOf h
-  unfolding cattleOf
-  is-cattle animals n tan o e0 e1 e2 eo = rw (e0, e1, e2, eo)
+  -- both kinds with a yard have their inputs in the same slots
+  abbrev pub inSlots : CattleKind → Cattle
+  inSlots k =
+      record {
+        kind = k;
+        animals = numberAt h 0;
+        «inp_n_excretion» = numberAt h 1;
+        «tan_fraction» = tanIn k (givenAt h 2);
+        outdoor = outdoorOf kinds.Cattle h;
+      }
+
+  pub in-slots : (k : CattleKind) → cattleOf k h ≡ inSlots k
+  unfolding cattleOf outdoorOf
+  in-slots OtherCattle = refl
+  in-slots DairyCow = refl
+
+  pub is-cattle : (k : CattleKind) (animals n : ℕ) (tan : Entered) (o : Outdoor) → animals ≡ numberAt h 0
+      → n ≡ numberAt h 1 → tan ≡ tanIn k (givenAt h 2) → o ≡ outdoorOf kinds.Cattle h
+      → record { kind = k; animals = animals; «inp_n_excretion» = n; «tan_fraction» = tan; outdoor = o } ≡ cattleOf k h
+  is-cattle k animals n tan o e0 e1 e2 eo = rw (in-slots k, e0, e1, e2, eo)
+
+  -- the TAN of each kind of cattle
+  pub tan-number : (k : CattleKind) → k ≡ OtherCattle → (n : ℕ) → n ≡ numberAt h 2
+      → entered.Number n ≡ tanIn k (givenAt h 2)
+  tan-number k e n en = rw (e, en)
+
+  pub tan-entered : (k : CattleKind) → k ≡ DairyCow → (tan : Entered) → tan ≡ enteredAt h 2
+      → tan ≡ tanIn k (givenAt h 2)
+  tan-entered k e tan et = rw (e, et)
 
   pub is-pigs : (animals n tan at-type at-scrubber at-floor at-air : ℕ) (free : ℤ)
       (type : HousingType) (scrubber : AirScrubber) (floor : HousingFloor) (air : HousingAir)
@@ -104,3 +133,5 @@ module _ (h : Herd) where
       rw (et, es, ef, ea, e0, e1, e2, e3, e4, e5, e6, e7)
 
 pub ruleset fields = (is-roughage, is-outdoor, is-cattle, is-pigs)
+
+pub ruleset tans = (tan-number, tan-entered)

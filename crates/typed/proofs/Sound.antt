@@ -34,7 +34,8 @@ use Rattle.farm.specs.Herds.{noSlot}
 use Rattle.checks.proofs.Accepts.{passes, farm-count, farm-each}
 use Rattle.amounts.specs.Units.{percent}
 use Rattle.kinds.specs.Sound.{EnteredTo, standard, number, Sound, roughage, cattle, pigs}
-use Rattle.typed.specs.Typed.{numberIn, signedIn, enteredIn, givenAt, numberAt, signedAt, enteredAt, roughageOf, outdoorOf, cattleOf, pigsOf, typedAs, typedOf}
+use Rattle.typed.specs.Typed.{numberIn, signedIn, enteredIn, givenAt, numberAt, signedAt, enteredAt}
+use Rattle.typed.specs.Typed.{roughageOf, outdoorOf, cattleOf, pigsOf, typedAs, typedOf}
 
 -- ---- a slot
 
@@ -109,9 +110,14 @@ typed-as kinds.Cattle h p =
     cattle (record {
       animals = n 0 (omega arith);
       grams = n 1 (omega arith);
-      fraction = n 2 (omega arith);
+      fraction = number (n 2 (omega arith));
       outdoor =
-          record { yard = n 3 (omega arith); free = signed-at kinds.Cattle h p 6 percent (omega arith) refl; days = n 7 (omega arith); hours = n 8 (omega arith) };
+          record {
+            yard = n 3 (omega arith);
+            free = signed-at kinds.Cattle h p 6 percent (omega arith) refl;
+            days = n 7 (omega arith);
+            hours = n 8 (omega arith);
+          };
     })
 typed-as kinds.Pigs h p =
     let n = number-at kinds.Pigs h p in
@@ -120,6 +126,20 @@ typed-as kinds.Pigs h p =
       grams = n 1 (omega arith);
       fraction = n 2 (omega arith);
       free = signed-at kinds.Pigs h p 7 percent (omega arith) refl;
+    })
+typed-as kinds.DairyCow h p =
+    let n = number-at kinds.DairyCow h p in
+    cattle (record {
+      animals = n 0 (omega arith);
+      grams = n 1 (omega arith);
+      fraction = entered-at kinds.DairyCow h p 2 (omega arith);
+      outdoor =
+          record {
+            yard = n 3 (omega arith);
+            free = signed-at kinds.DairyCow h p 6 percent (omega arith) refl;
+            days = n 7 (omega arith);
+            hours = n 8 (omega arith);
+          };
     })
 
 -- ---- no category is past the last

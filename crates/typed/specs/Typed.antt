@@ -19,6 +19,8 @@ use Rattle.kinds.specs.declared.Entered.{Entered}
 use Rattle.kinds.specs.declared.Entered.the-variants as entered
 use Rattle.kinds.specs.declared.Outdoor.{Outdoor}
 use Rattle.kinds.specs.declared.Roughage.{Roughage}
+use Rattle.kinds.specs.declared.CattleKind.{CattleKind}
+use Rattle.kinds.specs.declared.CattleKind.the-variants.{OtherCattle, DairyCow}
 use Rattle.kinds.specs.declared.Cattle.{Cattle}
 use Rattle.kinds.specs.declared.Pigs.{Pigs}
 use Rattle.kinds.specs.declared.Inputs.{Inputs}
@@ -64,14 +66,17 @@ abbrev pub placeNamed : String → List Row → ℕ
 placeNamed name [] = 0
 placeNamed name (row ∷ rows) = pick (eqt name (row .name)) 0 (1 + placeNamed name rows)
 
+abbrev pub givenNamed : Kind → String → Herd → Given
+givenNamed kind name h = givenAt h (placeNamed name (rowsOf kind))
+
 abbrev pub numberNamed : Kind → String → Herd → ℕ
-numberNamed kind name h = numberAt h (placeNamed name (rowsOf kind))
+numberNamed kind name h = numberIn (givenNamed kind name h)
 
 abbrev pub signedNamed : Kind → String → Herd → ℤ
-signedNamed kind name h = signedAt h (placeNamed name (rowsOf kind))
+signedNamed kind name h = signedIn (givenNamed kind name h)
 
 abbrev pub enteredNamed : Kind → String → Herd → Entered
-enteredNamed kind name h = enteredAt h (placeNamed name (rowsOf kind))
+enteredNamed kind name h = enteredIn (givenNamed kind name h)
 
 -- ---- the kinds
 
@@ -99,13 +104,25 @@ outdoorOf kind h =
       «grazing_hours» = numberNamed kind "grazing_hours" h;
     }
 
-unfoldable pub cattleOf : Herd → Cattle
-cattleOf h =
+-- the kind of a record, by the kind of cattle
+abbrev pub kindOf : CattleKind → Kind
+kindOf OtherCattle = kinds.Cattle
+kindOf DairyCow = kinds.DairyCow
+
+-- 02, W9: `standard` for TAN is read for dairy cows alone
+abbrev pub tanIn : CattleKind → Given → Entered
+tanIn OtherCattle given = entered.Number (numberIn given)
+tanIn DairyCow given = enteredIn given
+
+-- other cattle and dairy cows: one list of inputs
+unfoldable pub cattleOf : CattleKind → Herd → Cattle
+cattleOf k h =
     record {
-      animals = numberNamed kinds.Cattle "animals" h;
-      «inp_n_excretion» = numberNamed kinds.Cattle "inp_n_excretion" h;
-      «tan_fraction» = numberNamed kinds.Cattle "tan_fraction" h;
-      outdoor = outdoorOf kinds.Cattle h;
+      kind = k;
+      animals = numberNamed (kindOf k) "animals" h;
+      «inp_n_excretion» = numberNamed (kindOf k) "inp_n_excretion" h;
+      «tan_fraction» = tanIn k (givenNamed (kindOf k) "tan_fraction" h);
+      outdoor = outdoorOf (kindOf k) h;
     }
 
 unfoldable pub pigsOf : Herd → Pigs
@@ -123,8 +140,9 @@ pigsOf h =
 
 abbrev pub typedAs : Kind → Herd → Inputs
 typedAs kinds.Roughage h = typed.Roughage (roughageOf h)
-typedAs kinds.Cattle h = typed.Cattle (cattleOf h)
+typedAs kinds.Cattle h = typed.Cattle (cattleOf OtherCattle h)
 typedAs kinds.Pigs h = typed.Pigs (pigsOf h)
+typedAs kinds.DairyCow h = typed.Cattle (cattleOf DairyCow h)
 
 unfoldable pub typedOf : Herd → Inputs
 typedOf h = typedAs (h .kind) h

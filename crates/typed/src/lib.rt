@@ -4,6 +4,7 @@ use farm::Given;
 use farm::Herd;
 use inputs::Kind;
 use kinds::Cattle;
+use kinds::CattleKind;
 use kinds::Entered;
 use kinds::Inputs;
 use kinds::Outdoor;
@@ -14,7 +15,8 @@ ghost use mathlib.Core.Path.{_≡_};
 ghost use Prim.Native.Nat.{_<_};
 ghost use Rattle.inputs.specs.declared.Kind.the-variants as kinds;
 ghost use Rattle.farm.specs.Limits.{slots};
-ghost use Rattle.typed.specs.Typed.{numberIn, signedIn, enteredIn, numberAt, signedAt, enteredAt, roughageOf, outdoorOf, cattleOf, pigsOf, typedOf};
+ghost use Rattle.typed.specs.Typed.{numberIn, signedIn, enteredIn, tanIn, givenAt, numberAt, signedAt, enteredAt};
+ghost use Rattle.typed.specs.Typed.{roughageOf, outdoorOf, cattleOf, pigsOf, typedOf};
 
 fn number_in(given: Given) -> u64
     ensures { λ r. ⌜ r ≡ numberIn given ⌝ }
@@ -91,6 +93,7 @@ fn roughage_of(h: Herd) -> Roughage
     }
 }
 
+// The module `Outdoor`, in the same slots for both kinds that have it.
 fn outdoor_of(h: Herd) -> Outdoor
     ensures { λ r. ⌜ r ≡ outdoorOf kinds.Cattle h ⌝ }
 {
@@ -104,13 +107,24 @@ fn outdoor_of(h: Herd) -> Outdoor
     }
 }
 
-fn cattle_of(h: Herd) -> Cattle
-    ensures { λ r. ⌜ r ≡ cattleOf h ⌝ }
+fn tan_of(kind: CattleKind, h: Herd) -> Entered
+    ensures { λ r. ⌜ r ≡ tanIn kind (givenAt h 2) ⌝ }
+{
+    match kind {
+        CattleKind::OtherCattle => Entered::Number(number_at(h, 2)),
+        CattleKind::DairyCow => entered_at(h, 2),
+    }
+}
+
+// Other cattle and dairy cows: one list of inputs.
+fn cattle_of(kind: CattleKind, h: Herd) -> Cattle
+    ensures { λ r. ⌜ r ≡ cattleOf kind h ⌝ }
 {
     Cattle {
+        kind,
         animals: number_at(h, 0),
         inp_n_excretion: number_at(h, 1),
-        tan_fraction: number_at(h, 2),
+        tan_fraction: tan_of(kind, h),
         outdoor: outdoor_of(h),
     }
 }
@@ -136,7 +150,8 @@ pub fn typed_of(h: Herd) -> Inputs
     let kind = h.kind;
     match kind {
         Kind::Roughage => Inputs::Roughage(roughage_of(h)),
-        Kind::Cattle => Inputs::Cattle(cattle_of(h)),
+        Kind::Cattle => Inputs::Cattle(cattle_of(CattleKind::OtherCattle, h)),
         Kind::Pigs => Inputs::Pigs(pigs_of(h)),
+        Kind::DairyCow => Inputs::Cattle(cattle_of(CattleKind::DairyCow, h)),
     }
 }

@@ -12,16 +12,20 @@ use Rattle.inputs.specs.declared.Kind.the-variants as kind
 use Rattle.farm.specs.declared.Herd.{Herd}
 use Rattle.kinds.specs.declared.HousingType.{HousingType}
 use Rattle.kinds.specs.declared.HousingType.the-variants as housed
+use Rattle.kinds.specs.declared.CattleKind.{CattleKind}
+use Rattle.kinds.specs.declared.CattleKind.the-variants.{OtherCattle, DairyCow}
+use Rattle.kinds.specs.declared.Cattle.{Cattle}
 use Rattle.kinds.specs.declared.Pigs.{Pigs}
+use Rattle.rates.specs.Rates.{cattleRates}
 use Rattle.excretion.specs.Excretion.{ExcretionIn}
 use Rattle.yard.specs.Yard.{noYard}
 use Rattle.pasture.specs.Pasture.{GrazingIn, pigsIntoGrazing}
 use Rattle.housing.specs.Housing.{HousingIn, throughDoor}
 use Rattle.pig_house.specs.PigHouse.{throughPigHouse, inFractions, nh3InPigHouse, «tan_air_scrubber»}
 use Rattle.pig_house.specs.NxOx.{nxOx}
-use Rattle.typed.specs.Typed.{pigsOf, typedAs}
+use Rattle.typed.specs.Typed.{cattleOf, pigsOf, typedAs}
 use Rattle.outputs.specs.Sections.{FiguresIn}
-use Rattle.herd.specs.Herd.{ofPigs, figuresIn}
+use Rattle.herd.specs.Herd.{ofCattle, ofPigs, figuresIn}
 use Rattle.listing.specs.Bounds.{noN2, outdoors, onSlurry, onLitter}
 use Rattle.listing.proofs.Lengths.{Lacks}
 use Rattle.whole.proofs.Amounts.{HasNothing}
@@ -88,6 +92,15 @@ outdoor-pigs p out =
     et : tan ≡ 0
     et = none-in (p .«housing_type») out (f .excretion .«tan_excretion»)
 
+-- ---- cattle
+
+no-n2-rate : (k : CattleKind) → cattleRates k .n2 ≡ 0
+no-n2-rate OtherCattle = refl
+no-n2-rate DairyCow = refl
+
+no-n2 : (c : Cattle) → HasNothing noN2 (ofCattle cutting c)
+no-n2 c = record { is-blank = rw (no-n2-rate (c .kind), mul-zero) }
+
 -- ---- every kind
 
 pigs-lacking : (p : Pigs) (t : HousingType) → p .«housing_type» ≡ t → Lacking kind.Pigs (ofPigs cutting p)
@@ -105,6 +118,6 @@ pigs-lacking p housed.DeepLitter e =
 pub lacking : (k : Kind) (h : Herd) → Lacking k (figuresIn cutting (typedAs k h))
 lacking kind.Roughage h =
     record { names = noN2; lacks = Lacks.roughage; has-nothing = record { is-blank = rw mul-zero } }
-lacking kind.Cattle h =
-    record { names = noN2; lacks = Lacks.cattle; has-nothing = record { is-blank = rw mul-zero } }
+lacking kind.Cattle h = record { names = noN2; lacks = Lacks.cattle; has-nothing = no-n2 (cattleOf OtherCattle h) }
+lacking kind.DairyCow h = record { names = noN2; lacks = Lacks.dairy-cows; has-nothing = no-n2 (cattleOf DairyCow h) }
 lacking kind.Pigs h = pigs-lacking (pigsOf h) (pigsOf h .«housing_type») refl

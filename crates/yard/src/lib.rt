@@ -1,4 +1,5 @@
-// 2.33 and 2.34: days with both, the yard's share of what is excreted, and what happens on the yard.
+// 2.33 and 2.34, and of dairy cows 2.18 and 2.19: days with both, the yard's share of what is excreted, and what happens
+// on the yard.
 //
 // The trap: grazing days and yard days may overlap. Both counts stay as they are, and a day with both has a share of
 // its own. A program that tests ranges of days which overlap one after the other, cuts the yard days at what grazing

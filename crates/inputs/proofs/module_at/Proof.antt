@@ -18,4 +18,6 @@ module-at-spec =
     (λ c. search (needs, module-at, stretches))
     (λ c. search (needs, module-at, stretches))
     (λ c. search (needs, module-at, stretches))
+    (λ c. search (needs, module-at, stretches))
+    (λ c. search (needs, module-at, stretches))
     (λ c. search (needs, module-none)))

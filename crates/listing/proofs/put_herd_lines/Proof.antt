@@ -29,7 +29,7 @@ owner-put p = p .before .before .before
 abbrev begin : tie.After-part-of → tie.Start
 begin p = owner-put p .before .before .before
 
-abbrev kind-of : tie.After-number-of → Kind
+abbrev kind-of : tie.After-list-of → Kind
 kind-of n = begin (n .before) .args .kind
 
 owner-is : (p : tie.After-part-of) → let a = begin p .args in now (p .part-of .result) ≡ ownerOf (text (a .label)) (bytes (pathOf (a .kind)))
@@ -42,8 +42,8 @@ grams-long : (s : tie.Start) → length (s .args .f .grams) ≡ length rows
 grams-long s = search needs
 
 -- the kind's lines in their table
-run : (n : tie.After-number-of) → let k = n .number-of .result in Run (joined listed) (map number (linesOf (kind-of n))) (getD (starts 0 listed) k 0) (getD (starts 0 listed) (k + 1) 0)
-run n = lines-run (kind-of n) (n .number-of .ensures .0) (n .number-of .ensures .1)
+run : (n : tie.After-list-of) → let k = n .list-of .result in Run (joined listed) (map number (linesOf (kind-of n))) (getD (starts 0 listed) k 0) (getD (starts 0 listed) (k + 1) 0)
+run n = lines-run (kind-of n) (n .list-of .ensures .0) (n .list-of .ensures .1)
 
 slice-aggregate-put-owner : tie.Need-slice-aggregate-put-owner
 slice-aggregate-put-owner c = search needs
@@ -57,8 +57,8 @@ slice-aggregate-part-of c = search needs
 part-of-requires : tie.Need-part-of-requires
 part-of-requires c κs = search needs
 
-number-of-requires : tie.Need-number-of-requires
-number-of-requires c κs = search needs
+list-of-requires : tie.Need-list-of-requires
+list-of-requires c κs = search needs
 
 mul-from : tie.Need-mul-from
 mul-from c = search needs
@@ -124,7 +124,7 @@ put-herd-lines-spec =
     put-owner-requires
     slice-aggregate-part-of
     part-of-requires
-    number-of-requires
+    list-of-requires
     mul-from
     array-read-from
     add-to

@@ -30,9 +30,15 @@ find-module-spec =
     (λ c κs. search needs)
     (λ c. search needs)
     (λ c κs. search needs)
+    (λ c. search needs)
+    (λ c κs. search needs)
+    (λ c. search needs)
+    (λ c κs. search needs)
     -- what was found after each call
     (λ c.
-    let p9 = c .before .before in
+    let p11 = c .before .before in
+    let p10 = p11 .before .before in
+    let p9 = p10 .before .before in
     let p8 = p9 .before .before in
     let p7 = p8 .before .before in
     let p6 = p7 .before .before in
@@ -50,4 +56,6 @@ find-module-spec =
     let e7 = or-at-next 6 _ _ (p7 .or-at7 .ensures) e6 in
     let e8 = or-at-next 7 _ _ (p8 .or-at8 .ensures) e7 in
     let e9 = or-at-next 8 _ _ (p9 .or-at9 .ensures) e8 in
-    tried-all modules _ (or-at-next 9 _ _ (c .or-at10 .ensures) e9)))
+    let e10 = or-at-next 9 _ _ (p10 .or-at10 .ensures) e9 in
+    let e11 = or-at-next 10 _ _ (p11 .or-at11 .ensures) e10 in
+    tried-all modules _ (or-at-next 11 _ _ (c .or-at12 .ensures) e11)))

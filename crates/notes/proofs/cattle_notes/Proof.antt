@@ -4,6 +4,12 @@ use Rattle.notes.proofs.Steps.{are-cattle-notes, free-noted}
 use Rattle.notes.proofs.cattle_notes.Statement.{statement}
 use Rattle.notes.proofs.cattle_notes.Tie as tie
 
+cattle-n-off-standard-requires : tie.Need-cattle-n-off-standard-requires
+cattle-n-off-standard-requires c κs = search needs
+
+cattle-tan-off-standard-requires : tie.Need-cattle-tan-off-standard-requires
+cattle-tan-off-standard-requires c κs = search needs
+
 free-entered-requires : tie.Need-free-entered-requires
 free-entered-requires c κs = search needs
 
@@ -16,4 +22,9 @@ returns c = search (needs, are-cattle-notes, free-noted)
 pub cattle-notes-spec : {M : Type 1} → statement M
 cattle-notes-spec =
     tie.close
-    (tie.spec free-entered-requires share-lowered-requires returns)
+    (tie.spec
+    cattle-n-off-standard-requires
+    cattle-tan-off-standard-requires
+    free-entered-requires
+    share-lowered-requires
+    returns)

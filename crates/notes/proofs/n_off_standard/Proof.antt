@@ -13,9 +13,6 @@ enum-told c = search needs
 returns : tie.Need-returns
 returns c = search (needs, note-steps)
 
-standard-requires : tie.Need-standard-requires
-standard-requires c κs = search needs
-
 mul-if1 : tie.Need-mul-if1
 mul-if1 c = search (needs, note-steps)
 
@@ -41,7 +38,6 @@ n-off-standard-spec =
     enum-known-entered
     enum-told
     returns
-    standard-requires
     mul-if1
     mul-if1-2
     returns-2

@@ -10,8 +10,8 @@ number-at-requires c κs = search needs
 number-at-requires-2 : tie.Need-number-at-requires-2
 number-at-requires-2 c κs = search needs
 
-number-at-requires-3 : tie.Need-number-at-requires-3
-number-at-requires-3 c κs = search needs
+tan-of-requires : tie.Need-tan-of-requires
+tan-of-requires c κs = search needs
 
 outdoor-of-requires : tie.Need-outdoor-of-requires
 outdoor-of-requires c κs = search needs
@@ -25,6 +25,6 @@ cattle-of-spec =
     (tie.spec
     number-at-requires
     number-at-requires-2
-    number-at-requires-3
+    tan-of-requires
     outdoor-of-requires
     returns)
