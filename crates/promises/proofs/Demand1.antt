@@ -35,8 +35,8 @@ use Rattle.listing.specs.declared.Written.{Written}
 use Rattle.listing.specs.declared.Written.the-variants.{Length, Refused}
 use Rattle.listing.specs.Answer.{leaves, answers, saysOf}
 use Rattle.whole.specs.declared.Answer.{Answer}
-use Rattle.calls.specs.Listings.{Call, Called, left, said, PutAnswer}
-use Rattle.calls.proofs.RecordSteps.{herd-checked, farm-checked}
+use Rattle.contracts.specs.Listings.{Call, Called, left, said, PutAnswer}
+use Rattle.contracts.proofs.RecordSteps.{herd-checked, farm-checked}
 
 -- ---- a file
 

@@ -22,7 +22,7 @@ use Rattle.model.specs.Answers.{herdAnswer, farmAnswer}
 use Rattle.listing.specs.declared.Written.{Written}
 use Rattle.listing.specs.declared.Written.the-variants.{Length}
 use Rattle.listing.specs.Answer.{leaves, answers}
-use Rattle.calls.specs.Listings.{Call, Called}
+use Rattle.contracts.specs.Listings.{Call, Called}
 use Rattle.promises.specs.Formulas.{herdGets, farmGets, FileGets}
 
 -- ---- acceptance

@@ -26,7 +26,7 @@ use Rattle.nearness.specs.Promised.{promisedAt, promisedOfTotal}
 use Rattle.nearness.specs.Exact.{exactAt, exactOfTotal}
 use Rattle.nearness.proofs.Herd.{within-herd}
 use Rattle.nearness.proofs.Farm.{within-totals}
-use Rattle.calls.proofs.RecordSteps.{herd-checked, herd-figured, farm-checked}
+use Rattle.contracts.proofs.RecordSteps.{herd-checked, herd-figured, farm-checked}
 
 -- ---- a herd's record: every figure, by its number
 

@@ -24,7 +24,7 @@ use Rattle.herd.specs.Herd.{figuresOf}
 use Rattle.model.specs.Answers.{herdFigures}
 use Rattle.listing.specs.Listing.{each, herdListing}
 use Rattle.listing.proofs.Examples.{pigFigures, pigLines, pig-listing}
-use Rattle.calls.specs.Listings.{fileHerdCall, listingAt}
+use Rattle.contracts.specs.Listings.{fileHerdCall, listingAt}
 
 -- the file
 abbrev pub pigFile : List String

@@ -13,7 +13,7 @@ use Rattle.model.specs.Answers.{herdAnswer, farmAnswer}
 use Rattle.growing.specs.Growing.{Grows, More, OneHasMore, NoLessAmmonia, NoLessInTotal}
 use Rattle.growing.proofs.Herd.{more-no-less}
 use Rattle.growing.proofs.Farm.{totals-no-less}
-use Rattle.calls.proofs.RecordSteps.{herd-checked, herd-figured, farm-checked, farm-figured}
+use Rattle.contracts.proofs.RecordSteps.{herd-checked, herd-figured, farm-checked, farm-figured}
 
 module _ {name : String} (grows : Grows name) where
   pub never-less-ammonia : {kind : Kind} (h g : Herd) → herdAnswer h .checked ≡ Accepted

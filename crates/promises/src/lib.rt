@@ -1,1 +1,1 @@
-// Theorems only: the three demands over the calls of crate `calls`, one file a demand.
+// Theorems only: the three demands over what the public calls are to do (crate `contracts`), one file a demand.

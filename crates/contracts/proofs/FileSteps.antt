@@ -1,0 +1,139 @@
+-- The steps of the writing calls on a file: a farm that is read passes the record checks, so what the calls on its records give is what the
+-- calls on the file give.
+-- Assumes nothing.
+use Prim.Native.Nat.{ℕ, zero, suc, _*_, _<_, _≤_}
+use mathlib.Core.Path.{_≡_, refl, sym, ap, _∙_}
+use mathlib.Core.List.{List, [], _∷_}
+use native.Mathlib.Omega.{arith}
+use lib.ListN.{length, getD, length-append, length-replicate, length-take}
+use lib.Seq.{getD-take}
+use borrow.Author.Tests.{lt-ltb, le-ltb, le-leb}
+use mir.Syntax.{w64}
+use mir.Val.{Fits}
+use Rattle.base.proofs.Each.{each-getD}
+use Rattle.farm.specs.declared.Herd.{Herd}
+use Rattle.farm.specs.declared.Farm.{Farm}
+use Rattle.farm.specs.declared.Fault.{Fault}
+use Rattle.farm.specs.declared.Checked.{Checked}
+use Rattle.farm.specs.declared.Checked.the-variants as checks
+use Rattle.checks.specs.Checks.{checkHerd, checkFarm, herdsOf}
+use Rattle.farm.specs.Herds.{noHerd}
+use Rattle.checks.proofs.Accepts.{farm-count, farm-each}
+use Rattle.reader.specs.declared.FileAnswer.{FileAnswer}
+use Rattle.reader.specs.Files.{readOf, accepted}
+use Rattle.rules.proofs.Accepts.{accepts-exactly}
+use Rattle.rules.proofs.Passing.{accepted-passes}
+use Rattle.listing.specs.declared.Written.{Written}
+use Rattle.listing.specs.declared.Written.the-variants.{Length, Refused}
+use Rattle.listing.specs.Answer.{leaves, answers}
+use Rattle.cut_lines.specs.Lines.{herdCutLines}
+use Rattle.whole.specs.Lines.{listingOf}
+use Rattle.contracts.specs.Listings.{Called, recordCall, herdCall, herdCutsCall, totalsCall, fileCallOf, fileHerdCall, fileHerdCutsCall, fileTotalsCall}
+
+-- what stands past the end does not matter inside a list
+inside : {A : Type 0} (l : List A) (i : ℕ) (d e : A) → i < length l → getD l i d ≡ getD l i e
+inside [] i d e h = absurd (omega arith)
+inside (a ∷ l) zero d e h = refl
+inside (a ∷ l) (suc i) d e h = inside l i d e (omega arith)
+
+-- an empty listing leaves the buffer, whatever its length
+empty-leaves : (old : List ℕ) → old ≡ leaves [] old
+unfolding leaves
+empty-leaves old = rw (le-leb 0 (length old) (omega arith))
+
+empty-answers : (old : List ℕ) → Length 0 ≡ answers [] old
+unfolding answers
+empty-answers old = rw (le-leb 0 (length old) (omega arith))
+
+module _ (s : List ℕ) (a : FileAnswer) (q : a ≡ readOf s) where
+  module _ (e : a .checked ≡ checks.Accepted) where
+    pub as-accepted : readOf s ≡ accepted (a .farm)
+    as-accepted = sym q ∙ as-is (a .checked) e
+      where
+        as-is : (k : Checked) → k ≡ checks.Accepted → record { checked = k; farm = a .farm } ≡ accepted (a .farm)
+        as-is k w = rw w
+
+    passes : checkFarm (a .farm) ≡ checks.Accepted
+    passes = accepted-passes s (a .farm) as-accepted
+
+    long : length (a .farm .herds) ≡ 64
+    long =
+        let k = accepts-exactly s (a .farm) .0 as-accepted .says in
+        ap (λ (f : Farm). length (f .herds)) (k .is)
+        ∙ simp (length-append, length-replicate) (omega (arith, k .most))
+
+    pub in-array : (i : ℕ) → i < a .farm .count → i < 64
+    in-array i h = omega (arith, farm-count (a .farm) passes)
+
+    pub place-fits : (i : ℕ) → i < a .farm .count → Fits w64 (i * 176)
+    place-fits i h = omega (arith, farm-count (a .farm) passes)
+
+    pub herd-at : (i : ℕ) (d : Herd) → i < a .farm .count
+        → getD (a .farm .herds) i d ≡ getD (a .farm .herds) i noHerd
+    herd-at i d h = inside (a .farm .herds) i d noHerd (omega (arith, long, farm-count (a .farm) passes))
+
+    herd-passes : (i : ℕ) (d : Herd) → i < a .farm .count → checkHerd (getD (a .farm .herds) i d) ≡ checks.Accepted
+    herd-passes i d h =
+        let l : i < length (herdsOf (a .farm)) = omega (arith, length-take (a .farm .count) (a .farm .herds), long, farm-count (a .farm) passes) in
+        rw (← getD-take (a .farm .count) (a .farm .herds) i d h) (each-getD (herdsOf (a .farm)) i d (farm-each (a .farm) passes) l)
+
+    -- `of` says what is listed of a herd
+    of-file-herd : (of : Herd → List ℕ) (i : ℕ) (d : Herd) (old new : List ℕ) (r : Written) → i < a .farm .count
+        → Called (recordCall of (getD (a .farm .herds) i d)) old new r → Called (fileCallOf of s i) old new r
+    of-file-herd of i d old new r h w =
+        let p = herd-passes i d h in
+        let same = herd-at i d h in
+        record {
+          buffer = rw (as-accepted, lt-ltb i (a .farm .count) h, ← same) (rw p at (w .buffer));
+          answer = rw (as-accepted, lt-ltb i (a .farm .count) h, ← same) (rw p at (w .answer));
+        }
+
+    of-past-herds : (of : Herd → List ℕ) (i : ℕ) (old : List ℕ) → a .farm .count ≤ i
+        → Called (fileCallOf of s i) old old (Length 0)
+    of-past-herds of i old h =
+        record {
+          buffer = rw (as-accepted, le-ltb i (a .farm .count) h) (empty-leaves old);
+          answer = rw (as-accepted, le-ltb i (a .farm .count) h) (empty-answers old);
+        }
+
+    pub is-file-herd : (i : ℕ) (d : Herd) (old new : List ℕ) (r : Written) → i < a .farm .count
+        → Called (herdCall (getD (a .farm .herds) i d)) old new r → Called (fileHerdCall s i) old new r
+    unfolding fileHerdCall herdCall
+    is-file-herd i d old new r h w = of-file-herd listingOf i d old new r h w
+
+    pub is-past-herds : (i : ℕ) (old : List ℕ) → a .farm .count ≤ i → Called (fileHerdCall s i) old old (Length 0)
+    unfolding fileHerdCall
+    is-past-herds i old h = of-past-herds listingOf i old h
+
+    pub is-file-cuts : (i : ℕ) (d : Herd) (old new : List ℕ) (r : Written) → i < a .farm .count
+        → Called (herdCutsCall (getD (a .farm .herds) i d)) old new r → Called (fileHerdCutsCall s i) old new r
+    unfolding fileHerdCutsCall herdCutsCall
+    is-file-cuts i d old new r h w = of-file-herd herdCutLines i d old new r h w
+
+    pub is-past-cuts : (i : ℕ) (old : List ℕ) → a .farm .count ≤ i → Called (fileHerdCutsCall s i) old old (Length 0)
+    unfolding fileHerdCutsCall
+    is-past-cuts i old h = of-past-herds herdCutLines i old h
+
+    pub is-file-totals : (old new : List ℕ) (r : Written) → Called (totalsCall (a .farm)) old new r → Called (fileTotalsCall s) old new r
+    unfolding fileTotalsCall totalsCall
+    is-file-totals old new r w = record { buffer = rw as-accepted (rw passes at (w .buffer)); answer = rw as-accepted (rw passes at (w .answer)) }
+
+  module _ (fault : Fault) (at-record : ℕ) (e : a .checked ≡ checks.Refused fault at-record) (old : List ℕ) where
+    pub refusing : readOf s .checked ≡ checks.Refused fault at-record
+    refusing = rw q at e
+
+    pub is-herd-unread : (i : ℕ) → Called (fileHerdCall s i) old old (Refused fault at-record)
+    unfolding fileHerdCall
+    is-herd-unread i = record { buffer = rw refusing; answer = rw refusing }
+
+    pub is-cuts-unread : (i : ℕ) → Called (fileHerdCutsCall s i) old old (Refused fault at-record)
+    unfolding fileHerdCutsCall
+    is-cuts-unread i = record { buffer = rw refusing; answer = rw refusing }
+
+    pub is-totals-unread : Called (fileTotalsCall s) old old (Refused fault at-record)
+    unfolding fileTotalsCall
+    is-totals-unread = record { buffer = rw refusing; answer = rw refusing }
+
+pub ruleset file-steps = (in-array, place-fits, is-file-herd, is-past-herds, is-file-totals, is-herd-unread, is-totals-unread)
+
+pub ruleset file-cuts-steps = (in-array, place-fits, is-file-cuts, is-past-cuts, is-cuts-unread)
