@@ -78,7 +78,7 @@ fn given_number(given: Given) -> u64 {
         Given::Missing => 0,
         Given::Standard => 1,
         Given::Value(v) => v as u64,
-        Given::Signed(v) => cut::magnitude(v),
+        Given::Signed(v) => cut::magnitude(v as i64),
     }
 }
 

@@ -7,10 +7,9 @@ use native.Mathlib.Omega.{arith}
 use lib.Dec.{leb, ltb}
 use lib.IntN.{ℤ, natAbs}
 use lib.ListN.{length, getD, drop}
-use mir.Syntax.{w64}
+use mir.Syntax.{w32}
 use mir.Val.{SFits}
 use mir.Facts.{toZ-ofZ}
-use Rattle.cut.proofs.Signs.{back}
 use Rattle.names.specs.declared.Names.{Names}
 use Rattle.inputs.specs.declared.Kind.{Kind}
 use Rattle.names.specs.Names.{sizeOf}
@@ -19,6 +18,7 @@ use Rattle.inputs.specs.declared.Form.the-variants.{Number, OrStandard, NoStand
 use Rattle.inputs.specs.Inputs.{rowsOf, countOf, lastOf, rowAt, formOf}
 use Rattle.farm.specs.Limits.{slots}
 use Rattle.farm.proofs.Slots.{count-most}
+use Rattle.farm.proofs.Narrow.{back, wide, wide-fits, wide-is}
 use Rattle.farm.specs.declared.Given.{Given}
 use Rattle.farm.specs.declared.Given.the-variants.{Value, Signed}
 use Rattle.farm.specs.declared.Herd.{Herd}
@@ -45,16 +45,16 @@ pub value-fits : (form : Form) {given : Given} {v : ℕ} → given ≡ Value v �
 value-fits form e h = rw e h
 
 -- as the code reads it, the sign with the bits
-pub signed-fits : {form : Form} {most m : ℕ} (v : ℤ) → SFits w64 v → form ≡ ASigned most → m ≡ natAbs (back v)
+pub signed-fits : {form : Form} {most m : ℕ} (v : ℤ) → SFits w32 v → form ≡ ASigned most → m ≡ natAbs (wide v)
     → leb m most ≡ signedFits form v
-signed-fits v f e h = rw (e, h, toZ-ofZ f)
+signed-fits v f e h = rw (e, h, wide-is f)
 
-pub given-signed : (form : Form) {given : Given} {v : ℤ} → SFits w64 v → given ≡ Signed v → {r : Bool}
+pub given-signed : (form : Form) {given : Given} {v : ℤ} → SFits w32 v → given ≡ Signed v → {r : Bool}
     → r ≡ signedFits form (back v) → r ≡ fits form given
 given-signed form f e h = rw (e, ← toZ-ofZ f) h
 
 pub ruleset fit-steps =
-    (number-fits, or-standard-fits, no-standard-fits, one-of-fits, value-fits, signed-fits, given-signed)
+    (number-fits, or-standard-fits, no-standard-fits, one-of-fits, value-fits, wide-fits, signed-fits, given-signed)
 
 -- ---- a kind's inputs
 

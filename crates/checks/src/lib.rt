@@ -54,14 +54,14 @@ fn value_fits(form: Form, v: u32) -> bool
     }
 }
 
-fn signed_fits(form: Form, v: i64) -> bool
+fn signed_fits(form: Form, v: i32) -> bool
     ensures { λ r. ⌜ r ≡ signedFits form v ⌝ }
 {
     match form {
         Form::Number(_, _) => false,
         Form::OrStandard(_, _) => false,
         Form::NoStandard(_, _) => false,
-        Form::Signed(most) => cut::magnitude(v) <= most as u64,
+        Form::Signed(most) => cut::magnitude(v as i64) <= most as u64,
         Form::OneOf(_) => false,
     }
 }

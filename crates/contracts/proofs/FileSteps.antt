@@ -65,7 +65,7 @@ module _ (s : List ℕ) (a : FileAnswer) (q : a ≡ readOf s) where
     pub in-array : (i : ℕ) → i < a .farm .count → i < 64
     in-array i h = omega (arith, farm-count (a .farm) passes)
 
-    pub place-fits : (i : ℕ) → i < a .farm .count → Fits w64 (i * 176)
+    pub place-fits : (i : ℕ) → i < a .farm .count → Fits w64 (i * 104)
     place-fits i h = omega (arith, farm-count (a .farm) passes)
 
     pub herd-at : (i : ℕ) (d : Herd) → i < a .farm .count

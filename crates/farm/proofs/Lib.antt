@@ -3,3 +3,4 @@ pub mod LabelSteps
 pub mod LabelTexts
 pub mod Slots
 pub mod Empty
+pub mod Narrow

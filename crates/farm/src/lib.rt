@@ -24,7 +24,7 @@ pub enum Given {
     Missing,
     Standard,
     Value(u32),
-    Signed(i64),
+    Signed(i32),
 }
 
 pub struct Slot {

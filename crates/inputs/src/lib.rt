@@ -27,7 +27,7 @@ pub enum Form {
     Number(usize, u32),
     OrStandard(usize, u32),
     NoStandard(usize, u32),
-    Signed(u32),
+    Signed(u16),
     OneOf(Names),
 }
 

@@ -1,17 +1,21 @@
 -- What a value says, from the calls that read it: each law in the form that a place of src/values.rt wants.
 -- Assumes nothing.
-use Prim.Native.Nat.{ℕ, zero, suc, _<_, _≤_}
+use Prim.Native.Nat.{ℕ, zero, suc, _<_, _≤_, _^_}
 use mathlib.Core.Path.{_≡_, refl, sym, _∙_}
 use mathlib.Core.Bool.{Bool, true, false}
 use mathlib.Core.List.{List, [], _∷_}
 use native.Mathlib.Omega.{arith}
 use lib.Dec.{lit≤, eqb}
-use lib.IntN.{ℤ, pos, negsuc, _-ℤ_, +ℤ-idl, +ℤ-idr}
+use lib.IntN.{pos, negsuc, _-ℤ_, +ℤ-idl}
 use lib.ListN.{length, getD}
+use mir.Syntax.{w16, w32}
+use mir.Val.{Fits, SFits, toZ, ofZ}
+use mir.Facts.{toZ-ofZ, sfits-lit}
 use Rattle.base.specs.Part.{part}
 use Rattle.decimal.specs.declared.Number.{Number}
 use Rattle.decimal.specs.declared.Number.the-variants as numbers
 use Rattle.decimal.specs.Reading.{numberOf}
+use Rattle.decimal.proofs.Agrees.{number-iff}
 use Rattle.inputs.specs.declared.Form.{Form}
 use Rattle.inputs.specs.declared.Form.the-variants.{Number as ANumber, OrStandard, NoStandard, Signed as ASigned, OneOf}
 use Rattle.names.specs.declared.Names.{Names}
@@ -42,23 +46,41 @@ module _ {x y : Number} (q : x ≡ y) where
   pub number-unfit : x ≡ numbers.Unreadable → Unfit ≡ numberRead y
   number-unfit e = simp (sym q ∙ e)
 
--- a number was read behind a `-`, or without one
-module _ {x y : Number} (q : x ≡ y) where
-  pub below-is : {v : ℕ} {z : ℤ} → x ≡ numbers.Value v → (v ≡ 0 → ⊥) → z ≡ pos 0 -ℤ pos v → Is (Signed z) ≡ belowRead y
-  below-is {v} {z} e h d = go v h (sym q ∙ e) d
-    where
-      go : (v : ℕ) → (v ≡ 0 → ⊥) → y ≡ numbers.Value v → z ≡ pos 0 -ℤ pos v → Is (Signed z) ≡ belowRead y
-      go zero h e d = absurd (h refl)
-      go (suc v) h e d = rw (e, d, +ℤ-idl (negsuc v)) refl
+-- a number was read behind a `-`, or without one: no more than the most on either side, a u16, so an i32 holds it
+minus-fits : (v : ℕ) → v < 2 ^ 31 → SFits w32 (pos 0 -ℤ pos v)
+minus-fits zero h = sfits-lit tt
+minus-fits (suc v) h = rw (+ℤ-idl (negsuc v)) (record { sfits = omega arith })
 
+module _ (s : List ℕ) {most : ℕ} (f : Fits w16 most) {x : Number} (q : x ≡ numberOf s 0 most) {v : ℕ}
+    (e : x ≡ numbers.Value v) where
+  read : numberOf s 0 most ≡ numbers.Value v
+  read = sym q ∙ e
+
+  small : v < 2 ^ 31
+  small = omega (arith, number-iff s 0 most v .0 read .1)
+
+  pub above-fits : SFits w32 (pos v)
+  above-fits = record { sfits = small }
+
+  pub above-is : Is (Signed (toZ w32 v)) ≡ aboveRead (numberOf s 0 most)
+  above-is = rw (read, toZ-ofZ above-fits) refl
+
+  pub below-fits : SFits w32 (pos 0 -ℤ toZ w32 v)
+  below-fits = rw (toZ-ofZ above-fits) (minus-fits v small)
+
+  pub below-is : (v ≡ 0 → ⊥) → Is (Signed (toZ w32 (ofZ w32 (pos 0 -ℤ toZ w32 v)))) ≡ belowRead (numberOf s 0 most)
+  below-is h = rw (toZ-ofZ below-fits, toZ-ofZ above-fits, read) (less v h)
+    where
+      less : (v : ℕ) → (v ≡ 0 → ⊥) → Is (Signed (pos 0 -ℤ pos v)) ≡ belowRead (numbers.Value v)
+      less zero h = absurd (h refl)
+      less (suc v) h = rw (+ℤ-idl (negsuc v)) refl
+
+module _ {x y : Number} (q : x ≡ y) where
   pub below-nought : {v : ℕ} → x ≡ numbers.Value v → v ≡ 0 → Unfit ≡ belowRead y
   below-nought e h = rw (sym q ∙ e, h) refl
 
   pub below-unfit : x ≡ numbers.Unreadable → Unfit ≡ belowRead y
   below-unfit e = simp (sym q ∙ e)
-
-  pub above-is : {v : ℕ} {z : ℤ} → x ≡ numbers.Value v → z ≡ pos v -ℤ pos 0 → Is (Signed z) ≡ aboveRead y
-  above-is {v} e d = rw (sym q ∙ e, d, +ℤ-idr (pos v)) refl
 
   pub above-unfit : x ≡ numbers.Unreadable → Unfit ≡ aboveRead y
   above-unfit e = simp (sym q ∙ e)
@@ -82,8 +104,19 @@ module _ (s : List ℕ) {b : Bool} (q : b ≡ hasMinus s) (most : ℕ) {r : Valu
   unfolding signedRead
   signed-above h d = rw (sym q ∙ h) d
 
-pub ruleset signed-steps =
-    (below-is, below-nought, below-unfit, above-is, above-unfit, no-minus, first-minus, signed-below, signed-above)
+pub ruleset signed-steps = (
+  below-fits,
+  below-is,
+  below-nought,
+  below-unfit,
+  above-fits,
+  above-is,
+  above-unfit,
+  no-minus,
+  first-minus,
+  signed-below,
+  signed-above,
+)
 
 -- a name was looked for
 module _ {x y : Found} (q : x ≡ y) where

@@ -36,29 +36,29 @@ fn has_minus(s: &[u8]) -> bool
 }
 
 // A whole number behind a `-`: any but 0.
-fn below_read(s: &[u8], most: u32) -> ValueRead
+fn below_read(s: &[u8], most: u16) -> ValueRead
     ensures { λ r. ⌜ r ≡ belowRead (numberOf (now (s .entry)) 0 most) ⌝ }
 {
-    let Number::Value(v) = decimal::read_number(s, 0, most) else {
+    let Number::Value(v) = decimal::read_number(s, 0, most as u32) else {
         return ValueRead::Unfit;
     };
     if v == 0 {
         return ValueRead::Unfit;
     }
-    ValueRead::Is(Given::Signed(cut::less(0, v as u64)))
+    ValueRead::Is(Given::Signed(0 - (v as i32)))
 }
 
-fn above_read(s: &[u8], most: u32) -> ValueRead
+fn above_read(s: &[u8], most: u16) -> ValueRead
     ensures { λ r. ⌜ r ≡ aboveRead (numberOf (now (s .entry)) 0 most) ⌝ }
 {
-    let Number::Value(v) = decimal::read_number(s, 0, most) else {
+    let Number::Value(v) = decimal::read_number(s, 0, most as u32) else {
         return ValueRead::Unfit;
     };
-    ValueRead::Is(Given::Signed(cut::less(v as u64, 0)))
+    ValueRead::Is(Given::Signed(v as i32))
 }
 
 // A whole number that may be below zero (02, W3).
-fn signed_read(s: &[u8], most: u32) -> ValueRead
+fn signed_read(s: &[u8], most: u16) -> ValueRead
     ensures { λ r. ⌜ r ≡ signedRead (now (s .entry)) most ⌝ }
 {
     if has_minus(s) {

@@ -13,6 +13,9 @@ const LABEL_BYTES: usize = 16;
 
 const HERDS: usize = 64;
 
+// How many numbers a script can say.
+const NUMBERS: u32 = 1000000;
+
 fn value(v: u32) -> Slot {
     Slot {
         given: Given::Value(v),
@@ -20,7 +23,7 @@ fn value(v: u32) -> Slot {
 }
 
 // A number that may be below zero.
-fn signed(v: i64) -> Slot {
+fn signed(v: i32) -> Slot {
     Slot {
         given: Given::Signed(v),
     }
@@ -68,8 +71,8 @@ fn given_by(change: Change) -> Given {
     let what = change.what;
     match what {
         b'V' => Given::Value(change.value),
-        b'P' => Given::Signed(cut::less(change.value as u64, 0)),
-        b'N' => Given::Signed(cut::less(0, change.value as u64)),
+        b'P' => Given::Signed((change.value % NUMBERS) as i32),
+        b'N' => Given::Signed(0 - (change.value % NUMBERS) as i32),
         b'S' => Given::Standard,
         _ => Given::Missing,
     }

@@ -3,14 +3,13 @@
 use Prim.Native.Nat.{ℕ}
 use mathlib.Core.Path.{_≡_, refl, _∙_}
 use lib.IntN.{ℤ, pos}
-use mir.Syntax.{w64}
+use mir.Syntax.{w32}
 use mir.Val.{SFits}
-use mir.Facts.{toZ-ofZ}
-use Rattle.cut.proofs.Signs.{back}
 use Rattle.inputs.specs.declared.Kind.the-variants as kinds
 use Rattle.farm.specs.declared.Given.{Given}
 use Rattle.farm.specs.declared.Given.the-variants.{Missing, Standard, Value, Signed}
 use Rattle.farm.specs.declared.Herd.{Herd}
+use Rattle.farm.proofs.Narrow.{wide, wide-fits, wide-is}
 use Rattle.kinds.specs.declared.Entered.{Entered}
 use Rattle.kinds.specs.declared.Entered.the-variants as entered
 use Rattle.kinds.specs.declared.CattleKind.{CattleKind}
@@ -38,10 +37,10 @@ module _ {g : Given} where
   pub value-signed : {v : ℕ} → g ≡ Value v → pos 0 ≡ signedIn g
   value-signed e = rw e refl
 
-  pub signed-signed : (v : ℤ) → SFits w64 v → g ≡ Signed v → back v ≡ signedIn g
-  signed-signed v f e = toZ-ofZ f ∙ rw e refl
+  pub signed-signed : (v : ℤ) → SFits w32 v → g ≡ Signed v → wide v ≡ signedIn g
+  signed-signed v f e = wide-is f ∙ rw e refl
 
-pub ruleset signed-steps = (missing-signed, standard-signed, value-signed, signed-signed)
+pub ruleset signed-steps = (missing-signed, standard-signed, value-signed, wide-fits, signed-signed)
 
 module _ (h : Herd) where
   pub is-roughage : (category animals days hours : ℕ) (free : ℤ) (n tan : Entered)

@@ -36,7 +36,7 @@ fn signed_in(given: Given) -> i64
         Given::Missing => 0,
         Given::Standard => 0,
         Given::Value(v) => 0,
-        Given::Signed(v) => v,
+        Given::Signed(v) => v as i64,
     }
 }
 

@@ -16,6 +16,9 @@ enum-told-3 c = search needs
 enum-known-form : tie.Need-enum-known-form
 enum-known-form c = search needs
 
+cast-magnitude : tie.Need-cast-magnitude
+cast-magnitude c = search (needs, fit-steps)
+
 magnitude-requires : tie.Need-magnitude-requires
 magnitude-requires c κs = search needs
 
@@ -48,6 +51,7 @@ signed-fits-spec =
     enum-told-2
     enum-told-3
     enum-known-form
+    cast-magnitude
     magnitude-requires
     cast-result
     enum-told-4

@@ -16,6 +16,9 @@ enum-known-given c = search needs
 enum-known-given-2 : tie.Need-enum-known-given-2
 enum-known-given-2 c = search needs
 
+cast-result : tie.Need-cast-result
+cast-result c = search (needs, signed-steps)
+
 returns : tie.Need-returns
 returns c = search (needs, signed-steps)
 
@@ -36,6 +39,7 @@ signed-in-spec =
     enum-told-2
     enum-known-given
     enum-known-given-2
+    cast-result
     returns
     returns-2
     returns-3

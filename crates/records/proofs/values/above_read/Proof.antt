@@ -16,11 +16,8 @@ enum-told c = search needs
 returns : tie.Need-returns
 returns c = search (needs, signed-steps)
 
-cast-less : tie.Need-cast-less
-cast-less c = search needs
-
-less-requires : tie.Need-less-requires
-less-requires c κs = search needs
+cast-t6 : tie.Need-cast-t6
+cast-t6 c = search (needs, signed-steps)
 
 returns-2 : tie.Need-returns-2
 returns-2 c = search (needs, signed-steps)
@@ -33,6 +30,5 @@ above-read-spec =
     enum-known-v
     enum-told
     returns
-    cast-less
-    less-requires
+    cast-t6
     returns-2)

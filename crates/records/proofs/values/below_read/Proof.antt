@@ -19,11 +19,11 @@ returns c = search (needs, signed-steps)
 returns-2 : tie.Need-returns-2
 returns-2 c = search (needs, signed-steps)
 
-cast-less : tie.Need-cast-less
-cast-less c = search needs
+cast-t7 : tie.Need-cast-t7
+cast-t7 c = search (needs, signed-steps)
 
-less-requires : tie.Need-less-requires
-less-requires c κs = search needs
+sub-t8 : tie.Need-sub-t8
+sub-t8 c = search (needs, signed-steps)
 
 returns-3 : tie.Need-returns-3
 returns-3 c = search (needs, signed-steps)
@@ -37,6 +37,6 @@ below-read-spec =
     enum-told
     returns
     returns-2
-    cast-less
-    less-requires
+    cast-t7
+    sub-t8
     returns-3)
