@@ -1,4 +1,5 @@
--- A list of lists, kept as one table with starts: from one start to the next the table has the list of that place. Assumes nothing.
+-- A list of lists, kept as one table with starts: from one start to the next the table has the list of that place.
+-- Assumes nothing.
 use Prim.Native.Nat.{ℕ, zero, suc, _+_, _-_, _≤_, _<_}
 use mathlib.Core.Path.{_≡_, refl, ap, _∙_}
 use mathlib.Core.Bool.{Bool}
@@ -43,18 +44,21 @@ run-from p n (l ∷ ls) (suc k) hp h =
     rw (← append-assoc p l (joined ls))
     (run-from (p ++ l) (n + length l) ls k (length-append p l ∙ ap (λ (m : ℕ). m + length l) hp) (le-of-suc-le-suc h))
 
-pub run-at : (ls : List (List ℕ)) (k : ℕ) → k < length ls → Run (joined ls) (getD ls k []) (getD (starts 0 ls) k 0) (getD (starts 0 ls) (k + 1) 0)
+pub run-at : (ls : List (List ℕ)) (k : ℕ) → k < length ls
+    → Run (joined ls) (getD ls k []) (getD (starts 0 ls) k 0) (getD (starts 0 ls) (k + 1) 0)
 run-at ls k h = rw add-one (run-from [] 0 ls k refl h)
 
 -- ---- a test that all entries pass, one of them passes
 
-pub all-at : {A : Type 0} (f : A → Bool) (xs : List A) → T (all f xs) → (k : ℕ) (d : A) → k < length xs → T (f (getD xs k d))
+pub all-at : {A : Type 0} (f : A → Bool) (xs : List A) → T (all f xs) → (k : ℕ) (d : A) → k < length xs
+    → T (f (getD xs k d))
 all-at f [] t k d h = absurd (omega arith)
 all-at f (x ∷ xs) t zero d h = both-left (f x) (all f xs) t
 all-at f (x ∷ xs) t (suc k) d h = all-at f xs (both-right (f x) (all f xs) t) k d (le-of-suc-le-suc h)
 
 -- past the last too, where the entry for want of one passes
-pub all-getD : {A : Type 0} (f : A → Bool) (xs : List A) → T (all f xs) → (d : A) → T (f d) → (k : ℕ) → T (f (getD xs k d))
+pub all-getD : {A : Type 0} (f : A → Bool) (xs : List A) → T (all f xs) → (d : A) → T (f d) → (k : ℕ)
+    → T (f (getD xs k d))
 all-getD f [] t d e k = e
 all-getD f (x ∷ xs) t d e zero = both-left (f x) (all f xs) t
 all-getD f (x ∷ xs) t d e (suc k) = all-getD f xs (both-right (f x) (all f xs) t) d e k

@@ -18,11 +18,13 @@ module _ {old whole : List ℕ} {start : ℕ} where
   pub begun : ToCome old start whole old whole start
   begun = record { to-come = refl; adds-up = refl; same = refl }
 
-  pub gone-on : {now a b new : List ℕ} {next after : ℕ} → ToCome old start whole now (a ++ b) next → Wrote now next a new after
+  pub gone-on : {now a b new : List ℕ} {next after : ℕ} → ToCome old start whole now (a ++ b) next
+      → Wrote now next a new after
       → ToCome old start whole new b after
   gone-on {now} {a} {b} {next} {after} t w =
       record {
-        to-come = ap (λ (m : List ℕ). sets m after b) (w .bytes) ∙ ap (λ (n : ℕ). sets (sets now next a) n b) (w .past) ∙ sets-join now next a b ∙ t .to-come;
+        to-come = ap (λ (m : List ℕ). sets m after b) (w .bytes) ∙ ap (λ (n : ℕ). sets (sets now next a) n b) (w .past)
+            ∙ sets-join now next a b ∙ t .to-come;
         adds-up = omega (arith, w .past, t .adds-up, length-append a b);
         same = kept w ∙ t .same;
       }

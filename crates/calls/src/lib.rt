@@ -1,5 +1,6 @@
-// What users of the library call, and nothing else. Nothing is asked of a caller beforehand: a file of any bytes and a record of any content
-// get their figures or exactly one refusal. What the calls are to do stands in crate `contracts`, the demands in crate `promises`.
+// What users of the library call, and nothing else. Nothing is asked of a caller beforehand: a file of any bytes and a
+// record of any content get their figures or exactly one refusal. What the calls are to do stands in crate `contracts`,
+// the demands in crate `promises`.
 
 // from a record
 pub use record_calls::farm_totals;

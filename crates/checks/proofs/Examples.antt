@@ -1,6 +1,5 @@
 -- Where `standard` may stand in a record of cattle (02, W9), computed from the definitions: it is a TAN of dairy cows,
 -- and none of other cattle, and an N of neither. Assumes nothing.
-use Prim.Native.Nat.{ℕ}
 use mathlib.Core.Path.{_≡_, refl}
 use mathlib.Core.List.{List, [], _∷_, map}
 use lib.IntN.{pos}

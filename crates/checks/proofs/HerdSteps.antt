@@ -27,7 +27,8 @@ use Rattle.checks.proofs.Tests.{first-append, Refusing, refusing, quiet
 -- ---- i of the labels were other ones
 
 module _ (ls : List Label) (n : ℕ) (l : Label) (i : ℕ) (X : Bool) (inv : hasLabel (drop i (take n ls)) l ≡ X) where
-  module _ (long : length ls ≡ herdsMost) (room : n ≤ herdsMost) (b : i < n) (d : Label) (r : Bool) (e : r ≡ sameLabel (getD ls i d) l) where
+  module _ (long : length ls ≡ herdsMost) (room : n ≤ herdsMost) (b : i < n) (d : Label) (r : Bool)
+      (e : r ≡ sameLabel (getD ls i d) l) where
     next : (r || hasLabel (drop (i + 1) (take n ls)) l) ≡ X
     next = let j : i < length ls = omega arith in rw e (rw (taken-at n ls i d b j) at inv)
 
@@ -68,9 +69,12 @@ module _ (f : Farm) where
   unfolding checkFarm
   farm-start h = simp (le-ltb herdsMost (f .count) h)
 
-  module _ (ls : List Label) (i : ℕ) (inv : first (herdsTests (take i ls) (drop i (herdsOf f))) Accepted ≡ checkFarm f) where
-    module _ (long : length (f .herds) ≡ herdsMost) (room : f .count ≤ herdsMost) (b : i < f .count) (d : Herd) (r : Checked)
-        (e : r ≡ first (herdTests (take i (set ls i (getD (f .herds) i d .label))) (getD (f .herds) i d)) Accepted) where
+  module _ (ls : List Label) (i : ℕ)
+      (inv : first (herdsTests (take i ls) (drop i (herdsOf f))) Accepted ≡ checkFarm f) where
+    module _ (long : length (f .herds) ≡ herdsMost) (room : f .count ≤ herdsMost) (b : i < f .count) (d : Herd)
+        (r : Checked)
+        (e : r ≡ first (herdTests (take i (set ls i (getD (f .herds) i d .label))) (getD (f .herds) i d))
+        Accepted) where
       abbrev after : Checked
       after = first (herdsTests (take i ls ++ (getD (f .herds) i d .label ∷ [])) (drop (i + 1) (herdsOf f))) Accepted
 
@@ -78,8 +82,10 @@ module _ (f : Farm) where
       next-herd =
           let j : i < length (f .herds) = omega arith in
           let h = getD (f .herds) i d in
-          sym (first-append (herdTests (take i ls) h) (herdsTests (take i ls ++ (h .label ∷ [])) (drop (i + 1) (herdsOf f))) Accepted)
-          ∙ sym (ap (λ (hs : List Herd). first (herdsTests (take i ls) hs) Accepted) (taken-at (f .count) (f .herds) i d b j))
+          sym (first-append (herdTests (take i ls) h)
+          (herdsTests (take i ls ++ (h .label ∷ [])) (drop (i + 1) (herdsOf f))) Accepted)
+          ∙ sym (ap (λ (hs : List Herd). first (herdsTests (take i ls) hs) Accepted)
+          (taken-at (f .count) (f .herds) i d b j))
           ∙ inv
 
       -- the herd's own label is stored behind the labels that it is compared with
@@ -87,14 +93,16 @@ module _ (f : Farm) where
       compared = rw (take-set-le i ls i (getD (f .herds) i d .label) (omega arith)) at e
 
       pub herd-accepted : length ls ≡ herdsMost → r ≡ Accepted
-          → first (herdsTests (take (i + 1) (set ls i (getD (f .herds) i d .label))) (drop (i + 1) (herdsOf f))) Accepted ≡ checkFarm f
+          → first (herdsTests (take (i + 1) (set ls i (getD (f .herds) i d .label))) (drop (i + 1) (herdsOf f)))
+          Accepted ≡ checkFarm f
       herd-accepted long′ t =
           let j : i < length ls = omega arith in
           let q = accepted-quiet (herd-refusing (take i ls) (getD (f .herds) i d)) (sym compared ∙ t) in
           rw (taken-stored ls i (getD (f .herds) i d .label) j) (sym (quiet-passes q after) ∙ next-herd)
 
       pub herd-refused : {fault : Fault} {place : ℕ} → r ≡ Refused fault place → Refused fault place ≡ checkFarm f
-      herd-refused t = sym (refused-first (herd-refusing (take i ls) (getD (f .herds) i d)) (sym compared ∙ t) after) ∙ next-herd
+      herd-refused t = sym (refused-first (herd-refusing (take i ls) (getD (f .herds) i d)) (sym compared ∙ t) after)
+          ∙ next-herd
 
     pub herds-accepted : f .count ≤ i → Accepted ≡ checkFarm f
     herds-accepted b = rw (taken-end (f .count) (f .herds) i b) at inv

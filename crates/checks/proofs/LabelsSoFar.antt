@@ -17,7 +17,8 @@ no-labels-long ls e = ap (λ (x : Labels). length (x .of)) e
 
 -- a herd is stored behind the first n, and its label with it
 module _ (ls : List Label) (hs : List Herd) (n : ℕ) (same : take n ls ≡ labelsOf (take n hs)) where
-  pub labels-stored : length ls ≡ herdsMost → length hs ≡ herdsMost → n < herdsMost → (h : Herd) → take (n + 1) (set ls n (h .label)) ≡ labelsOf (take (n + 1) (set hs n h))
+  pub labels-stored : length ls ≡ herdsMost → length hs ≡ herdsMost → n < herdsMost → (h : Herd)
+      → take (n + 1) (set ls n (h .label)) ≡ labelsOf (take (n + 1) (set hs n h))
   labels-stored long long′ b h =
       let j : n < length ls = omega arith in
       let k : n < length hs = omega arith in

@@ -27,10 +27,38 @@ use Rattle.farm.specs.Limits.{herdsMost}
 use Rattle.farm.specs.Labels.{labelOk}
 use Rattle.farm.specs.Herds.{noHerd}
 use Rattle.farm.proofs.Left.{left-at}
-use Rattle.checks.specs.Checks.{lacks, unfit, hasLabel, labelsOf, herdTests, herdsTests, checkHerd, herdsOf, checkFarm}
-use Rattle.checks.specs.Refusals.{Applies, Handed, herd, farm, herdsIn, checkOf, AppliesAt, no-room, of-herd, Turn}
+use Rattle.checks.specs.Checks.{
+  lacks,
+  unfit,
+  hasLabel,
+  labelsOf,
+  herdTests,
+  herdsTests,
+  checkHerd,
+  herdsOf,
+  checkFarm,
+}
+use Rattle.checks.specs.Refusals.{
+  Applies,
+  Handed,
+  herd,
+  farm,
+  herdsIn,
+  checkOf,
+  AppliesAt,
+  no-room,
+  of-herd,
+  Turn,
+}
 use Rattle.checks.specs.Refusals.{Sooner, herd-by-herd, in-that-order, FirstOfRecord, RecordGets, fine, refusal}
-use Rattle.checks.proofs.Places.{missing-found, none-missing, unfit-found, none-unfit, label-found, none-labelled}
+use Rattle.checks.proofs.Places.{
+  missing-found,
+  none-missing,
+  unfit-found,
+  none-unfit,
+  label-found,
+  none-labelled,
+}
 
 -- ---- turns
 

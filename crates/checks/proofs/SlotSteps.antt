@@ -38,10 +38,12 @@ module _ {form : Form} {a b : ℕ} (v : ℕ) where
   pub no-standard-fits : form ≡ NoStandard a b → leb v b ≡ valueFits form v
   no-standard-fits e = rw e
 
-pub one-of-fits : {form : Form} {names : Names} {n : ℕ} (v : ℕ) → form ≡ OneOf names → n ≡ sizeOf names → ltb v n ≡ valueFits form v
+pub one-of-fits : {form : Form} {names : Names} {n : ℕ} (v : ℕ) → form ≡ OneOf names → n ≡ sizeOf names
+    → ltb v n ≡ valueFits form v
 one-of-fits v e h = rw (e, h)
 
-pub value-fits : (form : Form) {given : Given} {v : ℕ} → given ≡ Value v → {r : Bool} → r ≡ valueFits form v → r ≡ fits form given
+pub value-fits : (form : Form) {given : Given} {v : ℕ} → given ≡ Value v → {r : Bool} → r ≡ valueFits form v
+    → r ≡ fits form given
 value-fits form e h = rw e h
 
 -- as the code reads it, the sign with the bits
@@ -69,7 +71,8 @@ module _ (h : Herd) (i : ℕ) {count : ℕ} (q : count ≡ countOf (h .kind)) wh
   -- ---- i inputs were given
 
   module _ (inv : lacksOne (drop i (rowsOf (h .kind))) (drop i (h .slots)) ≡ lacks h) where
-    module _ (long : length (h .slots) ≡ slots) (b : i < count) (r : Bool) (e : r ≡ isMissing (getD (h .slots) i noSlot .given)) where
+    module _ (long : length (h .slots) ≡ slots) (b : i < count) (r : Bool)
+        (e : r ≡ isMissing (getD (h .slots) i noSlot .given)) where
       next : (r || lacksOne (drop (i + 1) (rowsOf (h .kind))) (drop (i + 1) (h .slots))) ≡ lacks h
       next = rw e (rw (row-at long b, slot-at long b) at inv)
 
@@ -85,7 +88,8 @@ module _ (h : Herd) (i : ℕ) {count : ℕ} (q : count ≡ countOf (h .kind)) wh
   -- ---- i inputs fitted
 
   module _ (inv : unfitOne (drop i (rowsOf (h .kind))) (drop i (h .slots)) ≡ unfit h) where
-    module _ (long : length (h .slots) ≡ slots) (b : i < count) {kind : Kind} (k : kind ≡ h .kind) {form : Form} (f : form ≡ formOf kind i) (r : Bool) (e : r ≡ fits form (getD (h .slots) i noSlot .given)) where
+    module _ (long : length (h .slots) ≡ slots) (b : i < count) {kind : Kind} (k : kind ≡ h .kind) {form : Form}
+        (f : form ≡ formOf kind i) (r : Bool) (e : r ≡ fits form (getD (h .slots) i noSlot .given)) where
       next-fit : (not r || unfitOne (drop (i + 1) (rowsOf (h .kind))) (drop (i + 1) (h .slots))) ≡ unfit h
       unfolding formOf
       next-fit = rw (e, f, k) (rw (row-at long b, slot-at long b) at inv)

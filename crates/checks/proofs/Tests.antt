@@ -1,4 +1,5 @@
--- Lists of tests that refuse: what it means that none of them holds, and what the first that holds gives. Assumes nothing.
+-- Lists of tests that refuse: what it means that none of them holds, and what the first that holds gives. Assumes
+-- nothing.
 use Prim.Native.Nat.{ℕ}
 use mathlib.Core.Path.{_≡_, refl, ap}
 use mathlib.Core.Bool.{Bool, true, false, _||_}
@@ -39,15 +40,20 @@ pub accepted-quiet : {ls : List (Test Checked)} → Each Refusing ls → first l
 accepted-quiet none e = none
 accepted-quiet (more {l = ls} (refusing {fault} {place} {t}) rs) e = go t e (accepted-quiet rs)
   where
-    go : (t : Bool) → pick t (Refused fault place) (first ls Accepted) ≡ Accepted → (first ls Accepted ≡ Accepted → Quiet ls) → Quiet (Refused fault place when t ∷ ls)
+    go : (t : Bool) → pick t (Refused fault place) (first ls Accepted) ≡ Accepted
+        → (first ls Accepted ≡ Accepted → Quiet ls) → Quiet (Refused fault place when t ∷ ls)
     go true h rest = clash cc
     go false h rest = more refl (rest h)
 
 -- and a refusal is given whatever stands behind them
-pub refused-first : {ls : List (Test Checked)} {fault : Fault} {place : ℕ} → Each Refusing ls → first ls Accepted ≡ Refused fault place → (z : Checked) → first ls z ≡ Refused fault place
+pub refused-first : {ls : List (Test Checked)} {fault : Fault} {place : ℕ} → Each Refusing ls
+    → first ls Accepted ≡ Refused fault place → (z : Checked) → first ls z ≡ Refused fault place
 refused-first none e z = cc
-refused-first {fault} {place} (more {l = ls} (refusing {fault = f} {place = p} {t}) rs) e z = go t e (λ h. refused-first rs h z)
+refused-first {fault} {place} (more {l = ls} (refusing {fault = f} {place = p} {t}) rs) e z =
+    go t e (λ h. refused-first rs h z)
   where
-    go : (t : Bool) → pick t (Refused f p) (first ls Accepted) ≡ Refused fault place → (first ls Accepted ≡ Refused fault place → first ls z ≡ Refused fault place) → pick t (Refused f p) (first ls z) ≡ Refused fault place
+    go : (t : Bool) → pick t (Refused f p) (first ls Accepted) ≡ Refused fault place
+        → (first ls Accepted ≡ Refused fault place → first ls z ≡ Refused fault place)
+        → pick t (Refused f p) (first ls z) ≡ Refused fault place
     go true h rest = h
     go false h rest = rest h

@@ -1,6 +1,6 @@
--- 01, Refusal numbers: "A public call handed a record in place of a file checks it too, always with record 0. For a herd: 4 bad label, 12
--- an input missing, 7 one out of range or a `standard` that 6 forbids, in that order. For a farm: 9 more than 64 herds, then herd by herd
--- 4, 8 (label of an earlier herd), 12, 7." To be believed.
+-- 01, Refusal numbers: "A public call handed a record in place of a file checks it too, always with record 0. For a
+-- herd: 4 bad label, 12 an input missing, 7 one out of range or a `standard` that 6 forbids, in that order. For a farm:
+-- 9 more than 64 herds, then herd by herd 4, 8 (label of an earlier herd), 12, 7." To be believed.
 use Prim.Native.Nat.{ℕ}
 use mathlib.Core.Bool.{Bool, true, false, not, _||_}
 use mathlib.Core.List.{List, [], _∷_, _++_, map}
@@ -93,7 +93,8 @@ inputTests h = Refused InputMissing 0 when lacks h ∷ Refused BadValue 0 when u
 -- of a herd that stands after those with these labels
 abbrev pub herdTests : List Label → Herd → List (Test Checked)
 herdTests earlier h =
-    Refused BadLabel 0 when not (labelOk (h .label)) ∷ Refused EarlierLabel 0 when hasLabel earlier (h .label) ∷ inputTests h
+    Refused BadLabel 0 when not (labelOk (h .label)) ∷ Refused EarlierLabel 0 when hasLabel earlier (h .label)
+    ∷ inputTests h
 
 -- herd by herd
 abbrev pub herdsTests : List Label → List Herd → List (Test Checked)

@@ -16,7 +16,8 @@ ghost use lib.ListN.{take};
 ghost use Rattle.base.specs.First.{first};
 ghost use Rattle.farm.specs.declared.Checked.the-variants.{Accepted};
 ghost use Rattle.farm.specs.Limits.{herdsMost};
-ghost use Rattle.checks.specs.Checks.{standardFits, valueFits, signedFits, fits, lacks, unfit, hasLabel, inputTests, herdTests, checkHerd, checkFarm};
+ghost use Rattle.checks.specs.Checks.{standardFits, valueFits, signedFits, fits, lacks, unfit, hasLabel};
+ghost use Rattle.checks.specs.Checks.{inputTests, herdTests, checkHerd, checkFarm};
 
 // Is this a value of the form? What is missing is no wrong value.
 fn fits_form(form: Form, given: Given) -> bool

@@ -1,6 +1,5 @@
--- The steps of the writing calls on a file: a farm that is read passes the record checks, so what the calls on its records give is what the
--- calls on the file give.
--- Assumes nothing.
+-- The steps of the writing calls on a file: a farm that is read passes the record checks, so what the calls on its
+-- records give is what the calls on the file give. Assumes nothing.
 use Prim.Native.Nat.{ℕ, zero, suc, _*_, _<_, _≤_}
 use mathlib.Core.Path.{_≡_, refl, sym, ap, _∙_}
 use mathlib.Core.List.{List, [], _∷_}
@@ -28,7 +27,17 @@ use Rattle.listing.specs.declared.Written.the-variants.{Length, Refused}
 use Rattle.listing.specs.Answer.{leaves, answers}
 use Rattle.cut_lines.specs.Lines.{herdCutLines}
 use Rattle.whole.specs.Lines.{listingOf}
-use Rattle.contracts.specs.Listings.{Called, recordCall, herdCall, herdCutsCall, totalsCall, fileCallOf, fileHerdCall, fileHerdCutsCall, fileTotalsCall}
+use Rattle.contracts.specs.Listings.{
+  Called,
+  recordCall,
+  herdCall,
+  herdCutsCall,
+  totalsCall,
+  fileCallOf,
+  fileHerdCall,
+  fileHerdCutsCall,
+  fileTotalsCall,
+}
 
 -- what stands past the end does not matter inside a list
 inside : {A : Type 0} (l : List A) (i : ℕ) (d e : A) → i < length l → getD l i d ≡ getD l i e
@@ -74,8 +83,10 @@ module _ (s : List ℕ) (a : FileAnswer) (q : a ≡ readOf s) where
 
     herd-passes : (i : ℕ) (d : Herd) → i < a .farm .count → checkHerd (getD (a .farm .herds) i d) ≡ checks.Accepted
     herd-passes i d h =
-        let l : i < length (herdsOf (a .farm)) = omega (arith, length-take (a .farm .count) (a .farm .herds), long, farm-count (a .farm) passes) in
-        rw (← getD-take (a .farm .count) (a .farm .herds) i d h) (each-getD (herdsOf (a .farm)) i d (farm-each (a .farm) passes) l)
+        let l : i < length (herdsOf (a .farm)) =
+        omega (arith, length-take (a .farm .count) (a .farm .herds), long, farm-count (a .farm) passes) in
+        rw (← getD-take (a .farm .count) (a .farm .herds) i d h)
+        (each-getD (herdsOf (a .farm)) i d (farm-each (a .farm) passes) l)
 
     -- `of` says what is listed of a herd
     of-file-herd : (of : Herd → List ℕ) (i : ℕ) (d : Herd) (old new : List ℕ) (r : Written) → i < a .farm .count
@@ -114,9 +125,15 @@ module _ (s : List ℕ) (a : FileAnswer) (q : a ≡ readOf s) where
     unfolding fileHerdCutsCall
     is-past-cuts i old h = of-past-herds herdCutLines i old h
 
-    pub is-file-totals : (old new : List ℕ) (r : Written) → Called (totalsCall (a .farm)) old new r → Called (fileTotalsCall s) old new r
+    pub is-file-totals : (old new : List ℕ) (r : Written) → Called (totalsCall (a .farm)) old new r
+        → Called (fileTotalsCall s) old new r
     unfolding fileTotalsCall totalsCall
-    is-file-totals old new r w = record { buffer = rw as-accepted (rw passes at (w .buffer)); answer = rw as-accepted (rw passes at (w .answer)) }
+    is-file-totals old new r w =
+        record {
+          buffer = rw as-accepted (rw passes at (w .buffer));
+          answer =
+              rw as-accepted (rw passes at (w .answer));
+        }
 
   module _ (fault : Fault) (at-record : ℕ) (e : a .checked ≡ checks.Refused fault at-record) (old : List ℕ) where
     pub refusing : readOf s .checked ≡ checks.Refused fault at-record
@@ -134,6 +151,7 @@ module _ (s : List ℕ) (a : FileAnswer) (q : a ≡ readOf s) where
     unfolding fileTotalsCall
     is-totals-unread = record { buffer = rw refusing; answer = rw refusing }
 
-pub ruleset file-steps = (in-array, place-fits, is-file-herd, is-past-herds, is-file-totals, is-herd-unread, is-totals-unread)
+pub ruleset file-steps =
+    (in-array, place-fits, is-file-herd, is-past-herds, is-file-totals, is-herd-unread, is-totals-unread)
 
 pub ruleset file-cuts-steps = (in-array, place-fits, is-file-cuts, is-past-cuts, is-cuts-unread)

@@ -1,11 +1,11 @@
 -- The calls that write a file's listings do what the rules ask: the first refusal, or the listing of the very herd, of
 -- the totals or of the whole file. Assumes nothing.
-use Prim.Native.Nat.{ℕ, _-_, _≤_, _<_}
+use Prim.Native.Nat.{ℕ, _-_, _<_}
 use mathlib.Core.Path.{_≡_, refl, ap, _∙_}
 use mathlib.Core.List.{List, _++_, map}
 use native.Mathlib.Omega.{arith}
 use borrow.Author.Tests.{lt-ltb, le-ltb, le-leb, lt-leb}
-use lib.ListN.{length, getD, drop, replicate}
+use lib.ListN.{length, getD, replicate}
 use Rattle.farm.specs.declared.Herd.{Herd}
 use Rattle.farm.specs.declared.Farm.{Farm}
 use Rattle.farm.specs.declared.Fault.{Fault}
@@ -33,9 +33,41 @@ use Rattle.whole.specs.declared.Answer.{Answer}
 use Rattle.whole.specs.Lines.{farmListing, refusalLine}
 use Rattle.whole.specs.Program.{outputOf}
 use Rattle.contracts.proofs.RecordSteps.{farm-figured}
-use Rattle.contracts.specs.Listings.{Call, Called, ofHerdAt, fileHerdCall, fileHerdCutsCall, fileTotalsCall, fileCall, Put, PutAnswer}
-use Rattle.contracts.specs.Files.{FileCall, of-herd, of-totals, of-all, of-cuts, callOf, At, here, there, herdText, totalsText, wholeText}
-use Rattle.contracts.specs.Files.{Lists, the-herd, past-the-last, the-totals, the-whole, the-cuts, no-cuts, ByTheRules}
+use Rattle.contracts.specs.Listings.{
+  Call,
+  Called,
+  ofHerdAt,
+  fileHerdCall,
+  fileHerdCutsCall,
+  fileTotalsCall,
+  fileCall,
+  Put,
+  PutAnswer,
+}
+use Rattle.contracts.specs.Files.{
+  FileCall,
+  of-herd,
+  of-totals,
+  of-all,
+  of-cuts,
+  callOf,
+  At,
+  here,
+  there,
+  herdText,
+  totalsText,
+  wholeText,
+}
+use Rattle.contracts.specs.Files.{
+  Lists,
+  the-herd,
+  past-the-last,
+  the-totals,
+  the-whole,
+  the-cuts,
+  no-cuts,
+  ByTheRules,
+}
 use Rattle.contracts.specs.Files.{Prints, the-refusal, the-listings, the-notes, all-cuts, the-reasons}
 
 -- ---- the herd at a place

@@ -53,7 +53,8 @@ pub farm-checked : (f : Farm) → farmAnswer f .checked ≡ checkFarm f
 unfolding farmAnswer
 farm-checked f = of-checks (checkFarm f) f
 
-pub farm-figured : (f : Farm) → checkFarm f ≡ checks.Accepted → farmAnswer f .totals ≡ totalsOf (map herdFigures (herdsOf f))
+pub farm-figured : (f : Farm) → checkFarm f ≡ checks.Accepted
+    → farmAnswer f .totals ≡ totalsOf (map herdFigures (herdsOf f))
 unfolding farmAnswer
 farm-figured f e = rw e
 
@@ -110,7 +111,8 @@ module _ (f : Farm) (a : FarmAnswer) (q : a ≡ farmAnswer f) where
   pub has-totals-room : a .checked ≡ checks.Accepted → length (totalsListing (a .totals)) ≤ totalsRoom
   has-totals-room e = rw q (totals-fit f (checked checks.Accepted e))
 
-  pub is-totals-listing : (old new : List ℕ) (r : Written) → a .checked ≡ checks.Accepted → Answered (totalsListing (a .totals)) old new r
+  pub is-totals-listing : (old new : List ℕ) (r : Written) → a .checked ≡ checks.Accepted
+      → Answered (totalsListing (a .totals)) old new r
       → Called (totalsCall f) old new r
   unfolding totalsCall
   is-totals-listing old new r e w =
@@ -121,7 +123,8 @@ module _ (f : Farm) (a : FarmAnswer) (q : a ≡ farmAnswer f) where
   pub is-totals-refused : (old : List ℕ) (fault : Fault) (at-record : ℕ) → a .checked ≡ checks.Refused fault at-record
       → Called (totalsCall f) old old (Refused fault at-record)
   unfolding totalsCall
-  is-totals-refused old fault at-record e = let p = checked (checks.Refused fault at-record) e in record { buffer = rw p; answer = rw p }
+  is-totals-refused old fault at-record e = let p = checked (checks.Refused fault at-record) e in
+      record { buffer = rw p; answer = rw p }
 
 pub ruleset herd-steps = (accepted-sound, has-herd-room, is-herd-listing, is-herd-refused)
 

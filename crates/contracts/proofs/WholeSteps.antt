@@ -1,13 +1,14 @@
--- The steps of the calls on a whole file: straight into a buffer that any answer fits, else into one of their own first. Assumes nothing.
-use Prim.Native.Nat.{ℕ, _+_, _≤_, _<_}
-use mathlib.Core.Path.{_≡_, refl, ap, subst, _∙_}
+-- The steps of the calls on a whole file: straight into a buffer that any answer fits, else into one of their own
+-- first. Assumes nothing.
+use Prim.Native.Nat.{ℕ, _≤_, _<_}
+use mathlib.Core.Path.{_≡_, refl, subst, _∙_}
 use mathlib.Core.List.{List}
 use native.Mathlib.Omega.{arith}
 use borrow.Author.Tests.{le-leb, lt-leb}
 use lib.ListN.{length}
 use Rattle.base.specs.Part.{part}
 use Rattle.base.specs.Wrote.{Wrote}
-use Rattle.base.proofs.Writes.{said, front}
+use Rattle.base.proofs.Writes.{front}
 use Rattle.base.proofs.Clash.{clash}
 use Rattle.farm.specs.declared.Farm.{Farm}
 use Rattle.farm.specs.declared.Fault.{Fault}
@@ -25,23 +26,27 @@ use Rattle.contracts.specs.Listings.{Called, fileCall, Put, PutAnswer}
 
 module _ (s : List ℕ) where
   -- an accepted file's listing, as a listing call answers it
-  as-called : {old new : List ℕ} {r : Written} → Answered (farmListing (readOf s .farm)) old new r → readOf s .checked ≡ checks.Accepted → Called (fileCall s) old new r
+  as-called : {old new : List ℕ} {r : Written} → Answered (farmListing (readOf s .farm)) old new r
+      → readOf s .checked ≡ checks.Accepted → Called (fileCall s) old new r
   unfolding fileCall
   as-called a k = record { buffer = rw k (a .buffer); answer = rw k (a .answer) }
 
-  as-refused : {old : List ℕ} {fault : Fault} {n : ℕ} → readOf s .checked ≡ checks.Refused fault n → Called (fileCall s) old old (Refused fault n)
+  as-refused : {old : List ℕ} {fault : Fault} {n : ℕ} → readOf s .checked ≡ checks.Refused fault n
+      → Called (fileCall s) old old (Refused fault n)
   unfolding fileCall
   as-refused k = record { buffer = rw k; answer = rw k }
 
   abbrev Listed : List ℕ → List ℕ → Written → Type 0
   Listed old new r = PutFile farmListing farmRoom s old new r
 
-  pub whole-written : (old new : List ℕ) (r : Written) → farmRoom ≤ length old → Listed old new r → Called (fileCall s) old new r
+  pub whole-written : (old new : List ℕ) (r : Written) → farmRoom ≤ length old → Listed old new r
+      → Called (fileCall s) old new r
   whole-written old new (Length n) h (listed k w m) = as-called (written refl w (omega arith)) k
   whole-written old new (Refused fault n) h (refused k) = as-refused k
 
   module _ (mid after : List ℕ) (q : Written) (h : farmRoom ≤ length mid) (p : Listed mid after q) where
-    pub whole-handed : (n : ℕ) → q ≡ Length n → (old new : List ℕ) (r : Written) → Answered (part after 0 n) old new r → Called (fileCall s) old new r
+    pub whole-handed : (n : ℕ) → q ≡ Length n → (old new : List ℕ) (r : Written) → Answered (part after 0 n) old new r
+        → Called (fileCall s) old new r
     whole-handed n e old new r a = go after q p e a
       where
         go : (after : List ℕ) (q : Written) → Listed mid after q → q ≡ Length n → Answered (part after 0 n) old new r
@@ -51,13 +56,15 @@ module _ (s : List ℕ) where
             as-called (handed refl w (omega arith) (subst (λ (x : ℕ). Answered (part after 0 x) old new r) d a)) k
         go after (Refused fault m) (refused k) e a = clash cc
 
-    pub whole-refused : (fault : Fault) (n : ℕ) → q ≡ Refused fault n → (old : List ℕ) → Called (fileCall s) old old (Refused fault n)
+    pub whole-refused : (fault : Fault) (n : ℕ) → q ≡ Refused fault n → (old : List ℕ)
+        → Called (fileCall s) old old (Refused fault n)
     whole-refused fault n e old = go after q p e
       where
         go : (after : List ℕ) (q : Written) → Listed mid after q → q ≡ Refused fault n
             → Called (fileCall s) old old (Refused fault n)
         go after (Length m) (listed k w l) e = clash cc
-        go after (Refused f m) (refused k) e = let c : f ≡ fault = cc in let d : m ≡ n = cc in rw (← c, ← d) (as-refused k)
+        go after (Refused f m) (refused k) e = let c : f ≡ fault = cc in let d : m ≡ n = cc in
+            rw (← c, ← d) (as-refused k)
 
 -- ---- bytes that are put where there is room
 
@@ -86,7 +93,8 @@ module _ (list : Farm → List ℕ) (most : ℕ) (s : List ℕ) where
       → PutAnswer list s old new r
   answer-handed mid after a p h old new r q =
       record {
-        printed = subst (λ (t : List ℕ). Put t old new (r .length)) (part-is (p .bytes) (omega (arith, p .room))) (q .0);
+        printed = subst (λ (t : List ℕ). Put t old new (r .length)) (part-is (p .bytes) (omega (arith, p .room)))
+            (q .0);
         checked = q .1 ∙ p .checked;
       }
 

@@ -1,6 +1,6 @@
--- What a writing call says and leaves: what the checks of a record or the reading of a file refuse comes before 13. 01: "13 belongs to the
--- writing calls alone, one a herd and one for the totals." "Only then 13." "A herd call asked for a herd past the last of an accepted farm has
--- an empty listing: length 0, nothing written."
+-- What a writing call says and leaves: what the checks of a record or the reading of a file refuse comes before 13. 01:
+-- "13 belongs to the writing calls alone, one a herd and one for the totals." "Only then 13." "A herd call asked for a
+-- herd past the last of an accepted farm has an empty listing: length 0, nothing written."
 use Prim.Native.Nat.{ℕ}
 use mathlib.Core.Path.{_≡_}
 use mathlib.Core.List.{List, []}

@@ -8,7 +8,18 @@ use native.Mathlib.Omega.{arith}
 use borrow.Author.Tests.{ne-eqb}
 use Rattle.base.proofs.Clash.{clash}
 use Rattle.csv.specs.Grammar.{comma, quote, cr, lf, Text, Plain, Inside, FieldOf, RecordOf, Front}
-use Rattle.csv.specs.Reading.{Row, row, withByte, withField, plainByte, atStart, inPlain, inQuotes, pastQuote, pastCR}
+use Rattle.csv.specs.Reading.{
+  Row,
+  row,
+  withByte,
+  withField,
+  plainByte,
+  atStart,
+  inPlain,
+  inQuotes,
+  pastQuote,
+  pastCR,
+}
 use Rattle.csv.proofs.Cases.{by-test}
 
 -- the grammar from within a record on: the fields to come, the bytes, and those left past the record. Past a field:
@@ -29,7 +40,8 @@ data InQuotes : List (List ℕ) → List ℕ → List ℕ → Type 0 where
 
 data PastQuote : List (List ℕ) → List ℕ → List ℕ → Type 0 where
   after : {w v : List ℕ} {cs : List (List ℕ)} → After cs w v → PastQuote ([] ∷ cs) w v
-  pair : {c w v : List ℕ} {cs : List (List ℕ)} → InQuotes (c ∷ cs) w v → PastQuote ((quote ∷ quote ∷ c) ∷ cs) (quote ∷ w) v
+  pair : {c w v : List ℕ} {cs : List (List ℕ)} → InQuotes (c ∷ cs) w v
+      → PastQuote ((quote ∷ quote ∷ c) ∷ cs) (quote ∷ w) v
 
 data PastCR : List (List ℕ) → List ℕ → List ℕ → Type 0 where
   feed : {v : List ℕ} → PastCR ([] ∷ []) (lf ∷ v) v
@@ -43,11 +55,13 @@ text-sound : {b : ℕ} {u : List ℕ} {R : Row} → Text b → Sound InPlain u R
 text-sound x (reads (InPlain.rest p a)) = reads (InPlain.rest (Plain.byte x p) a)
 text-sound x broken = broken
 
-byte-sound : {b : ℕ} {u : List ℕ} {R : Row} → (b ≡ quote → ⊥) → Sound InQuotes u R → Sound InQuotes (b ∷ u) (withByte b R)
+byte-sound : {b : ℕ} {u : List ℕ} {R : Row} → (b ≡ quote → ⊥) → Sound InQuotes u R
+    → Sound InQuotes (b ∷ u) (withByte b R)
 byte-sound n (reads (InQuotes.rest i a)) = reads (InQuotes.rest (Inside.byte n i) a)
 byte-sound n broken = broken
 
-pair-sound : {u : List ℕ} {R : Row} → Sound InQuotes u R → Sound PastQuote (quote ∷ u) (withByte quote (withByte quote R))
+pair-sound : {u : List ℕ} {R : Row} → Sound InQuotes u R
+    → Sound PastQuote (quote ∷ u) (withByte quote (withByte quote R))
 pair-sound (reads q) = reads (PastQuote.pair q)
 pair-sound broken = broken
 
@@ -84,7 +98,8 @@ quotes-begin : {u : List ℕ} {R : Row} → Sound InQuotes u R → Sound Begins 
 quotes-begin (reads (InQuotes.rest i a)) = reads (rw append-assoc at (Begins.field (FieldOf.quoted i) a))
 quotes-begin broken = broken
 
-plain-byte : (b : ℕ) {u : List ℕ} {S T Q : Row} → Sound Begins u S → Sound PastCR u T → Sound InPlain u Q → Sound InPlain (b ∷ u) (plainByte b S T Q)
+plain-byte : (b : ℕ) {u : List ℕ} {S T Q : Row} → Sound Begins u S → Sound PastCR u T → Sound InPlain u Q
+    → Sound InPlain (b ∷ u) (plainByte b S T Q)
 plain-byte b {u} x y z =
     let G = Sound InPlain (b ∷ u) in
     by-test G b comma _ _ (λ h. rw h (ends-plain (comma-sound x))) (λ n1.
@@ -115,7 +130,8 @@ mutual
   quotes-sound : (u : List ℕ) → Sound InQuotes u (inQuotes u)
   quotes-sound [] = broken
   quotes-sound (b ∷ u) =
-      by-test (Sound InQuotes (b ∷ u)) b quote _ _ (λ h. rw h (quote-quotes (quote-sound u))) (λ n. byte-sound n (quotes-sound u))
+      by-test (Sound InQuotes (b ∷ u)) b quote _ _ (λ h. rw h (quote-quotes (quote-sound u)))
+      (λ n. byte-sound n (quotes-sound u))
 
   quote-sound : (u : List ℕ) → Sound PastQuote u (pastQuote u)
   quote-sound [] = reads (PastQuote.after After.end)
@@ -129,11 +145,23 @@ mutual
 module _ {b : ℕ} (x : Text b) (u : List ℕ) where
   plain-text : inPlain (b ∷ u) ≡ withByte b (inPlain u)
   unfolding inPlain
-  plain-text = simp (inPlain, ne-eqb b comma (x .no-comma), ne-eqb b cr (x .no-cr), ne-eqb b lf (x .no-lf), ne-eqb b quote (x .no-quote))
+  plain-text = simp (
+    inPlain,
+    ne-eqb b comma (x .no-comma),
+    ne-eqb b cr (x .no-cr),
+    ne-eqb b lf (x .no-lf),
+    ne-eqb b quote (x .no-quote),
+  )
 
   start-text : atStart (b ∷ u) ≡ withByte b (inPlain u)
   unfolding atStart
-  start-text = simp (atStart, ne-eqb b comma (x .no-comma), ne-eqb b cr (x .no-cr), ne-eqb b lf (x .no-lf), ne-eqb b quote (x .no-quote))
+  start-text = simp (
+    atStart,
+    ne-eqb b comma (x .no-comma),
+    ne-eqb b cr (x .no-cr),
+    ne-eqb b lf (x .no-lf),
+    ne-eqb b quote (x .no-quote),
+  )
 
 module _ (w : List ℕ) {v : List ℕ} {cs : List (List ℕ)} where
   plain-complete : {c : List ℕ} → Plain c → inPlain w ≡ row [] cs v → inPlain (c ++ w) ≡ row c cs v
@@ -155,8 +183,10 @@ record Alike (cs : List (List ℕ)) (w v : List ℕ) : Type 0 where
 field-complete : {c t w v : List ℕ} {cs : List (List ℕ)} → FieldOf c t → Alike cs w v → atStart (t ++ w) ≡ row c cs v
 unfolding atStart
 field-complete (FieldOf.plain Plain.none) a = a .start
-field-complete {w = w} (FieldOf.plain (Plain.byte {b} {t} x p)) a = start-text x (t ++ w) ∙ ap (withByte b) (plain-complete w p (a .plain))
-field-complete {w = w} (FieldOf.quoted {c} i) a = ap (λ (u : List ℕ). atStart (quote ∷ u)) (append-assoc c (quote ∷ []) w) ∙ inside-complete w i (a .closed)
+field-complete {w = w} (FieldOf.plain (Plain.byte {b} {t} x p)) a = start-text x (t ++ w)
+    ∙ ap (withByte b) (plain-complete w p (a .plain))
+field-complete {w = w} (FieldOf.quoted {c} i) a =
+    ap (λ (u : List ℕ). atStart (quote ∷ u)) (append-assoc c (quote ∷ []) w) ∙ inside-complete w i (a .closed)
 
 after-complete : {w v : List ℕ} {cs : List (List ℕ)} → After cs w v → Alike cs w v
 unfolding atStart inPlain pastQuote pastCR
@@ -187,7 +217,8 @@ whole-front (Whole.last r) n = Front.last r n
 begins-front : {cs : List (List ℕ)} {u v : List ℕ} → Begins cs u v → (u ≡ [] → ⊥) → Front cs u v
 begins-front (Begins.field f a) n = whole-front (after-whole f a) n
 
-more-begins : {c t u v : List ℕ} {cs : List (List ℕ)} → FieldOf c t → Begins cs u v → Begins (c ∷ cs) (t ++ (comma ∷ u)) v
+more-begins : {c t u v : List ℕ} {cs : List (List ℕ)} → FieldOf c t → Begins cs u v
+    → Begins (c ∷ cs) (t ++ (comma ∷ u)) v
 more-begins f (Begins.field g a) = Begins.field f (After.next g a)
 
 record-begins : {cs : List (List ℕ)} {t w v : List ℕ} → RecordOf cs t → After [] w v → Begins cs (t ++ w) v
@@ -199,7 +230,8 @@ front-begins (Front.ended r) = record-begins r After.crlf
 front-begins (Front.last r n) = rw append-nil at (record-begins r After.end)
 
 -- what is read at the front of some bytes is a record of the grammar
-pub read-stands : (b : ℕ) (u : List ℕ) {c v : List ℕ} {cs : List (List ℕ)} → atStart (b ∷ u) ≡ row c cs v → Front (c ∷ cs) (b ∷ u) v
+pub read-stands : (b : ℕ) (u : List ℕ) {c v : List ℕ} {cs : List (List ℕ)} → atStart (b ∷ u) ≡ row c cs v
+    → Front (c ∷ cs) (b ∷ u) v
 read-stands b u {c} {v} {cs} e = begins-front (got (rw e at (start-sound (b ∷ u)))) (λ d. clash cc)
   where
     got : Sound Begins (b ∷ u) (row c cs v) → Begins (c ∷ cs) (b ∷ u) v

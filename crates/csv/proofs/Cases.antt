@@ -16,5 +16,6 @@ by-tests P b k x y x′ y′ holds fails = go (eqb b k) refl
     go true e = holds (eqb-true b k e)
     go false e = fails (eqb-false b k e)
 
-pub by-test : {A : Type 0} (P : A → Type 0) (b k : ℕ) (x y : A) → (b ≡ k → P x) → ((b ≡ k → ⊥) → P y) → P (pick (eqb b k) x y)
+pub by-test : {A : Type 0} (P : A → Type 0) (b k : ℕ) (x y : A) → (b ≡ k → P x) → ((b ≡ k → ⊥) → P y)
+    → P (pick (eqb b k) x y)
 by-test P b k x y holds fails = by-tests (λ u _. P u) b k x y x y holds fails

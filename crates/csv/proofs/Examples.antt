@@ -4,7 +4,18 @@ use Prim.Native.Nat.{ℕ}
 use mathlib.Core.List.{List, [], _∷_, map}
 use mathlib.Core.Path.{_≡_, refl}
 use Rattle.base.specs.Text.{bytes}
-use Rattle.csv.specs.Reading.{Reading, _then_, end, atStart, inPlain, inQuotes, pastQuote, pastCR, readingFrom, readingOf}
+use Rattle.csv.specs.Reading.{
+  Reading,
+  _then_,
+  end,
+  atStart,
+  inPlain,
+  inQuotes,
+  pastQuote,
+  pastCR,
+  readingFrom,
+  readingOf,
+}
 
 record Example : Type 0 where
   file : List ℕ

@@ -1,5 +1,5 @@
--- What is read of a whole file is what the grammar says: its records where it is one of the grammar, else where it breaks.
--- Assumes nothing.
+-- What is read of a whole file is what the grammar says: its records where it is one of the grammar, else where it
+-- breaks. Assumes nothing.
 use Prim.Native.Nat.{ℕ, zero, suc, _<_, _≤_}
 use mathlib.Core.List.{List, [], _∷_}
 use mathlib.Core.Path.{_≡_, refl, sym, ap, _∙_}
@@ -21,7 +21,8 @@ enough (suc k) zero (b ∷ u) h h′ = absurd (omega arith)
 enough (suc k) (suc m) [] h h′ = refl
 enough (suc k) (suc m) (b ∷ u) h h′ = go (atStart (b ∷ u)) refl (enough k m)
   where
-    go : (R : Row) → atStart (b ∷ u) ≡ R → ((v : List ℕ) → length v ≤ k → length v ≤ m → readingFrom k v ≡ readingFrom m v)
+    go : (R : Row) → atStart (b ∷ u) ≡ R
+        → ((v : List ℕ) → length v ≤ k → length v ≤ m → readingFrom k v ≡ readingFrom m v)
         → readingFrom (suc k) (b ∷ u) ≡ readingFrom (suc m) (b ∷ u)
     go (row c cs v) e ih =
         let l = left-shorter (read-stands b u e) in
@@ -29,11 +30,13 @@ enough (suc k) (suc m) (b ∷ u) h h′ = go (atStart (b ∷ u)) refl (enough k 
     go Row.broken e ih = rw (readingFrom, e) refl
 
 module _ (b : ℕ) (u : List ℕ) where
-  pub reading-row : {c v : List ℕ} {cs : List (List ℕ)} → atStart (b ∷ u) ≡ row c cs v → readingOf (b ∷ u) ≡ (c ∷ cs) then readingOf v
+  pub reading-row : {c v : List ℕ} {cs : List (List ℕ)} → atStart (b ∷ u) ≡ row c cs v
+      → readingOf (b ∷ u) ≡ (c ∷ cs) then readingOf v
   unfolding readingOf readingFrom
   reading-row {c} {v} {cs} e =
       let l = left-shorter (read-stands b u e) in
-      rw (readingFrom, e) (ap (λ (r : Reading). (c ∷ cs) then r) (enough (length u) (length v) v (omega arith) (omega arith)))
+      rw (readingFrom, e) (ap (λ (r : Reading). (c ∷ cs) then r)
+      (enough (length u) (length v) v (omega arith) (omega arith)))
 
   pub reading-broken : atStart (b ∷ u) ≡ Row.broken → readingOf (b ∷ u) ≡ Reading.broken
   unfolding readingOf readingFrom
@@ -104,7 +107,8 @@ read-file (cs ∷ rs) s e =
     go v (Front.last r n) q f = rw (none-left rs q) (FileOf.last r n)
 
 -- a file in which no record stands at the front is broken there
-none-broken : (s : List ℕ) → (s ≡ [] → ⊥) → ((cs : List (List ℕ)) (v : List ℕ) → Front cs s v → ⊥) → readingOf s ≡ Reading.broken
+none-broken : (s : List ℕ) → (s ≡ [] → ⊥) → ((cs : List (List ℕ)) (v : List ℕ) → Front cs s v → ⊥)
+    → readingOf s ≡ Reading.broken
 none-broken [] some none = absurd (some refl)
 none-broken (b ∷ u) some none = go (atStart (b ∷ u)) refl
   where
@@ -126,19 +130,28 @@ not-empty rs s e d = go rs (sym reading-none ∙ ap readingOf (sym d) ∙ e)
 
 -- a file whose reading breaks after some records breaks so by the grammar, and the other way round
 pub read-breaks : (rs : List (List (List ℕ))) (s : List ℕ) → readingOf s ≡ brokenAfter rs → Breaks rs s
-read-breaks [] s e = record { left = s; before = Before.none; bytes-left = not-empty [] s e; no-record = broken-none s e }
+read-breaks [] s e =
+    record { left = s; before = Before.none; bytes-left = not-empty [] s e; no-record = broken-none s e }
 read-breaks (cs ∷ rs) s e =
     let x = begun s e in
     go (x .left) (x .stands) (x .rest) (read-breaks rs (x .left) (x .rest))
   where
     go : {s : List ℕ} (v : List ℕ) → Front cs s v → readingOf v ≡ brokenAfter rs → Breaks rs v → Breaks (cs ∷ rs) s
-    go v (Front.ended r) q b = record { left = b .left; before = Before.more r (b .before); bytes-left = b .bytes-left; no-record = b .no-record }
+    go v (Front.ended r) q b =
+        record {
+          left = b .left;
+          before = Before.more r (b .before);
+          bytes-left = b .bytes-left;
+          no-record =
+              b .no-record;
+        }
     go v (Front.last r n) q b = absurd (not-empty rs [] q refl)
 
 pub breaks-read : (rs : List (List (List ℕ))) (s : List ℕ) → Breaks rs s → readingOf s ≡ brokenAfter rs
 breaks-read rs s b = go (b .before) (none-broken (b .left) (b .bytes-left) (b .no-record))
   where
-    go : {rs : List (List (List ℕ))} {s left : List ℕ} → Before rs s left → readingOf left ≡ Reading.broken → readingOf s ≡ brokenAfter rs
+    go : {rs : List (List (List ℕ))} {s left : List ℕ} → Before rs s left → readingOf left ≡ Reading.broken
+        → readingOf s ≡ brokenAfter rs
     go Before.none e = e
     go (Before.more {cs} r b) e = reading-front (Front.ended r) ∙ ap (λ (x : Reading). cs then x) (go b e)
 

@@ -36,7 +36,8 @@ a-turn {s} {at} {f} {X} g = go (g .turns) (g .enough) (g .goes)
 
 pub going-start : {s : List ℕ} {at : ℕ} {f : Fields} → at < length s → f ≡ noFields → Going s at f (stepOf s at)
 unfolding stepOf
-going-start {s} {at} {f} h e = record { turns = suc (length s - at); enough = omega arith; goes = simp (lt-leb _ _ h, e) }
+going-start {s} {at} {f} h e =
+    record { turns = suc (length s - at); enough = omega arith; goes = simp (lt-leb _ _ h, e) }
 
 -- at the end of the file there is no record
 pub step-end : (s : List ℕ) (at : ℕ) → length s ≤ at → End ≡ stepOf s at
@@ -44,14 +45,16 @@ unfolding stepOf
 step-end s at h = simp (le-leb _ _ h)
 
 -- where a field that a comma ends lies
-comma-in : (s : List ℕ) (at : ℕ) → at ≤ length s → {p : Place} {n : ℕ} → fieldFrom at (drop at s) ≡ ends.Comma p n → In at (length s) p n
+comma-in : (s : List ℕ) (at : ℕ) → at ≤ length s → {p : Place} {n : ℕ} → fieldFrom at (drop at s) ≡ ends.Comma p n
+    → In at (length s) p n
 comma-in s at h {p} {n} e = got (rw e at (field-at s at h))
   where
     got : FieldAt s at (ends.Comma p n) → In at (length s) p n
     got (FieldAt.at-comma i _) = i
 
 -- a field was scanned, with the outcome r
-module _ {s : List ℕ} {at : ℕ} {f : Fields} {X : Step} (g : Going s at f X) (in-file : at ≤ length s) (r : FieldEnd) (q : r ≡ fieldFrom at (drop at s)) where
+module _ {s : List ℕ} {at : ℕ} {f : Fields} {X : Step} (g : Going s at f X) (in-file : at ≤ length s) (r : FieldEnd)
+    (q : r ≡ fieldFrom at (drop at s)) where
   module _ {p : Place} {f′ : Fields} (e2 : f′ ≡ andField f p) where
     pub row-comma : {n : ℕ} → r ≡ ends.Comma p n → Going s n f′ X
     unfolding rowFrom
@@ -76,7 +79,8 @@ module _ {s : List ℕ} {at : ℕ} {f : Fields} {X : Step} (g : Going s at f X) 
   row-broken e = rw (rowFrom, sym q ∙ e) at (a-turn g .goes)
 
 -- the field after a comma begins past this one, and within the file; there are no more fields than bytes were passed
-module _ (s : List ℕ) (at : ℕ) (r : FieldEnd) (p : Place) (n : ℕ) (q : r ≡ fieldFrom at (drop at s)) (h : at ≤ length s) (e : r ≡ ends.Comma p n) where
+module _ (s : List ℕ) (at : ℕ) (r : FieldEnd) (p : Place) (n : ℕ) (q : r ≡ fieldFrom at (drop at s)) (h : at ≤ length s)
+    (e : r ≡ ends.Comma p n) where
   pub next-fits : n ≤ length s
   next-fits = comma-in s at h (sym q ∙ e) .fits
 
@@ -89,4 +93,5 @@ module _ (s : List ℕ) (at : ℕ) (r : FieldEnd) (p : Place) (n : ℕ) (q : r �
 pub none-count : (f : Fields) (at : ℕ) → f ≡ noFields → f .count ≤ at
 none-count f at e = omega (arith, ap (λ (x : Fields). x .count) e)
 
-pub ruleset row-steps = (going-start, step-end, row-comma, row-crlf, row-file, row-broken, next-fits, next-less, next-count, none-count)
+pub ruleset row-steps =
+    (going-start, step-end, row-comma, row-crlf, row-file, row-broken, next-fits, next-less, next-count, none-count)

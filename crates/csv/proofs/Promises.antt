@@ -1,5 +1,5 @@
--- The crate's promises: the reader finds exactly the grammar's records, in its places, and reports a break exactly where none stands.
--- Assumes nothing.
+-- The crate's promises: the reader finds exactly the grammar's records, in its places, and reports a break exactly
+-- where none stands. Assumes nothing.
 use Prim.Native.Nat.{ℕ, _<_, _≤_}
 use mathlib.Core.List.{List, [], _∷_}
 use mathlib.Core.Logic.{_↔_}
@@ -53,18 +53,28 @@ module _ (s : List ℕ) (at : ℕ) where
       go : (o : Step) → stepOf s at ≡ o → Says s at o → Finds s at cs left
       go (Record f n) e (Says.found r) =
           let same = one-front (r .stands) x in
-          record { fields = f; next = n; is = e; holds = r .holds ∙ ap partsOf (same .contents); rest = sym (same .left) }
+          record {
+            fields = f;
+            next = n;
+            is = e;
+            holds = r .holds ∙ ap partsOf (same .contents);
+            rest =
+                sym (same .left);
+          }
       go Broken e (Says.broken _ b _) = absurd (not-broken b x)
       go End e (Says.ended l) = absurd (not-ended l x)
 
   -- a break is reported exactly where bytes are left and no record of the grammar stands
-  pub broken-exactly : (stepOf s at ≡ Broken) ↔ ((at < length s) × ((cs : List (List ℕ)) (left : List ℕ) → Front cs (drop at s) left → ⊥))
+  pub broken-exactly : (stepOf s at ≡ Broken) ↔
+      ((at < length s) × ((cs : List (List ℕ)) (left : List ℕ) → Front cs (drop at s) left → ⊥))
   broken-exactly = (λ e. of-broken (rw e at (says s at)), λ h. go (h .0) (h .1) (stepOf s at) refl (says s at))
     where
-      of-broken : Says s at Broken → (at < length s) × ((cs : List (List ℕ)) (left : List ℕ) → Front cs (drop at s) left → ⊥)
+      of-broken : Says s at Broken
+          → (at < length s) × ((cs : List (List ℕ)) (left : List ℕ) → Front cs (drop at s) left → ⊥)
       of-broken (Says.broken l b _) = (l, λ cs left f. not-broken b f)
 
-      go : at < length s → ((cs : List (List ℕ)) (left : List ℕ) → Front cs (drop at s) left → ⊥) → (o : Step) → stepOf s at ≡ o → Says s at o → stepOf s at ≡ Broken
+      go : at < length s → ((cs : List (List ℕ)) (left : List ℕ) → Front cs (drop at s) left → ⊥) → (o : Step)
+          → stepOf s at ≡ o → Says s at o → stepOf s at ≡ Broken
       go l none (Record f n) e (Says.found r) = absurd (none (r .contents) (drop (n .at) s) (r .stands))
       go l none Broken e (Says.broken _ _ _) = e
       go l none End e (Says.ended m) = absurd (omega arith)

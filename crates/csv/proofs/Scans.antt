@@ -1,7 +1,7 @@
--- One step of each scan of `specs/Places.antt`, at a position of the file. Each lemma has the form that a loop's proof wants: X is what
--- is sought, a premise says that the bytes from the position on give it, and the conclusion is what the code does there. `stopped` ties the
--- place where an unquoted field's text ends to how the field ends.
--- Assumes nothing.
+-- One step of each scan of `specs/Places.antt`, at a position of the file. Each lemma has the form that a loop's proof
+-- wants: X is what is sought, a premise says that the bytes from the position on give it, and the conclusion is what
+-- the code does there. `stopped` ties the place where an unquoted field's text ends to how the field ends. Assumes
+-- nothing.
 use Prim.Native.Nat.{ℕ, zero, suc, _+_, _-_, _<_, _≤_}
 use mathlib.Core.List.{List}
 use mathlib.Core.Bool.{Bool, true, false, true≢false}
@@ -38,7 +38,12 @@ pub ruleset line-steps = (line-lf, line-other, line-none)
 module _ (b : ℕ) where
   ends-above : comma < b → endsPlain b ≡ false
   unfolding endsPlain
-  ends-above h = simp (ne-eqb b comma (λ e. omega arith), ne-eqb b cr (λ e. omega arith), ne-eqb b lf (λ e. omega arith), ne-eqb b quote (λ e. omega arith))
+  ends-above h = simp (
+    ne-eqb b comma (λ e. omega arith),
+    ne-eqb b cr (λ e. omega arith),
+    ne-eqb b lf (λ e. omega arith),
+    ne-eqb b quote (λ e. omega arith),
+  )
 
   -- a byte of text is none that ends the field
   text-not : (k : ℕ) → endsPlain k ≡ true → endsPlain b ≡ false → b ≡ k → ⊥
@@ -115,13 +120,17 @@ stopped s from r zero i n q =
     let h : length s ≤ i = omega arith in
     let e : i ≡ r = stop-end s i r q h in
     record { same = rw e; ends = λ l. absurd (omega arith) }
-stopped s from r (suc k) i n q = go (endsPlain (getD s i 0)) refl (λ y. stopped s from r k (i + 1) (omega arith) (stop-text s i r q h false (sym y) refl))
+stopped s from r (suc k) i n q =
+    go (endsPlain (getD s i 0)) refl
+    (λ y. stopped s from r k (i + 1) (omega arith) (stop-text s i r q h false (sym y) refl))
   where
     h : i < length s
     h = omega arith
 
-    go : (t : Bool) → endsPlain (getD s i 0) ≡ t → (endsPlain (getD s i 0) ≡ false → Stopped s from r (i + 1)) → Stopped s from r i
-    go true y on = let e : i ≡ r = stop-here s i r q h true (sym y) refl in record { same = rw e; ends = λ _. rw e at y }
+    go : (t : Bool) → endsPlain (getD s i 0) ≡ t → (endsPlain (getD s i 0) ≡ false → Stopped s from r (i + 1))
+        → Stopped s from r i
+    go true y on = let e : i ≡ r = stop-here s i r q h true (sym y) refl in
+        record { same = rw e; ends = λ _. rw e at y }
     go false y on = let x = on y in record { same = x .same ∙ plain-text s from i _ refl h y; ends = x .ends }
 
 module _ (s : List ℕ) (at r : ℕ) (q : r ≡ plainStop at (drop at s)) where
@@ -158,7 +167,8 @@ module _ (s : List ℕ) (from i : ℕ) (X : FieldEnd) (inv : quotedFrom from i (
         unfolding closedFrom
         closed-comma e = simp (rest-at s (i + 1) h2, closedFrom, e) at closed
 
-        pub closed-cr : getD s (i + 1) 0 ≡ cr → (r : FieldEnd) → r ≡ lineFrom (place from i) (i + 1 + 1 + 1) (drop (i + 1 + 1) s) → r ≡ X
+        pub closed-cr : getD s (i + 1) 0 ≡ cr → (r : FieldEnd)
+            → r ≡ lineFrom (place from i) (i + 1 + 1 + 1) (drop (i + 1 + 1) s) → r ≡ X
         unfolding closedFrom
         closed-cr e r q = q ∙ (simp (rest-at s (i + 1) h2, closedFrom, e) at closed)
 
@@ -166,19 +176,23 @@ module _ (s : List ℕ) (from i : ℕ) (X : FieldEnd) (inv : quotedFrom from i (
         unfolding closedFrom
         closed-quote e = simp (rest-at s (i + 1) h2, closedFrom, e) at closed
 
-        pub closed-other : (getD s (i + 1) 0 ≡ comma → ⊥) → (getD s (i + 1) 0 ≡ cr → ⊥) → (getD s (i + 1) 0 ≡ quote → ⊥) → Broken ≡ X
+        pub closed-other : (getD s (i + 1) 0 ≡ comma → ⊥) → (getD s (i + 1) 0 ≡ cr → ⊥) → (getD s (i + 1) 0 ≡ quote → ⊥)
+            → Broken ≡ X
         unfolding closedFrom
-        closed-other n1 n2 n3 = simp (rest-at s (i + 1) h2, closedFrom, ne-eqb _ _ n1, ne-eqb _ _ n2, ne-eqb _ _ n3) at closed
+        closed-other n1 n2 n3 =
+            simp (rest-at s (i + 1) h2, closedFrom, ne-eqb _ _ n1, ne-eqb _ _ n2, ne-eqb _ _ n3) at closed
 
 pub ruleset quoted-steps = (quoted-end, quoted-byte, closed-end, closed-comma, closed-cr, closed-quote, closed-other)
 
 -- at a field's start
 module _ (s : List ℕ) (at : ℕ) (r : FieldEnd) where
-  pub field-quoted : r ≡ quotedFrom (at + 1) (at + 1) (drop (at + 1) s) → at < length s → getD s at 0 ≡ quote → r ≡ fieldFrom at (drop at s)
+  pub field-quoted : r ≡ quotedFrom (at + 1) (at + 1) (drop (at + 1) s) → at < length s → getD s at 0 ≡ quote
+      → r ≡ fieldFrom at (drop at s)
   unfolding fieldFrom
   field-quoted q h e = q ∙ simp (rest-at s at h, fieldFrom, e)
 
-  pub field-plain : r ≡ plainFrom at at (drop at s) → at < length s → (getD s at 0 ≡ quote → ⊥) → r ≡ fieldFrom at (drop at s)
+  pub field-plain : r ≡ plainFrom at at (drop at s) → at < length s → (getD s at 0 ≡ quote → ⊥)
+      → r ≡ fieldFrom at (drop at s)
   unfolding fieldFrom
   field-plain q h e = q ∙ simp (rest-at s at h, fieldFrom, ne-eqb _ _ e)
 

@@ -1,6 +1,6 @@
--- The reader's outcome at a position of the file, and what is read of the rest of the file from there. A loop over a file's records keeps
--- `g (readingOf (drop at s)) ≡ X` for a function g of its own; a turn of it opens the reading by what `says` gives for the outcome.
--- Assumes nothing.
+-- The reader's outcome at a position of the file, and what is read of the rest of the file from there. A loop over a
+-- file's records keeps `g (readingOf (drop at s)) ≡ X` for a function g of its own; a turn of it opens the reading by
+-- what `says` gives for the outcome. Assumes nothing.
 use Prim.Native.Nat.{ℕ, zero, suc, _-_, _+_, _<_, _≤_}
 use mathlib.Core.List.{List, [], _∷_, _++_, append-assoc}
 use mathlib.Core.Bool.{Bool, true, false}
@@ -41,7 +41,8 @@ held-parts h = cc
 
 -- one field more, at place p: what is held where the k-th field is kept
 module _ (s : List ℕ) (p q : Place) (n k : ℕ) where
-  more-held : (cs : List (List ℕ)) → n ≡ length cs → held s q ≡ getD cs k [] → held s (pick (eqb n k) p q) ≡ getD (cs ++ (held s p ∷ [])) k []
+  more-held : (cs : List (List ℕ)) → n ≡ length cs → held s q ≡ getD cs k []
+      → held s (pick (eqb n k) p q) ≡ getD (cs ++ (held s p ∷ [])) k []
   more-held cs all e =
       by-test (λ (x : Place). held s x ≡ getD all-of k []) n k p q
       (λ h. let m : k ≡ length cs = omega arith in rw m (sym (getD-append-seam cs (held s p) [] [])))
@@ -65,7 +66,8 @@ unfolding part
 none-held s = record { count = refl; first = refl; second = refl; third = refl; fourth = refl }
 
 none-placed : (s : List ℕ) → Placed s noFields
-none-placed s = let z : InFile s (noFields .first) = record { order = omega arith; fits = omega arith } in record { first = z; second = z; third = z; fourth = z }
+none-placed s = let z : InFile s (noFields .first) = record { order = omega arith; fits = omega arith } in
+    record { first = z; second = z; third = z; fourth = z }
 
 module _ {s : List ℕ} {f : Fields} (p : Place) where
   and-held : {cs : List (List ℕ)} → Holds s f cs → Holds s (andField f p) (cs ++ (held s p ∷ []))
@@ -87,38 +89,47 @@ module _ {s : List ℕ} {f : Fields} (p : Place) where
         fourth = more-placed s p (f .fourth) (f .count) 3 a (g .fourth);
       }
 
--- a record that began at lo, of which the fields `done` were read: what is read of the rest of it, and what the reader finds
+-- a record that began at lo, of which the fields `done` were read: what is read of the rest of it, and what the reader
+-- finds
 data Told (s : List ℕ) (lo : ℕ) (done : List (List ℕ)) : Row → Step → Type 0 where
-  found : {c : List ℕ} {cs : List (List ℕ)} {f : Fields} {n : ReaderPlace} → Holds s f (done ++ (c ∷ cs)) → Placed s f → lo < n .at → n .at ≤ length s
+  found : {c : List ℕ} {cs : List (List ℕ)} {f : Fields} {n : ReaderPlace} → Holds s f (done ++ (c ∷ cs)) → Placed s f
+      → lo < n .at → n .at ≤ length s
       → Told s lo done (row c cs (drop (n .at) s)) (Record f n)
   broken : Told s lo done Row.broken Broken
 
-comma-told : {s : List ℕ} {lo : ℕ} {done : List (List ℕ)} (c : List ℕ) {R : Row} {o : Step} → Told s lo (done ++ (c ∷ [])) R o → Told s lo done (withField c R) o
-comma-told {s} {lo} {done} c (found {c = d} {cs = ds} {f = f} h g p l) = found (subst (Holds s f) (append-assoc done (c ∷ []) (d ∷ ds)) h) g p l
+comma-told : {s : List ℕ} {lo : ℕ} {done : List (List ℕ)} (c : List ℕ) {R : Row} {o : Step}
+    → Told s lo (done ++ (c ∷ [])) R o → Told s lo done (withField c R) o
+comma-told {s} {lo} {done} c (found {c = d} {cs = ds} {f = f} h g p l) =
+    found (subst (Holds s f) (append-assoc done (c ∷ []) (d ∷ ds)) h) g p l
 comma-told c broken = broken
 
 module _ (s : List ℕ) (lo : ℕ) (below : lo < length s) where
-  last-told : (f : Fields) (done : List (List ℕ)) → Holds s f done → Placed s f → (p : Place) → InFile s p → (n : ℕ) → lo < n → n ≤ length s
+  last-told : (f : Fields) (done : List (List ℕ)) → Holds s f done → Placed s f → (p : Place) → InFile s p → (n : ℕ)
+      → lo < n → n ≤ length s
       → Told s lo done (row (held s p) [] (drop n s)) (Record (andField f p) (reader n))
   last-told f done h g p a n l m = found {n = reader n} (and-held p h) (and-placed p g a) l m
 
-  row-told : (k : ℕ) (f : Fields) (at : ℕ) (done : List (List ℕ)) → Holds s f done → Placed s f → lo ≤ at → at ≤ length s → length s - at < k
+  row-told : (k : ℕ) (f : Fields) (at : ℕ) (done : List (List ℕ)) → Holds s f done → Placed s f → lo ≤ at
+      → at ≤ length s → length s - at < k
       → Told s lo done (atStart (drop at s)) (rowFrom k f at s)
   unfolding rowFrom
   row-told zero f at done h g l m w = absurd (omega arith)
   row-told (suc k) f at done h g l m w = go (fieldFrom at (drop at s)) refl (field-at s at m) (row-told k)
     where
       go : (r : FieldEnd) → fieldFrom at (drop at s) ≡ r → FieldAt s at r
-          → ((f : Fields) (at : ℕ) (done : List (List ℕ)) → Holds s f done → Placed s f → lo ≤ at → at ≤ length s → length s - at < k
+          → ((f : Fields) (at : ℕ) (done : List (List ℕ)) → Holds s f done → Placed s f → lo ≤ at → at ≤ length s
+          → length s - at < k
           → Told s lo done (atStart (drop at s)) (rowFrom k f at s))
           → Told s lo done (atStart (drop at s)) (rowFrom (suc k) f at s)
       go (ends.Comma p n) e (FieldAt.at-comma i q) ih =
           let a : InFile s p = record { order = i .order; fits = omega (arith, i) } in
           rw (rowFrom, e, q)
           (comma-told (held s p)
-          (ih (andField f p) n (done ++ (held s p ∷ [])) (and-held p h) (and-placed p g a) (omega (arith, i)) (i .fits) (omega (arith, i))))
+          (ih (andField f p) n (done ++ (held s p ∷ [])) (and-held p h) (and-placed p g a) (omega (arith, i)) (i .fits)
+          (omega (arith, i))))
       go (ends.Crlf p n) e (FieldAt.at-crlf i q) ih =
-          rw (rowFrom, e, q) (last-told f done h g p (record { order = i .order; fits = omega (arith, i) }) n (omega (arith, i)) (i .fits))
+          rw (rowFrom, e, q) (last-told f done h g p (record { order = i .order; fits = omega (arith, i) }) n
+          (omega (arith, i)) (i .fits))
       go (ends.File p) e (FieldAt.at-end i q) ih =
           rw (rowFrom, e, q ∙ ap (row (held s p) []) (sym (drop-length s)))
           (last-told f done h g p (record { order = i .order; fits = omega (arith, i) }) (length s) below (omega arith))
@@ -165,7 +176,8 @@ module _ (s : List ℕ) (at : ℕ) where
       go true e = Says.ended (leb-true (length s) at e)
       go false e =
           let l : at < length s = leb-false (length s) at e in
-          told-says l (row-told s at l (suc (length s - at)) noFields at [] (none-held s) (none-placed s) (omega arith) (omega arith) (omega arith)) refl
+          told-says l (row-told s at l (suc (length s - at)) noFields at [] (none-held s) (none-placed s) (omega arith)
+          (omega arith) (omega arith)) refl
 
 -- the reader finds a record at `at`
 module _ (s : List ℕ) (at : ℕ) {f : Fields} {n : ReaderPlace} (e : stepOf s at ≡ Record f n) where

@@ -1,6 +1,7 @@
--- The grammar of RFC 4180, section 2, over bytes, together with what a file says: its records, and each record's fields. This is the
--- page to trust; all else of the crate is proved to agree with it. 01, The farm file: a field is the stretch between its delimiters,
--- outer quotes left off, doubled quotes kept doubled; a record ends with CRLF, which the last one may lack; there is no header.
+-- The grammar of RFC 4180, section 2, over bytes, together with what a file says: its records, and each record's
+-- fields. This is the page to trust; all else of the crate is proved to agree with it. 01, The farm file: a field is
+-- the stretch between its delimiters, outer quotes left off, doubled quotes kept doubled; a record ends with CRLF,
+-- which the last one may lack; there is no header.
 use Prim.Native.Nat.{ℕ}
 use mathlib.Core.List.{List, [], _∷_, _++_}
 use mathlib.Core.Path.{_≡_}
@@ -46,11 +47,13 @@ pub data RecordOf : List (List ℕ) → List ℕ → Type 0 where
   last : {c t : List ℕ} → FieldOf c t → RecordOf (c ∷ []) t
   more : {c t u : List ℕ} {cs : List (List ℕ)} → FieldOf c t → RecordOf cs u → RecordOf (c ∷ cs) (t ++ (comma ∷ u))
 
--- file = *(record CRLF) [record]: its records, and its bytes. After a final CRLF no record stands, so the last is one only if it has a byte
+-- file = *(record CRLF) [record]: its records, and its bytes. After a final CRLF no record stands, so the last is one
+-- only if it has a byte
 pub data FileOf : List (List (List ℕ)) → List ℕ → Type 0 where
   none : FileOf [] []
   last : {cs : List (List ℕ)} {t : List ℕ} → RecordOf cs t → (t ≡ [] → ⊥) → FileOf (cs ∷ []) t
-  more : {cs : List (List ℕ)} {t u : List ℕ} {rs : List (List (List ℕ))} → RecordOf cs t → FileOf rs u → FileOf (cs ∷ rs) (t ++ (cr ∷ lf ∷ u))
+  more : {cs : List (List ℕ)} {t u : List ℕ} {rs : List (List (List ℕ))} → RecordOf cs t → FileOf rs u
+      → FileOf (cs ∷ rs) (t ++ (cr ∷ lf ∷ u))
 
 -- the record of these contents stands at the front of some bytes, and these are left past it
 pub data Front (cs : List (List ℕ)) : List ℕ → List ℕ → Type 0 where
@@ -60,7 +63,8 @@ pub data Front (cs : List (List ℕ)) : List ℕ → List ℕ → Type 0 where
 -- these records, each ended by CRLF, stand before the bytes that are left
 pub data Before : List (List (List ℕ)) → List ℕ → List ℕ → Type 0 where
   none : {u : List ℕ} → Before [] u u
-  more : {cs : List (List ℕ)} {t u left : List ℕ} {rs : List (List (List ℕ))} → RecordOf cs t → Before rs u left → Before (cs ∷ rs) (t ++ (cr ∷ lf ∷ u)) left
+  more : {cs : List (List ℕ)} {t u left : List ℕ} {rs : List (List (List ℕ))} → RecordOf cs t → Before rs u left
+      → Before (cs ∷ rs) (t ++ (cr ∷ lf ∷ u)) left
 
 -- a file breaks after these records: bytes are left, and no record stands at their front
 pub record Breaks (rs : List (List (List ℕ))) (s : List ℕ) : Type 0 where

@@ -22,8 +22,9 @@ pub record Placed (s : List ℕ) (f : Fields) : Type 0 where
   pub third : InFile s (f .third)
   pub fourth : InFile s (f .fourth)
 
--- the record at `at`, whose fields are f and past which reading goes on at n: a record of the grammar of these contents stands there, with
--- the bytes from n on left past it; its places hold them and lie in the file; and the rest of the file reads as it and what is read from n on
+-- the record at `at`, whose fields are f and past which reading goes on at n: a record of the grammar of these contents
+-- stands there, with the bytes from n on left past it; its places hold them and lie in the file; and the rest of the
+-- file reads as it and what is read from n on
 pub record ReadAs (s : List ℕ) (at : ℕ) (f : Fields) (n : ReaderPlace) : Type 0 where
   pub contents : List (List ℕ)
   pub stands : Front contents (drop at s) (drop (n .at) s)

@@ -1,5 +1,6 @@
--- 01, The farm file: where a record's fields stand in it, which is what the reader hands back. The same reading as in `Reading`, with positions for contents;
--- `proofs/Steps.antt` shows that the bytes at these places are the contents, and that reading goes on where the record has ended.
+-- 01, The farm file: where a record's fields stand in it, which is what the reader hands back. The same reading as in
+-- `Reading`, with positions for contents; `proofs/Steps.antt` shows that the bytes at these places are the contents,
+-- and that reading goes on where the record has ended.
 use Prim.Native.Nat.{ℕ, zero, suc, _+_, _-_}
 use mathlib.Core.List.{List, [], _∷_}
 use mathlib.Core.Bool.{Bool, true}
@@ -78,13 +79,21 @@ fieldFrom at (b ∷ rest) =
     if b is quote then quotedFrom (at + 1) (at + 1) rest else
     plainFrom at at (b ∷ rest)
 
--- a record's fields: how many there are, and where the first four stand; a field that is not there stands nowhere, as an empty part
+-- a record's fields: how many there are, and where the first four stand; a field that is not there stands nowhere, as
+-- an empty part
 abbrev pub noFields : Fields
 noFields = record { count = 0; first = place 0 0; second = place 0 0; third = place 0 0; fourth = place 0 0 }
 
 -- what stands at these places
 abbrev pub partsAt : List ℕ → Fields → Parts
-partsAt s f = record { count = f .count; first = held s (f .first); second = held s (f .second); third = held s (f .third); fourth = held s (f .fourth) }
+partsAt s f = record {
+  count = f .count;
+  first = held s (f .first);
+  second = held s (f .second);
+  third = held s (f .third);
+  fourth =
+      held s (f .fourth);
+}
 
 -- one field more
 abbrev pub andField : Fields → Place → Fields

@@ -1,13 +1,15 @@
--- 01, The farm file: what a file says, worked out byte by byte from the front. A reader stands at a field's start, in an unquoted field, inside quotes,
--- past a quote there (which closes the field or is the first of two), or past a CR that ends a record. It knows no positions: it
--- gives contents. `proofs/Agrees.antt` shows that it reads just what the grammar says.
+-- 01, The farm file: what a file says, worked out byte by byte from the front. A reader stands at a field's start, in
+-- an unquoted field, inside quotes, past a quote there (which closes the field or is the first of two), or past a CR
+-- that ends a record. It knows no positions: it gives contents. `proofs/Agrees.antt` shows that it reads just what the
+-- grammar says.
 use Prim.Native.Nat.{ℕ, zero, suc}
 use mathlib.Core.List.{List, [], _∷_}
 use lib.ListN.{length, getD}
 use Rattle.base.specs.Pick.{if_is_then_else_}
 use Rattle.csv.specs.Grammar.{comma, quote, cr, lf}
 
--- the rest of a record: the rest of its field, the contents of the fields after it, and the bytes past the record; or it is broken
+-- the rest of a record: the rest of its field, the contents of the fields after it, and the bytes past the record; or
+-- it is broken
 pub data Row : Type 0 where
   row : List ℕ → List (List ℕ) → List ℕ → Row
   broken : Row
@@ -61,7 +63,8 @@ unfoldable mutual
   pastCR [] = broken
   pastCR (b ∷ u) = if b is lf then row [] [] u else broken
 
--- what is read of a file: a record's contents and what is read after it; nothing, at the file's end; or here a record is broken
+-- what is read of a file: a record's contents and what is read after it; nothing, at the file's end; or here a record
+-- is broken
 infixr 5 _then_
 pub data Reading : Type 0 where
   _then_ : List (List ℕ) → Reading → Reading
@@ -92,7 +95,8 @@ readingFrom (suc k) (b ∷ u) =
 unfoldable pub readingOf : List ℕ → Reading
 readingOf s = readingFrom (length s) s
 
--- a record as its users take it: how many fields it has, and the contents of the first four; one that is not there is empty
+-- a record as its users take it: how many fields it has, and the contents of the first four; one that is not there is
+-- empty
 pub record Parts : Type 0 where
   pub count : ℕ
   pub first : List ℕ
@@ -101,4 +105,11 @@ pub record Parts : Type 0 where
   pub fourth : List ℕ
 
 abbrev pub partsOf : List (List ℕ) → Parts
-partsOf cs = record { count = length cs; first = getD cs 0 []; second = getD cs 1 []; third = getD cs 2 []; fourth = getD cs 3 [] }
+partsOf cs = record {
+  count = length cs;
+  first = getD cs 0 [];
+  second = getD cs 1 [];
+  third = getD cs 2 [];
+  fourth =
+      getD cs 3 [];
+}

@@ -1,5 +1,6 @@
-// Reads an RFC 4180 file (01, The farm file) record by record: one pass over the bytes, and nothing is copied, since a field is handed back
-// as that part of the caller's slice. What is promised stands in proofs/Promises.antt, over the grammar of specs/Grammar.antt.
+// Reads an RFC 4180 file (01, The farm file) record by record: one pass over the bytes, and nothing is copied, since a
+// field is handed back as that part of the caller's slice. What is promised stands in proofs/Promises.antt, over the
+// grammar of specs/Grammar.antt.
 //
 // The machine. A reader is in one of five states, and the byte that it meets says what comes next:
 //
@@ -10,24 +11,27 @@
 //   Closed     next field   Return   broken        Quoted   broken   record ends
 //   Return     broken       broken   record ends   broken   broken   broken
 //
-// Start is a field's first byte, Plain the rest of an unquoted field, Quoted the inside of quotes, Closed past a quote there, which closes the
-// field or is the first of two, and Return past a CR outside quotes. The next field begins in Start, and so does the next record, if a byte is left.
-// `field_end` is Start, `plain_end` Plain, with its scan in `plain_stop`, `quoted_end` Quoted and Closed, `line_end` Return.
+// Start is a field's first byte, Plain the rest of an unquoted field, Quoted the inside of quotes, Closed past a quote
+// there, which closes the field or is the first of two, and Return past a CR outside quotes. The next field begins in
+// Start, and so does the next record, if a byte is left. `field_end` is Start, `plain_end` Plain, with its scan in
+// `plain_stop`, `quoted_end` Quoted and Closed, `line_end` Return.
 //
 // Advice for those who change it:
-// - Begin with specs/Grammar.antt. The table stands twice more, with contents in specs/Reading.antt and with positions in specs/Places.antt;
-//   the tests there come in the order of the code's, and a proof goes along both.
-// - A place leaves the outer quotes off and keeps doubled quotes doubled. That is what makes a content a stretch of the file: to undo the
-//   doubling would need room to write to.
-// - Each answer has its own `return`, so that the proof knows the tests that led there. A scan's invariant says what is still to be found, never
-//   what was passed.
-// - Four places are kept, and every field is counted and read to its end, so that a fifth is seen, and a break in it too. Whoever needs a fifth
-//   place adds it to `Fields`, to `none` and `and`, and to the definitions of the same names.
+// - Begin with specs/Grammar.antt. The table stands twice more, with contents in specs/Reading.antt and with positions
+//   in specs/Places.antt; the tests there come in the order of the code's, and a proof goes along both.
+// - A place leaves the outer quotes off and keeps doubled quotes doubled. That is what makes a content a stretch of the
+//   file: to undo the doubling would need room to write to.
+// - Each answer has its own `return`, so that the proof knows the tests that led there. A scan's invariant says what is
+//   still to be found, never what was passed.
+// - Four places are kept, and every field is counted and read to its end, so that a fifth is seen, and a break in it
+//   too. Whoever needs a fifth place adds it to `Fields`, to `none` and `and`, and to the definitions of the same
+//   names.
 ghost use mathlib.Core.Path.{_≡_};
 ghost use Prim.Native.Nat.{_+_, _^_, _<_};
 ghost use lib.ListN.{drop};
 ghost use Rattle.base.specs.Pick.{if_is_then_else_};
-ghost use Rattle.csv.specs.Places.{place, held, lineFrom, endsPlain, plainStop, plainFrom, quotedFrom, fieldFrom, noFields, andField, stepOf};
+ghost use Rattle.csv.specs.Places.{place, held, lineFrom, endsPlain, plainStop, plainFrom, quotedFrom, fieldFrom};
+ghost use Rattle.csv.specs.Places.{noFields, andField, stepOf};
 
 // Where a field's content stands in the file: from its first byte to before `to`.
 pub struct Place {
@@ -92,7 +96,8 @@ fn ends_plain(b: u8) -> bool
     b == b'"'
 }
 
-// Where the text of an unquoted field ends, from `at` on. No byte above a comma ends it, so one test is enough for most bytes.
+// Where the text of an unquoted field ends, from `at` on. No byte above a comma ends it, so one test is enough for most
+// bytes.
 fn plain_stop(s: &[u8], at: usize) -> usize
     ensures { λ r. ⌜ r ≡ plainStop at (drop at (now (s .entry))) ⌝ }
 {

@@ -1,7 +1,7 @@
 -- 02, W7: quotient times divisor plus what was cut off is the dividend, and less than a divisor was cut off. Assumes
 -- nothing.
-use Prim.Native.Nat.{ℕ, _+_, _*_, _/_, _%_, _<_}
-use mathlib.Core.Path.{_≡_, _∙_, ap}
+use Prim.Native.Nat.{ℕ, _+_, _/_, _%_, _<_}
+use mathlib.Core.Path.{_∙_, ap}
 use native.Mathlib.Nat.{div-add-mod, mod-lt, mul-comm}
 use Rattle.cut.specs.Cut.{quotientOf, Divides}
 

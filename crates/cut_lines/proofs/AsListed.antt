@@ -1,7 +1,6 @@
 -- The records by number, with texts from the table, are those of specs/Lines.antt. Assumes nothing.
-use Prim.Native.Nat.{ℕ, zero, suc, _+_, _≤_, _<_}
+use Prim.Native.Nat.{ℕ, zero, suc, _+_, _<_}
 use mathlib.Core.Path.{_≡_, refl, ap, _∙_}
-use mathlib.Core.Bool.{Bool, true, false}
 use mathlib.Core.List.{List, [], _∷_, _++_, map, append-assoc}
 use native.Mathlib.Nat.{le-of-suc-le-suc}
 use native.Mathlib.Omega.{arith}
@@ -19,12 +18,11 @@ use Rattle.inputs.specs.declared.Kind.{Kind}
 use Rattle.farm.specs.declared.Label.{Label}
 use Rattle.farm.specs.Labels.{text}
 use Rattle.listing.specs.HerdLines.{pathOf}
-use Rattle.listing.specs.Listing.{labelField, each}
+use Rattle.listing.specs.Listing.{each}
 use Rattle.listing.specs.Numbered.{Entry, middleOf, middles, ownerOf}
 use Rattle.cuts.specs.declared.Cuts.{Cuts}
 use Rattle.cuts.specs.Names.{rows, texts, cutNumber}
-use Rattle.cut_lines.specs.Rooms.{longestMiddle}
-use Rattle.cut_lines.specs.Lines.{numbersOf, cutLine, cutLines, cutsListing}
+use Rattle.cut_lines.specs.Lines.{cutLine, cutLines, cutsListing}
 use Rattle.cut_lines.specs.Numbered.{entries, putTogether, numbered, Known}
 
 abbrev noEntry : Entry

@@ -37,7 +37,8 @@ pub const ROOM: usize = farm::HERDS_MOST * LONGEST;
 // A herd's records from `at` on; the end of them.
 pub fn put_herd(out: &mut [u8], at: usize, label: Label, kind: Kind, c: Cuts) -> usize
     requires { ⌜ at + longestCuts ≤ length (now out) ⌝ }
-    ensures { λ r. ⌜ Wrote (now (out .entry)) at (cutsListing label kind c) (now (out .exit)) r × (r ≤ at + longestCuts) ⌝ }
+    ensures { λ r. ⌜ Wrote (now (out .entry)) at (cutsListing label kind c) (now (out .exit)) r
+        × (r ≤ at + longestCuts) ⌝ }
 {
     let mut in_owner = [0u8; listing::OWNER_MOST];
     let n = owners::put_owner(&mut in_owner, label, kind);

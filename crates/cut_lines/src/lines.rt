@@ -11,7 +11,8 @@ ghost use Rattle.cut_lines.specs.Numbered.{Known, putTogether, numbered}
 // What was cut off, and the divisor: the last two fields.
 fn put_numbers(out: &mut [u8], at: usize, cut_off: u64, divisor: u64) -> usize
     requires { ⌜ at + longestNumbers ≤ length (now out) ⌝ }
-    ensures { λ r. ⌜ Wrote (now (out .entry)) at (numbersOf «cut_off» divisor) (now (out .exit)) r × (r ≤ at + longestNumbers) ⌝ }
+    ensures { λ r. ⌜ Wrote (now (out .entry)) at (numbersOf «cut_off» divisor) (now (out .exit)) r
+        × (r ≤ at + longestNumbers) ⌝ }
 {
     let a = decimal::put_whole(out, at, cut_off);
     let b = base::put_byte(out, a, b',');
@@ -28,8 +29,11 @@ fn put_line(
     cut_off: u64,
     divisor: u64,
 ) -> usize
-    requires { ⌜ (length (now owner) ≤ longestOwner) × (length (now middle) ≤ longestMiddle) × (at + longestLine ≤ length (now out)) ⌝ }
-    ensures { λ r. ⌜ Wrote (now (out .entry)) at (putTogether (now (owner .entry)) (now (middle .entry)) «cut_off» divisor) (now (out .exit)) r × (r ≤ at + longestLine) ⌝ }
+    requires { ⌜ (length (now owner) ≤ longestOwner) × (length (now middle) ≤ longestMiddle)
+        × (at + longestLine ≤ length (now out)) ⌝ }
+    ensures { λ r. ⌜ Wrote (now (out .entry)) at
+        (putTogether (now (owner .entry)) (now (middle .entry)) «cut_off» divisor) (now (out .exit)) r
+        × (r ≤ at + longestLine) ⌝ }
 {
     if divisor == 0 {
         return at;
@@ -50,8 +54,11 @@ pub fn put_lines(
     divisor: &[u64],
     lines: &[usize],
 ) -> usize
-    requires { ⌜ Known (now middles) (now starts) (now «cut_off») (now divisor) (now lines) × (length (now owner) ≤ longestOwner) × (at + longestCuts ≤ length (now out)) ⌝ }
-    ensures { λ r. ⌜ Wrote (now (out .entry)) at (numbered (now (owner .entry)) (now (middles .entry)) (now (starts .entry)) (now («cut_off» .entry)) (now (divisor .entry)) (now (lines .entry))) (now (out .exit)) r × (r ≤ at + longestCuts) ⌝ }
+    requires { ⌜ Known (now middles) (now starts) (now «cut_off») (now divisor) (now lines)
+        × (length (now owner) ≤ longestOwner) × (at + longestCuts ≤ length (now out)) ⌝ }
+    ensures { λ r. ⌜ Wrote (now (out .entry)) at
+        (numbered (now (owner .entry)) (now (middles .entry)) (now (starts .entry)) (now («cut_off» .entry))
+        (now (divisor .entry)) (now (lines .entry))) (now (out .exit)) r × (r ≤ at + longestCuts) ⌝ }
 {
     let mut next = at;
     let mut k = 0;

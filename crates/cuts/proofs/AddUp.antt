@@ -1,6 +1,6 @@
 -- 02, W7: "Quotient times divisor plus what was cut off is the dividend, always." And no cut is missing: the names
 -- under which a herd has cuts are those of its kind's list. Assumes nothing.
-use Prim.Native.Nat.{ℕ, zero, suc, _+_, _*_, _-_, _<_}
+use Prim.Native.Nat.{ℕ, zero, suc, _*_, _-_, _<_}
 use Prim.Native.String.{String}
 use mathlib.Core.Path.{_≡_, refl}
 use mathlib.Core.Bool.{Bool, true, false}

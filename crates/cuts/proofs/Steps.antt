@@ -1,8 +1,7 @@
 -- The steps of a herd's cuts: each quotient that a section has made is what its formula's division hands back. Assumes
 -- nothing.
-use Prim.Native.Nat.{ℕ, _*_, _-_, _≤_, _<_, _^_}
-use mathlib.Core.Path.{_≡_, refl, ap, _∙_}
-use native.Mathlib.Omega.{arith}
+use Prim.Native.Nat.{ℕ, _*_, _-_, _≤_}
+use mathlib.Core.Path.{_≡_, refl, _∙_}
 use Rattle.cut.specs.declared.Quotient.{Quotient}
 use Rattle.cut.specs.Cut.{undivided}
 use Rattle.amounts.specs.declared.Parts.{Parts}
@@ -48,7 +47,16 @@ use Rattle.pig_house.specs.PigHouse.{
 use Rattle.pig_house.specs.NxOx.{nxOx, noNxOx, handedNxOx}
 use Rattle.cuts.specs.declared.Cuts.{Cuts}
 use Rattle.cuts.specs.Cuts.{cutsFrom, inOrder, withoutPigHouse, noParts}
-use Rattle.cuts.specs.Herd.{roughageNames, outdoorNames, pigsNames, toldRoughage, toldOutdoor, toldPigs, cutsUnder, cutsOf}
+use Rattle.cuts.specs.Herd.{
+  roughageNames,
+  outdoorNames,
+  pigsNames,
+  toldRoughage,
+  toldOutdoor,
+  toldPigs,
+  cutsUnder,
+  cutsOf,
+}
 
 pub are-no-parts : (q : Quotient) → q ≡ undivided 0 → _≡_ {A = Parts} (record { n = q; tan = q }) noParts
 are-no-parts q e = rw e refl

@@ -18,7 +18,8 @@ ghost use Rattle.kinds.specs.Sound.{SoundOutdoor, SoundRoughage, SoundCattle, S
 ghost use Rattle.rates.specs.Bounds.{ModestRates};
 ghost use Rattle.excretion.specs.Excretion.{withTan};
 ghost use Rattle.cuts.specs.Cuts.{noParts};
-ghost use Rattle.cuts.specs.Herd.{roughageNames, outdoorNames, pigsNames, toldRoughage, toldOutdoor, toldPigs, cutsUnder, cutsOf};
+ghost use Rattle.cuts.specs.Herd.{roughageNames, outdoorNames, pigsNames, toldRoughage, toldOutdoor, toldPigs};
+ghost use Rattle.cuts.specs.Herd.{cutsUnder, cutsOf};
 
 // Where nothing is divided.
 fn no_parts() -> Parts

@@ -23,7 +23,9 @@ pub fn by_number(
     scrubbed: Scrubbed,
     nx_ox: NxOx,
 ) -> Cuts
-    ensures { λ r. ⌜ r ≡ cutsFrom (inOrder tan «into_yard» «nh3_nyard» «into_grazing» gases factors «pig_factors» «nh3_nhousing» scrubbed «nx_ox») ⌝ }
+    ensures { λ r. ⌜ r ≡ cutsFrom
+        (inOrder tan «into_yard» «nh3_nyard» «into_grazing» gases factors «pig_factors» «nh3_nhousing» scrubbed «nx_ox»)
+        ⌝ }
 {
     Cuts {
         cut_off: [
@@ -99,7 +101,8 @@ pub fn without_pig_house(
     factors: Factors,
     nh3_nhousing: Quotient,
 ) -> Cuts
-    ensures { λ r. ⌜ r ≡ cutsFrom (withoutPigHouse tan «into_yard» «nh3_nyard» «into_grazing» gases factors «nh3_nhousing») ⌝ }
+    ensures { λ r. ⌜ r ≡ cutsFrom
+        (withoutPigHouse tan «into_yard» «nh3_nyard» «into_grazing» gases factors «nh3_nhousing») ⌝ }
 {
     let pig_factors = pig_house::factors::no_pig_factors();
     let scrubbed = pig_house::scrubber::no_scrubbed();

@@ -1,4 +1,5 @@
--- The steps of `byte_ok`, `label_ok`, `same_label` and `label_of`, each in the form that a place of the code wants. Assumes nothing.
+-- The steps of `byte_ok`, `label_ok`, `same_label` and `label_of`, each in the form that a place of the code wants.
+-- Assumes nothing.
 use Prim.Native.Nat.{ℕ, zero, suc, _+_, _-_, _≤_, _<_}
 use mathlib.Core.Path.{_≡_, refl, sym, ap, _∙_}
 use mathlib.Core.Bool.{Bool, true, false, not, _&&_}
@@ -43,7 +44,8 @@ module _ (l : Label) where
   label-start n h = let g : 1 ≤ l .len = omega arith in simp (le-leb 1 (l .len) g, le-leb (l .len) labelMost h)
 
   module _ (i : ℕ) (inv : allOk (drop i (text l)) ≡ labelOk l) where
-    module _ (long : length (l .bytes) ≡ labelMost) (room : l .len ≤ labelMost) (h : i < l .len) (r : Bool) (e : r ≡ byteOk (getD (l .bytes) i 0)) where
+    module _ (long : length (l .bytes) ≡ labelMost) (room : l .len ≤ labelMost) (h : i < l .len) (r : Bool)
+        (e : r ≡ byteOk (getD (l .bytes) i 0)) where
       next : (r && allOk (drop (i + 1) (text l))) ≡ labelOk l
       next = let k : i < length (l .bytes) = omega arith in rw e (rw (taken-at (l .len) (l .bytes) i 0 h k) at inv)
 
@@ -61,12 +63,14 @@ pub ruleset label-steps = (no-byte, past-room, label-start, byte-bad, byte-good,
 -- ---- two labels: all bytes from i on were the same
 
 -- texts of one length are the same exactly where the last bytes are and what stands before them is
-same-last : (a b : List ℕ) (x y : ℕ) → length a ≡ length b → sameBytes (a ++ (x ∷ [])) (b ++ (y ∷ [])) ≡ pick (eqb x y) (sameBytes a b) false
+same-last : (a b : List ℕ) (x y : ℕ) → length a ≡ length b
+    → sameBytes (a ++ (x ∷ [])) (b ++ (y ∷ [])) ≡ pick (eqb x y) (sameBytes a b) false
 unfolding sameBytes
 same-last [] [] x y l = refl
 same-last [] (v ∷ b) x y l = absurd (omega arith)
 same-last (u ∷ a) [] x y l = absurd (omega arith)
-same-last (u ∷ a) (v ∷ b) x y l = ap (λ (t : Bool). pick (eqb u v) t false) (same-last a b x y (omega arith)) ∙ go (eqb u v) (eqb x y)
+same-last (u ∷ a) (v ∷ b) x y l = ap (λ (t : Bool). pick (eqb u v) t false) (same-last a b x y (omega arith))
+    ∙ go (eqb u v) (eqb x y)
   where
     go : (s t : Bool) → pick s (pick t (sameBytes a b) false) false ≡ pick t (pick s (sameBytes a b) false) false
     go true t = refl
@@ -83,16 +87,21 @@ module _ (a b : Label) where
     unfolding sameLabel
     both-long h = simp (eq-eqb (a .len) (b .len) l, lt-leb (a .len) labelMost h)
 
-    pub same-start : a .len ≤ labelMost → sameBytes (take (a .len) (a .bytes)) (take (a .len) (b .bytes)) ≡ sameLabel a b
+    pub same-start : a .len ≤ labelMost
+        → sameBytes (take (a .len) (a .bytes)) (take (a .len) (b .bytes)) ≡ sameLabel a b
     unfolding sameLabel
     same-start room = rw (eq-eqb (a .len) (b .len) l, le-leb (a .len) labelMost room, ← l)
 
   module _ (i : ℕ) (inv : sameBytes (take i (a .bytes)) (take i (b .bytes)) ≡ sameLabel a b) where
-    module _ (long : length (a .bytes) ≡ labelMost) (long′ : length (b .bytes) ≡ labelMost) (h : 0 < i) (room : i ≤ labelMost) where
-      next-same : pick (eqb (getD (a .bytes) (i - 1) 0) (getD (b .bytes) (i - 1) 0)) (sameBytes (take (i - 1) (a .bytes)) (take (i - 1) (b .bytes))) false ≡ sameLabel a b
+    module _ (long : length (a .bytes) ≡ labelMost) (long′ : length (b .bytes) ≡ labelMost) (h : 0 < i)
+        (room : i ≤ labelMost) where
+      next-same : pick (eqb (getD (a .bytes) (i - 1) 0) (getD (b .bytes) (i - 1) 0))
+          (sameBytes (take (i - 1) (a .bytes)) (take (i - 1) (b .bytes))) false ≡ sameLabel a b
       next-same =
-          let s : take i (a .bytes) ≡ take (i - 1) (a .bytes) ++ (getD (a .bytes) (i - 1) 0 ∷ []) = taken-last (a .bytes) i 0 h (omega arith) in
-          let t : take i (b .bytes) ≡ take (i - 1) (b .bytes) ++ (getD (b .bytes) (i - 1) 0 ∷ []) = taken-last (b .bytes) i 0 h (omega arith) in
+          let s : take i (a .bytes) ≡ take (i - 1) (a .bytes) ++ (getD (a .bytes) (i - 1) 0 ∷ []) =
+          taken-last (a .bytes) i 0 h (omega arith) in
+          let t : take i (b .bytes) ≡ take (i - 1) (b .bytes) ++ (getD (b .bytes) (i - 1) 0 ∷ []) =
+          taken-last (b .bytes) i 0 h (omega arith) in
           let k = length-take-le (i - 1) (a .bytes) (omega arith) in
           let k′ = length-take-le (i - 1) (b .bytes) (omega arith) in
           sym (same-last (take (i - 1) (a .bytes)) (take (i - 1) (b .bytes)) _ _ (k ∙ sym k′)) ∙ (rw (s, t) at inv)
@@ -100,7 +109,8 @@ module _ (a b : Label) where
       pub byte-other : (getD (a .bytes) (i - 1) 0 ≡ getD (b .bytes) (i - 1) 0 → ⊥) → false ≡ sameLabel a b
       byte-other n = sym (rw (ne-eqb _ _ n)) ∙ next-same
 
-      pub byte-same : getD (a .bytes) (i - 1) 0 ≡ getD (b .bytes) (i - 1) 0 → sameBytes (take (i - 1) (a .bytes)) (take (i - 1) (b .bytes)) ≡ sameLabel a b
+      pub byte-same : getD (a .bytes) (i - 1) 0 ≡ getD (b .bytes) (i - 1) 0
+          → sameBytes (take (i - 1) (a .bytes)) (take (i - 1) (b .bytes)) ≡ sameLabel a b
       byte-same e = sym (rw (eq-eqb _ _ e)) ∙ next-same
 
     pub bytes-same : i ≤ 0 → true ≡ sameLabel a b
@@ -123,15 +133,18 @@ zeros (suc n) (suc m) h = ap (λ (l : List ℕ). 0 ∷ l) (zeros n m (omega arit
 padded : (n m : ℕ) (s : List ℕ) → n ≤ m → sets (replicate n 0) 0 (take n s) ≡ take n (s ++ replicate m 0)
 padded zero m s h = refl
 padded (suc n) m [] h = zeros (suc n) m h
-padded (suc n) m (b ∷ s) h = sets-past b (replicate n 0) 0 (take n s) ∙ ap (λ (l : List ℕ). b ∷ l) (padded n m s (omega arith))
+padded (suc n) m (b ∷ s) h = sets-past b (replicate n 0) 0 (take n s)
+    ∙ ap (λ (l : List ℕ). b ∷ l) (padded n m s (omega arith))
 
 module _ (s : List ℕ) {p : List ℕ} (q : p ≡ part s 0 labelMost) where
   pub label-fits : 0 + length p ≤ labelMost
   unfolding part
   label-fits = omega (arith, length-take labelMost s, ap length q)
 
-  pub label-written : {b : List ℕ} {n : ℕ} → Wrote (replicate labelMost 0) 0 p b n → record { bytes = b; len = length s } ≡ labelOf s
+  pub label-written : {b : List ℕ} {n : ℕ} → Wrote (replicate labelMost 0) 0 p b n
+      → record { bytes = b; len = length s } ≡ labelOf s
   unfolding part labelOf
-  label-written w = let e = w .bytes ∙ ap (sets (replicate labelMost 0) 0) q ∙ padded labelMost labelMost s (lit≤ tt) in cc
+  label-written w = let e = w .bytes ∙ ap (sets (replicate labelMost 0) 0) q ∙ padded labelMost labelMost s (lit≤ tt) in
+      cc
 
 pub ruleset label-of-steps = (label-fits, label-written)

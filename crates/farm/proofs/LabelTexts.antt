@@ -1,5 +1,5 @@
--- Two labels that fit are one exactly where their bytes in use are the same; and a good label is not the one that says nothing.
--- Assumes nothing.
+-- Two labels that fit are one exactly where their bytes in use are the same; and a good label is not the one that says
+-- nothing. Assumes nothing.
 use Prim.Native.Nat.{_≤_}
 use mathlib.Core.Path.{_≡_, refl, ap, sym, _∙_}
 use mathlib.Core.Bool.{Bool, true, false, _&&_}
@@ -19,7 +19,8 @@ pub no-label : (l : Label) → labelOk l ≡ true → sameLabel noLabel l ≡ fa
 unfolding labelOk sameLabel
 no-label l e = go (leb 1 (l .len)) refl e
   where
-    go : (t : Bool) → leb 1 (l .len) ≡ t → (t && (leb (l .len) labelMost && allOk (text l))) ≡ true → sameLabel noLabel l ≡ false
+    go : (t : Bool) → leb 1 (l .len) ≡ t → (t && (leb (l .len) labelMost && allOk (text l))) ≡ true
+        → sameLabel noLabel l ≡ false
     go true h e = let some : 1 ≤ l .len = leb-true 1 (l .len) h in rw (ne-eqb 0 (l .len) (λ z. omega arith))
     go false h e = cc
 
@@ -29,7 +30,8 @@ same-text a b e =
     let h = both-true (eqb (a .len) (b .len)) (leb (a .len) labelMost && sameBytes (text a) (text b)) e .1 in
     same-eq (text a) (text b) (both-true (leb (a .len) labelMost) (sameBytes (text a) (text b)) h .1)
 
-module _ (a b : Label) (long : length (a .bytes) ≡ labelMost) (long′ : length (b .bytes) ≡ labelMost) (room : a .len ≤ labelMost) (room′ : b .len ≤ labelMost) where
+module _ (a b : Label) (long : length (a .bytes) ≡ labelMost) (long′ : length (b .bytes) ≡ labelMost)
+    (room : a .len ≤ labelMost) (room′ : b .len ≤ labelMost) where
   pub text-same : text a ≡ text b → sameLabel a b ≡ true
   unfolding sameLabel
   text-same e =

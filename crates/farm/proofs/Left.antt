@@ -1,4 +1,5 @@
--- What is left of a list from a place on, and what stands before it: the laws that every loop here turns on. Assumes nothing.
+-- What is left of a list from a place on, and what stands before it: the laws that every loop here turns on. Assumes
+-- nothing.
 use Prim.Native.Nat.{ℕ, suc, _+_, _-_, _≤_, _<_}
 use mathlib.Core.Path.{_≡_, sym, ap, _∙_}
 use mathlib.Core.List.{List, [], _∷_, _++_, map}

@@ -1,5 +1,5 @@
--- A herd by its slots, one for each input of its kind (01, The farm file: "Inputs per kind"): what says nothing in a slot, and a slot, a herd and
--- a farm that say nothing. To be believed.
+-- A herd by its slots, one for each input of its kind (01, The farm file: "Inputs per kind"): what says nothing in a
+-- slot, and a slot, a herd and a farm that say nothing. To be believed.
 use mathlib.Core.Bool.{Bool, true, false}
 use lib.ListN.{replicate}
 use Rattle.inputs.specs.declared.Kind.the-variants.{Roughage}

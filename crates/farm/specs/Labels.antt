@@ -1,5 +1,5 @@
--- 01, The farm file: "The label has 1 to 16 bytes from 32 to 126, byte 34 excepted." And the label that a text is, when two labels are one, and
--- labels that say nothing. To be believed.
+-- 01, The farm file: "The label has 1 to 16 bytes from 32 to 126, byte 34 excepted." And the label that a text is, when
+-- two labels are one, and labels that say nothing. To be believed.
 use Prim.Native.Nat.{ℕ}
 use mathlib.Core.List.{List, [], _∷_, _++_}
 use mathlib.Core.Bool.{Bool, true, not, _&&_}
@@ -29,7 +29,8 @@ labelOk l = leb 1 (l .len) && (leb (l .len) labelMost && allOk (text l))
 unfoldable pub sameLabel : Label → Label → Bool
 sameLabel a b = eqb (a .len) (b .len) && (leb (a .len) labelMost && sameBytes (text a) (text b))
 
--- the label that a text is: as many of its bytes as fit, zeros behind them, and its own length; past the most that is no good label
+-- the label that a text is: as many of its bytes as fit, zeros behind them, and its own length; past the most that is
+-- no good label
 unfoldable pub labelOf : List ℕ → Label
 labelOf s = record { bytes = take labelMost (s ++ replicate labelMost 0); len = length s }
 

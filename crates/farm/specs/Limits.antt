@@ -1,4 +1,5 @@
--- 01, The farm file: "The label has 1 to 16 bytes", "At most 64 herds"; and the slots of a herd, which are enough for every kind. To be believed.
+-- 01, The farm file: "The label has 1 to 16 bytes", "At most 64 herds"; and the slots of a herd, which are enough for
+-- every kind. To be believed.
 use Prim.Native.Nat.{ℕ}
 
 abbrev pub labelMost : ℕ

@@ -1,8 +1,22 @@
--- 01, Refusal numbers. The one definition that gives the number and the record of each answer; the promises of crate `calls` speak through it.
--- To be believed.
+-- 01, Refusal numbers. The one definition that gives the number and the record of each answer; the promises of crate
+-- `calls` speak through it. To be believed.
 use Prim.Native.Nat.{ℕ}
 use Rattle.farm.specs.declared.Fault.{Fault}
-use Rattle.farm.specs.declared.Fault.the-variants.{FileTooLong, RecordBroken, NotFourFields, BadLabel, NotInTheList, StandardForbidden, BadValue, EarlierLabel, NoRoomForHerd, OtherKind, GivenAlready, InputMissing, BufferTooShort}
+use Rattle.farm.specs.declared.Fault.the-variants.{
+  FileTooLong,
+  RecordBroken,
+  NotFourFields,
+  BadLabel,
+  NotInTheList,
+  StandardForbidden,
+  BadValue,
+  EarlierLabel,
+  NoRoomForHerd,
+  OtherKind,
+  GivenAlready,
+  InputMissing,
+  BufferTooShort,
+}
 use Rattle.farm.specs.declared.Checked.{Checked}
 use Rattle.farm.specs.declared.Checked.the-variants.{Accepted, Refused}
 
@@ -21,7 +35,8 @@ number GivenAlready = 11
 number InputMissing = 12
 number BufferTooShort = 13
 
--- what an answer says in 01's numbers: that nothing is wrong; a listing's length; or the refusal's number and the record's
+-- what an answer says in 01's numbers: that nothing is wrong; a listing's length; or the refusal's number and the
+-- record's
 pub data Says : Type 0 where
   accepts : Says
   gives : (listing-length : ℕ) → Says

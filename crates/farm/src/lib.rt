@@ -18,8 +18,8 @@ pub struct Label {
     pub len: usize,
 }
 
-// What a record says of an input: nothing, `standard`, a number in units of its last decimal or the place of a name in its list, or a
-// whole number that may be below zero.
+// What a record says of an input: nothing, `standard`, a number in units of its last decimal or the place of a name in
+// its list, or a whole number that may be below zero.
 pub enum Given {
     Missing,
     Standard,

@@ -1,4 +1,5 @@
-// The calls that tell what a file says: its farm, and why the yard of one of its herds has its share. A file of any bytes is answered.
+// The calls that tell what a file says: its farm, and why the yard of one of its herds has its share. A file of any
+// bytes is answered.
 use farm::Checked;
 use reader::FileAnswer;
 use reader::files;
@@ -15,7 +16,8 @@ pub fn read_farm(s: &[u8]) -> FileAnswer
     files::read(s)
 }
 
-// Why the yard of a herd of a file has its share on days with both, by the herd's number, counted from 0; past the last there is no herd.
+// Why the yard of a herd of a file has its share on days with both, by the herd's number, counted from 0; past the last
+// there is no herd.
 pub fn file_herd_reason(s: &[u8], number: usize) -> ReasonAnswer
     ensures { λ r. ⌜ r ≡ fileReason (now (s .entry)) number ⌝ }
 {

@@ -1,5 +1,5 @@
-// The calls that write the listings of a file's herds and of its totals into a lent buffer. A file of any bytes is answered; what reading
-// refuses comes before 13.
+// The calls that write the listings of a file's herds and of its totals into a lent buffer. A file of any bytes is
+// answered; what reading refuses comes before 13.
 use farm::Checked;
 use listing::Written;
 use reader::files;

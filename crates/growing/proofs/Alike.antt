@@ -2,7 +2,7 @@
 -- the N a head, and neither of these is smaller. Assumes nothing.
 use Prim.Native.Nat.{ℕ, _≤_, _<_}
 use Prim.Native.String.{String}
-use mathlib.Core.Path.{_≡_, refl}
+use mathlib.Core.Path.{_≡_}
 use native.Mathlib.Nat.{le-refl}
 use native.Mathlib.Omega.{arith}
 use Rattle.inputs.specs.declared.Kind.{Kind}

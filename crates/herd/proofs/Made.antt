@@ -39,6 +39,7 @@ pub made : {i : Inputs} → Sound i → Made (figuresIn cutting i)
 made (roughage {r} s) = of-roughage r _ s (roughage-starts r s)
 made (cattle {c} s) =
     of-outdoor _ (c .outdoor) _ (cattle-rates-modest (c .kind)) (s .outdoor)
-    (excreted-modest (c .animals) (c .«inp_n_excretion») (cattleFraction c) (s .animals) (s .grams) (cattle-fraction-le c s))
+    (excreted-modest (c .animals) (c .«inp_n_excretion») (cattleFraction c) (s .animals) (s .grams)
+    (cattle-fraction-le c s))
 made (pigs {p} s) =
     of-pigs p _ s (pigs-start p s)

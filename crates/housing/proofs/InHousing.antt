@@ -23,7 +23,19 @@ use Rattle.amounts.specs.Bounds.{Modest, PortionOf, TwiceOf, UpTo}
 use Rattle.kinds.specs.declared.Roughage.{Roughage}
 use Rattle.kinds.specs.Free.{«c_free_factor»}
 use Rattle.housing.specs.declared.Factors.{Factors}
-use Rattle.housing.specs.Housing.{«er_housing», «c_grazing», uncapped, factors, noFactors, handedFactors, «ef_nh3_nhousing», aboveCeiling, nh3InHousing, throughHousing, inHousing}
+use Rattle.housing.specs.Housing.{
+  «er_housing»,
+  «c_grazing»,
+  uncapped,
+  factors,
+  noFactors,
+  handedFactors,
+  «ef_nh3_nhousing»,
+  aboveCeiling,
+  nh3InHousing,
+  throughHousing,
+  inHousing,
+}
 use Rattle.housing.specs.Bounds.{Grown}
 
 -- ---- 2.87, c_grazing

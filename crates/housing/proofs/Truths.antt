@@ -37,7 +37,8 @@ module _ (days hours : ℕ) (hd : days ≤ year) (hh : hours ≤ day) where
   made-up : (year - days) * day + days * (day - hours) ≡ year * day - hours * days
   made-up = weights days (day - hours) hours hd (omega arith)
 
-  pub c-grazing-from-1-to-k : (billionths ≤ «c_grazing» cutting days hours) × («c_grazing» cutting days hours ≤ kOf hours)
+  pub c-grazing-from-1-to-k : (billionths ≤ «c_grazing» cutting days hours)
+      × («c_grazing» cutting days hours ≤ kOf hours)
   c-grazing-from-1-to-k = go (ltb (days * hours) (year * day)) refl
     where
       go : (t : Bool) → ltb (days * hours) (year * day) ≡ t
@@ -55,7 +56,8 @@ module _ (r : Roughage) (s : SoundRoughage r) where
       le-trans (c-grazing-from-1-to-k (r .«grazing_days») (r .«grazing_hours») (s .days) (s .hours) .1)
       (k-most (r .«grazing_hours»))
 
-  rate-le : (c : ℕ) → c ≤ mostK → portion cutting c «er_housing» thousandths ≤ portion cutting mostK «er_housing» thousandths
+  rate-le : (c : ℕ) → c ≤ mostK
+      → portion cutting c «er_housing» thousandths ≤ portion cutting mostK «er_housing» thousandths
   rate-le c h = part-mono thousandths {m = «er_housing»} {n = «er_housing»} h (le-refl «er_housing»)
 
   most-rate : portion cutting («c_grazing» cutting (r .«grazing_days») (r .«grazing_hours»)) «er_housing» thousandths
@@ -65,10 +67,12 @@ module _ (r : Roughage) (s : SoundRoughage r) where
   -- a free factor below zero makes twice of it at most
   pub factor-below-146 : uncapped cutting r < 1460000000
   factor-below-146 =
-      let rate = portion cutting («c_grazing» cutting (r .«grazing_days») (r .«grazing_hours»)) «er_housing» thousandths in
+      let rate = portion cutting («c_grazing» cutting (r .«grazing_days») (r .«grazing_hours»)) «er_housing» thousandths
+      in
       let left = «c_free_factor_housing» (r .«free_correction_factor») in
       let most : portion cutting rate left percent ≤ rate + rate =
-      div-le-of-le-mul percent (omega (arith, mul-le-mul-left rate (free-le (r .«free_correction_factor») (s .free)))) in
+      div-le-of-le-mul percent (omega (arith, mul-le-mul-left rate (free-le (r .«free_correction_factor») (s .free))))
+      in
       omega (arith, most, most-rate)
 
   -- and none below zero makes no more of it

@@ -15,7 +15,8 @@ ghost use Rattle.amounts.specs.Arithmetic.{cutting};
 ghost use Rattle.amounts.specs.Dividing.{dividing};
 ghost use Rattle.amounts.specs.Bounds.{Modest, PortionOf, UpTo};
 ghost use Rattle.kinds.specs.Sound.{SoundRoughage};
-ghost use Rattle.housing.specs.Housing.{«ef_nh3_nhousing», aboveCeiling, factors, noFactors, handedFactors, inHousing, throughDoor, ofHousing};
+ghost use Rattle.housing.specs.Housing.{«ef_nh3_nhousing», aboveCeiling, factors, noFactors, handedFactors};
+ghost use Rattle.housing.specs.Housing.{inHousing, throughDoor, ofHousing};
 ghost use Rattle.housing.specs.Bounds.{Grown};
 
 // What the emission factor is made of: c_grazing, multiplied by er_housing, and then by c_free_factor_housing.

@@ -1,5 +1,5 @@
--- The code's data against the definitions: what an arm of a `match` on a slot, or on a module's place, has is what the list has there. Assumes
--- nothing.
+-- The code's data against the definitions: what an arm of a `match` on a slot, or on a module's place, has is what the
+-- list has there. Assumes nothing.
 use Prim.Native.Nat.{ℕ, zero, suc, _+_, _-_, _<_, _≤_}
 use mathlib.Core.Path.{_≡_, refl, sym, ap, _∙_}
 use mathlib.Core.Bool.{false}
@@ -42,7 +42,8 @@ module _ (k : Kind) where
   getD-last (row ∷ next ∷ rows) (suc slot) h = getD-last (next ∷ rows) slot (omega arith)
 
   -- the last arm
-  pub numbered-last : (slot : ℕ) {r : Input} → NoneOf (countOf k - 1) slot → r ≡ numbered (lastOf (rowsOf k)) → r ≡ numbered (rowAt k slot)
+  pub numbered-last : (slot : ℕ) {r : Input} → NoneOf (countOf k - 1) slot → r ≡ numbered (lastOf (rowsOf k))
+      → r ≡ numbered (rowAt k slot)
   numbered-last slot o h =
       let past = none-below (countOf k - 1) slot o in
       h ∙ ap numbered (sym (getD-last (rowsOf k) slot (omega arith)))
@@ -78,7 +79,8 @@ module _ (kind : Kind) (slot : ℕ) {r : Input} where
 
 -- ---- the arms of the modules
 
-pub module-at : {place i : ℕ} (M : Module) → place ≡ i → ((name : Found) → findPlaced (At i) name ≡ findWithin M name) → (name : Found) → findPlaced (At place) name ≡ findWithin M name
+pub module-at : {place i : ℕ} (M : Module) → place ≡ i → ((name : Found) → findPlaced (At i) name ≡ findWithin M name)
+    → (name : Found) → findPlaced (At place) name ≡ findWithin M name
 module-at M e h name = rw e (h name)
 
 module _ (name : Found) where

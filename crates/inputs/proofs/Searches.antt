@@ -2,7 +2,7 @@
 use Prim.Native.Nat.{ℕ, suc, _+_, _-_, _<_, _≤_}
 use Prim.Native.String.{String}
 use mathlib.Core.Path.{_≡_, refl, sym, ap, _∙_}
-use mathlib.Core.Bool.{Bool, true, false, _&&_, and-false}
+use mathlib.Core.Bool.{Bool, true, _&&_, and-false}
 use mathlib.Core.List.{List, [], _∷_, map}
 use native.Mathlib.Omega.{arith}
 use lib.Dec.{eqb, ltb}
@@ -11,7 +11,6 @@ use borrow.Author.Tests.{ltb-true, eq-eqb, ne-eqb}
 use Rattle.base.specs.Pick.{pick}
 use Rattle.base.specs.Text.{bytes}
 use Rattle.base.specs.Part.{sameBytes}
-use Rattle.base.proofs.Clash.{clash}
 use Rattle.base.proofs.Holds.{both-true}
 use Rattle.names.specs.declared.Found.{Found}
 use Rattle.names.specs.declared.Found.the-variants as founds
@@ -25,7 +24,19 @@ use Rattle.inputs.specs.declared.Module.the-variants as stretches
 use Rattle.inputs.specs.declared.FoundInput.{FoundInput}
 use Rattle.inputs.specs.declared.FoundInput.the-variants.{At, Nowhere}
 use Rattle.inputs.specs.Inputs.{Row, rowsOf, kinds, rowAt}
-use Rattle.inputs.specs.Find.{isRow, firstRow, findAmong, findInput, placeIn, numbered, isPlaced, placedAmong, findPlaced, findSlots, findWithin}
+use Rattle.inputs.specs.Find.{
+  isRow,
+  firstRow,
+  findAmong,
+  findInput,
+  placeIn,
+  numbered,
+  isPlaced,
+  placedAmong,
+  findPlaced,
+  findSlots,
+  findWithin,
+}
 
 -- ---- texts and places
 
@@ -37,7 +48,8 @@ abbrev own : Row → List String
 own row = row .path ∷ row .name ∷ []
 
 abbrev inside : Row → Bool
-inside row = ltb (placeIn modules (row .path)) (length modules) && ltb (placeIn inputNames (row .name)) (length inputNames)
+inside row = ltb (placeIn modules (row .path)) (length modules)
+    && ltb (placeIn inputNames (row .name)) (length inputNames)
 
 -- the one computed test: every module and name of the list has its place
 record Placed (rows : List Row) : Type 0 where
@@ -54,17 +66,20 @@ module _ (m n : List ℕ) {x y : Found} (qx : x ≡ findText modules m) (qy : y 
   row-placed : (row : Row) → said row ≡ own row → inside row ≡ true → isRow m n row ≡ isPlaced x y row
   unfolding isRow isPlaced
   row-placed row e h =
-      let b = both-true (ltb (placeIn modules (row .path)) (length modules)) (ltb (placeIn inputNames (row .name)) (length inputNames)) h in
+      let b = both-true (ltb (placeIn modules (row .path)) (length modules))
+      (ltb (placeIn inputNames (row .name)) (length inputNames)) h in
       let p : getD modules (placeIn modules (row .path)) "" ≡ row .path = cc in
       let q : getD inputNames (placeIn inputNames (row .name)) "" ≡ row .name = cc in
       let s = same-text-at modules modules-once m qx (placeIn modules (row .path)) (ltb-true _ _ (b .0)) in
       let t = same-text-at inputNames input-names-once n qy (placeIn inputNames (row .name)) (ltb-true _ _ (b .1)) in
       ap (λ (z : String). sameBytes m (bytes z) && sameBytes n (bytes (row .name))) (sym p)
-      ∙ ap (λ (z : String). sameBytes m (bytes (getD modules (placeIn modules (row .path)) "")) && sameBytes n (bytes z)) (sym q)
+      ∙ ap (λ (z : String). sameBytes m (bytes (getD modules (placeIn modules (row .path)) ""))
+      && sameBytes n (bytes z)) (sym q)
       ∙ ap (λ (z : Bool). z && sameBytes n (bytes (getD inputNames (placeIn inputNames (row .name)) ""))) s
       ∙ ap (λ (z : Bool). isAt x (placeIn modules (row .path)) && z) t
 
-  rows-placed : (k : Kind) (i : ℕ) (rows : List Row) {a b : FoundInput} → Placed rows → a ≡ b → firstRow k (isRow m n) i rows a ≡ firstRow k (isPlaced x y) i rows b
+  rows-placed : (k : Kind) (i : ℕ) (rows : List Row) {a b : FoundInput} → Placed rows → a ≡ b
+      → firstRow k (isRow m n) i rows a ≡ firstRow k (isPlaced x y) i rows b
   unfolding firstRow
   rows-placed k i [] p e = e
   rows-placed k i (row ∷ rows) p e =
@@ -90,11 +105,14 @@ module _ (m n : List ℕ) {x y : Found} (qx : x ≡ findText modules m) (qy : y 
     unfolding findPlaced placedAmong firstRow isPlaced
     no-name e = sym (input-placed ∙ ap (λ (z : Found). findPlaced x z) e ∙ simp and-false)
 
-    module _ {j : ℕ} (ey : y ≡ founds.At j) (M : Module) (w : (name : Found) → findPlaced (founds.At i) name ≡ findWithin M name) where
+    module _ {j : ℕ} (ey : y ≡ founds.At j) (M : Module)
+        (w : (name : Found) → findPlaced (founds.At i) name ≡ findWithin M name) where
       within : findWithin M (founds.At j) ≡ findInput m n
-      within = sym (input-placed ∙ ap (λ (z : Found). findPlaced z y) ex ∙ ap (λ (z : Found). findPlaced (founds.At i) z) ey ∙ w (founds.At j))
+      within = sym (input-placed ∙ ap (λ (z : Found). findPlaced z y) ex
+          ∙ ap (λ (z : Found). findPlaced (founds.At i) z) ey ∙ w (founds.At j))
 
-      pub in-module : {k : Kind} {a b : ℕ} {r : FoundInput} → M ≡ stretches.Of k a b → r ≡ findWithin (stretches.Of k a b) (founds.At j) → r ≡ findInput m n
+      pub in-module : {k : Kind} {a b : ℕ} {r : FoundInput} → M ≡ stretches.Of k a b
+          → r ≡ findWithin (stretches.Of k a b) (founds.At j) → r ≡ findInput m n
       in-module e h = h ∙ ap (λ (z : Module). findWithin z (founds.At j)) (sym e) ∙ within
 
       pub past-modules : M ≡ stretches.Nowhere → Nowhere ≡ findInput m n

@@ -1,5 +1,5 @@
--- Which input of the list a record's module and name are, byte for byte. It mirrors the code for its contracts; proofs/Finds.antt says what it
--- means.
+-- Which input of the list a record's module and name are, byte for byte. It mirrors the code for its contracts;
+-- proofs/Finds.antt says what it means.
 use Prim.Native.Nat.{ℕ, zero, suc, _+_, _-_}
 use Prim.Native.String.{String}
 use mathlib.Core.Bool.{Bool, _&&_}
@@ -58,7 +58,9 @@ findPlaced m n = placedAmong kinds m n
 -- the first that has the name of so many slots of a kind, from this one on
 unfoldable pub findSlots : Kind → ℕ → ℕ → Found → FoundInput
 findSlots k zero slot n = Nowhere
-findSlots k (suc more) slot n = pick (isAt n (placeIn inputNames (rowAt k slot .name))) (At k slot (rowAt k slot .form)) (findSlots k more (slot + 1) n)
+findSlots k (suc more) slot n =
+    pick (isAt n (placeIn inputNames (rowAt k slot .name))) (At k slot (rowAt k slot .form))
+    (findSlots k more (slot + 1) n)
 
 unfoldable pub findWithin : Module → Found → FoundInput
 findWithin (stretches.Of k a b) n = findSlots k (b - a) a n

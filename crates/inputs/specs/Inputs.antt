@@ -1,6 +1,6 @@
--- 01, The farm file: "Inputs per kind", in its order, and 02, W9. The one list that says which inputs there are, where they stand in a file, and
--- what their values may be. To be believed. Numbers count in units of their last decimal: grams for kilograms with three, hundredths of a percent for
--- percent with two, tenths of an hour for hours with one.
+-- 01, The farm file: "Inputs per kind", in its order, and 02, W9. The one list that says which inputs there are, where
+-- they stand in a file, and what their values may be. To be believed. Numbers count in units of their last decimal:
+-- grams for kilograms with three, hundredths of a percent for percent with two, tenths of an hour for hours with one.
 use Prim.Native.Nat.{ℕ, _*_}
 use Prim.Native.String.{String}
 use mathlib.Core.Bool.{Bool}

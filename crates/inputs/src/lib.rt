@@ -1,7 +1,8 @@
-// 01's list of inputs, once: for each kind of herd its inputs, each with its name and how its value reads, and for each module the stretch of
-// its kind's inputs. The reader, the record checks and whatever writes a farm go by it. An input is known by its kind and its slot, its place
-// among the inputs of the kind. A new input is an arm of its kind's function and a row in specs/Inputs.antt, at the end of its kind's, with its
-// kind's count and its module's stretch; a new name or module has its text in crate `names`.
+// 01's list of inputs, once: for each kind of herd its inputs, each with its name and how its value reads, and for each
+// module the stretch of its kind's inputs. The reader, the record checks and whatever writes a farm go by it. An input
+// is known by its kind and its slot, its place among the inputs of the kind. A new input is an arm of its kind's
+// function and a row in specs/Inputs.antt, at the end of its kind's, with its kind's count and its module's stretch; a
+// new name or module has its text in crate `names`.
 use names::Found;
 use names::Names;
 ghost use mathlib.Core.Path.{_≡_};
@@ -20,9 +21,9 @@ pub enum Kind {
     DairyCow,
 }
 
-// How a value reads: a number, by its decimals and the most it may be in units of the last decimal; such a number for which `standard`
-// may stand; one for which it may not, refusal 6; a whole number that may be below zero, by the most that it may be on either side; or a
-// name of a list.
+// How a value reads: a number, by its decimals and the most it may be in units of the last decimal; such a number for
+// which `standard` may stand; one for which it may not, refusal 6; a whole number that may be below zero, by the most
+// that it may be on either side; or a name of a list.
 pub enum Form {
     Number(usize, u32),
     OrStandard(usize, u32),

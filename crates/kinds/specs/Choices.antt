@@ -8,7 +8,13 @@ use Rattle.kinds.specs.declared.ExerciseYard.the-variants.{NotAvailable,
 use Rattle.kinds.specs.declared.Floor.{Floor}
 use Rattle.kinds.specs.declared.Floor.the-variants.{Solid, Unpaved, Perforated, Paddock}
 use Rattle.kinds.specs.declared.HousingType.{HousingType}
-use Rattle.kinds.specs.declared.HousingType.the-variants.{SlurryConventional, SlurryLabel, SlurryLabelOpen, DeepLitter, Outdoor}
+use Rattle.kinds.specs.declared.HousingType.the-variants.{
+  SlurryConventional,
+  SlurryLabel,
+  SlurryLabelOpen,
+  DeepLitter,
+  Outdoor,
+}
 use Rattle.kinds.specs.declared.AirScrubber.{AirScrubber}
 use Rattle.kinds.specs.declared.AirScrubber.the-variants as scrubbed
 use Rattle.kinds.specs.declared.HousingFloor.{HousingFloor}

@@ -47,7 +47,8 @@ module _ {p listing : List ℕ} (is : p ≡ listing) {old : List ℕ} where
         record { buffer = rw e (front s l); answer = rw e (ap Length (s .past ∙ z)) }
 
     -- written elsewhere first, and that part handed over
-    pub handed : {lent after : List ℕ} {r : Written} → Answered (part new 0 q) lent after r → Answered listing lent after r
+    pub handed : {lent after : List ℕ} {r : Written} → Answered (part new 0 q) lent after r
+        → Answered listing lent after r
     handed {lent} {after} {r} a = subst (λ (t : List ℕ). Answered t lent after r) (part-is w h ∙ is) a
 
 -- p is the part of the label's bytes that the code takes
@@ -57,4 +58,5 @@ module _ (l : Label) (p : List ℕ) (e : p ≡ part (l .bytes) 0 (l .len)) where
   text-is = let z : l .len - 0 ≡ l .len = omega arith in e ∙ ap (λ (n : ℕ). take n (l .bytes)) z
 
   pub text-short : length (l .bytes) ≡ longestLabel → length p ≤ longestLabel
-  text-short h = omega (arith, ap length text-is, length-take (l .len) (l .bytes), min-le-right (l .len) (length (l .bytes)))
+  text-short h = omega
+      (arith, ap length text-is, length-take (l .len) (l .bytes), min-le-right (l .len) (length (l .bytes)))

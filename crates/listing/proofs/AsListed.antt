@@ -21,8 +21,27 @@ use Rattle.outputs.specs.declared.Totals.{Totals}
 use Rattle.outputs.specs.Names.{rows, number, totals, totalNumber, totalTexts}
 use Rattle.outputs.specs.Grams.{at}
 use Rattle.listing.specs.HerdLines.{pathOf, linesOf}
-use Rattle.listing.specs.Listing.{hasComma, labelField, lineOf, each, totalPath, herdLines, herdListing, totalsListing}
-use Rattle.listing.specs.Numbered.{Entry, herdEntries, totalEntries, middleOf, middles, ownerOf, putTogether, numbered, Known}
+use Rattle.listing.specs.Listing.{
+  hasComma,
+  labelField,
+  lineOf,
+  each,
+  totalPath,
+  herdLines,
+  herdListing,
+  totalsListing,
+}
+use Rattle.listing.specs.Numbered.{
+  Entry,
+  herdEntries,
+  totalEntries,
+  middleOf,
+  middles,
+  ownerOf,
+  putTogether,
+  numbered,
+  Known,
+}
 
 abbrev noEntry : Entry
 noEntry = record { under = []; name = [] }
@@ -32,7 +51,8 @@ middle-at [] n h = absurd (omega arith)
 middle-at (e ∷ es) zero h = refl
 middle-at (e ∷ es) (suc n) h = middle-at es n (le-of-suc-le-suc h)
 
-line-is : (label path : List ℕ) (e : Entry) (g : ℤ) → putTogether (ownerOf label path) (middleOf e) g ≡ lineOf label (path ++ e .under) (e .name) g
+line-is : (label path : List ℕ) (e : Entry) (g : ℤ)
+    → putTogether (ownerOf label path) (middleOf e) g ≡ lineOf label (path ++ e .under) (e .name) g
 unfolding ownerOf putTogether lineOf
 line-is label path e g = simp append-assoc
 
@@ -42,11 +62,14 @@ module _ (label path : List ℕ) (es : List Entry) (grams : List ℤ) where
   inFull n = let e = getD es n noEntry in lineOf label (path ++ e .under) (e .name) (at grams n)
 
   in-full : (n : ℕ) → n < length es
-      → putTogether (ownerOf label path) (part (joined (middles es)) (getD (starts 0 (middles es)) n 0) (getD (starts 0 (middles es)) (n + 1) 0)) (at grams n) ≡ inFull n
+      → putTogether (ownerOf label path)
+      (part (joined (middles es)) (getD (starts 0 (middles es)) n 0) (getD (starts 0 (middles es)) (n + 1) 0))
+      (at grams n) ≡ inFull n
   unfolding part
   in-full n h =
       let m = run-at (middles es) n (omega (arith, length-map es middleOf)) .part-is ∙ middle-at es n h in
-      ap (λ (t : List ℕ). putTogether (ownerOf label path) t (at grams n)) m ∙ line-is label path (getD es n noEntry) (at grams n)
+      ap (λ (t : List ℕ). putTogether (ownerOf label path) t (at grams n)) m
+      ∙ line-is label path (getD es n noEntry) (at grams n)
 
   numbered-is : (ns : List ℕ) → T (all (λ (n : ℕ). ltb n (length es)) ns)
       → numbered (ownerOf label path) (joined (middles es)) (starts 0 (middles es)) grams ns ≡ each inFull ns
@@ -72,7 +95,8 @@ herd-numbers Cattle = tt
 herd-numbers Pigs = tt
 herd-numbers DairyCow = tt
 
-pub herd-known : (k : Kind) {grams : List ℤ} {lines : List ℕ} → length grams ≡ length rows → lines ≡ map number (linesOf k) → Known herdTable herdStarts grams lines
+pub herd-known : (k : Kind) {grams : List ℤ} {lines : List ℕ} → length grams ≡ length rows
+    → lines ≡ map number (linesOf k) → Known herdTable herdStarts grams lines
 herd-known k {grams} n e = rw e (record {
   texts = middles herdEntries;
   table-is = refl;
@@ -82,10 +106,14 @@ herd-known k {grams} n e = rw e (record {
   are-numbers = herd-numbers k;
 })
 
-as-listed : (label : List ℕ) (k : Kind) (f : Figures) → numbered (ownerOf label (bytes (pathOf k))) herdTable herdStarts (f .grams) (map number (linesOf k)) ≡ herdLines label k f
+as-listed : (label : List ℕ) (k : Kind) (f : Figures)
+    → numbered (ownerOf label (bytes (pathOf k))) herdTable herdStarts (f .grams) (map number (linesOf k))
+    ≡ herdLines label k f
 unfolding herdLines
-as-listed label Roughage f = numbered-is label (bytes (pathOf Roughage)) herdEntries (f .grams) (map number (linesOf Roughage)) tt
-as-listed label Cattle f = numbered-is label (bytes (pathOf Cattle)) herdEntries (f .grams) (map number (linesOf Cattle)) tt
+as-listed label Roughage f =
+    numbered-is label (bytes (pathOf Roughage)) herdEntries (f .grams) (map number (linesOf Roughage)) tt
+as-listed label Cattle f =
+    numbered-is label (bytes (pathOf Cattle)) herdEntries (f .grams) (map number (linesOf Cattle)) tt
 as-listed label Pigs f = numbered-is label (bytes (pathOf Pigs)) herdEntries (f .grams) (map number (linesOf Pigs)) tt
 as-listed label DairyCow f =
     numbered-is label (bytes (pathOf DairyCow)) herdEntries (f .grams) (map number (linesOf DairyCow)) tt

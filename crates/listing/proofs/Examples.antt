@@ -1,6 +1,5 @@
--- 01, The listing: the listing of its pigs, byte by byte, from the grams that it prints; the totals of a farm of these pigs; and a line whose
--- label has a comma and whose figure is below zero.
--- Assumes nothing.
+-- 01, The listing: the listing of its pigs, byte by byte, from the grams that it prints; the totals of a farm of these
+-- pigs; and a line whose label has a comma and whose figure is below zero. Assumes nothing.
 use Prim.Native.Nat.{ℕ}
 use Prim.Native.String.{String}
 use mathlib.Core.Path.{_≡_, refl, ap, _∙_}
@@ -100,9 +99,11 @@ totalLines =
     ∷ []
 
 pub totals-of-pigs : totalsListing (totalsOf (pigFigures ∷ [])) ≡ each bytes totalLines
-unfolding totalsListing lineOf labelField hasComma kilogramsOf sign thousandthsOf wholeOf width totalsOf byNumber farmTotal
+unfolding totalsListing lineOf labelField hasComma kilogramsOf sign thousandthsOf wholeOf width totalsOf byNumber
+    farmTotal
 totals-of-pigs = refl
 
-pub comma-and-minus : lineOf (bytes "a,b") (bytes "Livestock") (bytes "tan_remain_grazing") (negsuc 5225) ≡ bytes "\"a,b\",Livestock,tan_remain_grazing,-5.226\r\n"
+pub comma-and-minus : lineOf (bytes "a,b") (bytes "Livestock") (bytes "tan_remain_grazing") (negsuc 5225)
+    ≡ bytes "\"a,b\",Livestock,tan_remain_grazing,-5.226\r\n"
 unfolding lineOf labelField hasComma kilogramsOf sign thousandthsOf wholeOf width
 comma-and-minus = refl

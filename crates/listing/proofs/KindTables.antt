@@ -1,4 +1,5 @@
--- The path of a kind and its lines stand in their tables, from the start of the kind's number to the next. Assumes nothing.
+-- The path of a kind and its lines stand in their tables, from the start of the kind's number to the next. Assumes
+-- nothing.
 use Prim.Native.Nat.{ℕ, _+_, _≤_, _<_}
 use mathlib.Core.Path.{_≡_, refl, ap, subst, _∙_}
 use mathlib.Core.List.{List, [], _∷_, _++_, map}
@@ -28,8 +29,10 @@ lines-at Pigs = refl
 lines-at DairyCow = refl
 
 -- l is the list of the number n among ls
-run-of : (ls : List (List ℕ)) (n : ℕ) → n < length ls → {l : List ℕ} → getD ls n [] ≡ l → Run (joined ls) l (getD (starts 0 ls) n 0) (getD (starts 0 ls) (n + 1) 0)
-run-of ls n h e = subst (λ (l : List ℕ). Run (joined ls) l (getD (starts 0 ls) n 0) (getD (starts 0 ls) (n + 1) 0)) e (run-at ls n h)
+run-of : (ls : List (List ℕ)) (n : ℕ) → n < length ls → {l : List ℕ} → getD ls n [] ≡ l
+    → Run (joined ls) l (getD (starts 0 ls) n 0) (getD (starts 0 ls) (n + 1) 0)
+run-of ls n h e = subst (λ (l : List ℕ). Run (joined ls) l (getD (starts 0 ls) n 0) (getD (starts 0 ls) (n + 1) 0)) e
+    (run-at ls n h)
 
 module _ (k : Kind) {n : ℕ} where
   pub path-run : n ≡ kindNumber k → n < length kinds

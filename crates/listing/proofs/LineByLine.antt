@@ -18,7 +18,8 @@ use Rattle.outputs.specs.Grams.{at}
 use Rattle.listing.specs.Bounds.{longestMiddle}
 use Rattle.listing.specs.Numbered.{putTogether, numbered, Known}
 
-pub line-is : (owner middle : List ℕ) (g : ℤ) → owner ++ middle ++ kilogramsOf g ++ (13 ∷ 10 ∷ []) ≡ putTogether owner middle g
+pub line-is : (owner middle : List ℕ) (g : ℤ)
+    → owner ++ middle ++ kilogramsOf g ++ (13 ∷ 10 ∷ []) ≡ putTogether owner middle g
 unfolding putTogether
 line-is owner middle g = refl
 
@@ -36,7 +37,8 @@ pub record Stands (table from : List ℕ) (grams : List ℤ) (n : ℕ) : Type 0 
   pub inside : getD from (n + 1) 0 ≤ length table
   pub short : getD from (n + 1) 0 ≤ getD from n 0 + longestMiddle
 
-pub stands : {table from lines : List ℕ} {grams : List ℤ} → Known table from grams lines → (k : ℕ) → k < length lines → Stands table from grams (getD lines k 0)
+pub stands : {table from lines : List ℕ} {grams : List ℤ} → Known table from grams lines → (k : ℕ) → k < length lines
+    → Stands table from grams (getD lines k 0)
 stands {table} {from} {lines} {grams} known k h =
     record {
       a-number = omega (arith, below, known .as-many);
@@ -83,9 +85,12 @@ module _ (owner table from : List ℕ) (grams : List ℤ) (lines : List ℕ) (k 
 
     pub line-put : {old whole now new : List ℕ} {start next after : ℕ} → ToCome old start whole now (left k) next
         → Wrote now next (putTogether owner middle g) new after → ToCome old start whole new (left (k + 1)) after
-    line-put {old} {whole} {now} {start} {next} t w = gone-on (subst (λ (b : List ℕ). ToCome old start whole now b next) first t) w
+    line-put {old} {whole} {now} {start} {next} t w =
+        gone-on (subst (λ (b : List ℕ). ToCome old start whole now b next) first t) w
 
-  pub all-put : {old whole now : List ℕ} {start next : ℕ} → length lines ≤ k → ToCome old start whole now (left k) next → Wrote old start whole now next
+  pub all-put : {old whole now : List ℕ} {start next : ℕ} → length lines ≤ k → ToCome old start whole now (left k) next
+      → Wrote old start whole now next
   unfolding numbered
   all-put {old} {whole} {now} {start} {next} h t =
-      ended (subst (λ (b : List ℕ). ToCome old start whole now b next) (ap (numbered owner table from grams) (rest-end lines k h)) t)
+      ended (subst (λ (b : List ℕ). ToCome old start whole now b next)
+      (ap (numbered owner table from grams) (rest-end lines k h)) t)

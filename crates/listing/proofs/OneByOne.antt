@@ -1,6 +1,6 @@
 -- The texts of a list's entries written one after the other: a turn, and the end. Assumes nothing.
 use Prim.Native.Nat.{ℕ}
-use mathlib.Core.Path.{_≡_, ap, subst}
+use mathlib.Core.Path.{_≡_, subst}
 use mathlib.Core.List.{List, [], _∷_}
 use Rattle.base.specs.Wrote.{Wrote}
 use Rattle.base.proofs.ToCome.{ToCome, gone-on, ended}

@@ -1,6 +1,5 @@
--- What the contracts of the writing calls come to, in 01's numbers: a buffer as long as the listing is enough, a shorter one is refusal 13
--- with record 0 and stays as it was, and no two results are allowed.
--- Assumes nothing.
+-- What the contracts of the writing calls come to, in 01's numbers: a buffer as long as the listing is enough, a
+-- shorter one is refusal 13 with record 0 and stays as it was, and no two results are allowed. Assumes nothing.
 use Prim.Native.Nat.{ℕ, _≤_, _<_}
 use mathlib.Core.Path.{_≡_, sym, ap, _∙_}
 use mathlib.Core.List.{List, _++_}
@@ -18,11 +17,14 @@ pub record Gave (left : List ℕ) (saying : Says) (new : List ℕ) (r : Written)
 module _ {listing old new : List ℕ} {r : Written} (a : Answered listing old new r) where
   pub enough : length listing ≤ length old → Gave (listing ++ drop (length listing) old) (gives (length listing)) new r
   unfolding leaves answers
-  enough h = let e = le-leb (length listing) (length old) h in record { buffer = rw e at (a .buffer); answer = ap saysOf (rw e at (a .answer)) }
+  enough h = let e = le-leb (length listing) (length old) h in
+      record { buffer = rw e at (a .buffer); answer = ap saysOf (rw e at (a .answer)) }
 
   pub too-short : length old < length listing → Gave old (refuses 13 0) new r
   unfolding leaves answers
-  too-short h = let e = lt-leb (length listing) (length old) h in record { buffer = rw e at (a .buffer); answer = ap saysOf (rw e at (a .answer)) }
+  too-short h = let e = lt-leb (length listing) (length old) h in
+      record { buffer = rw e at (a .buffer); answer = ap saysOf (rw e at (a .answer)) }
 
-pub one-answer : {listing old new new′ : List ℕ} {r r′ : Written} → Answered listing old new r → Answered listing old new′ r′ → (new ≡ new′) × (r ≡ r′)
+pub one-answer : {listing old new new′ : List ℕ} {r r′ : Written} → Answered listing old new r
+    → Answered listing old new′ r′ → (new ≡ new′) × (r ≡ r′)
 one-answer a b = (a .buffer ∙ sym (b .buffer), a .answer ∙ sym (b .answer))

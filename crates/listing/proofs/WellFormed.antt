@@ -26,7 +26,19 @@ use Rattle.outputs.specs.declared.Totals.{Totals}
 use Rattle.outputs.specs.Names.{sectionOf, totalTexts}
 use Rattle.outputs.specs.Grams.{figure, total}
 use Rattle.listing.specs.HerdLines.{pathOf, linesOf}
-use Rattle.listing.specs.Listing.{hasComma, labelField, lineOf, each, moduleOf, herdLine, herdLines, herdListing, totalPath, totalLine, totalsListing}
+use Rattle.listing.specs.Listing.{
+  hasComma,
+  labelField,
+  lineOf,
+  each,
+  moduleOf,
+  herdLine,
+  herdLines,
+  herdListing,
+  totalPath,
+  totalLine,
+  totalsListing,
+}
 use Rattle.listing.specs.Records.{fieldsOf, herdRecords, totalRecords}
 use Rattle.listing.proofs.LabelField.{quoted, bare}
 
@@ -34,7 +46,8 @@ use Rattle.listing.proofs.LabelField.{quoted, bare}
 
 -- bytes past the comma are text: letters, digits, `_`, `:`, `.` and `-`
 past-comma : (b : ℕ) → 44 < b → Text b
-past-comma b h = record { no-comma = λ e. omega arith; no-quote = λ e. omega arith; no-cr = λ e. omega arith; no-lf = λ e. omega arith }
+past-comma b h = record
+    { no-comma = λ e. omega arith; no-quote = λ e. omega arith; no-cr = λ e. omega arith; no-lf = λ e. omega arith }
 
 abbrev pub allPast : List ℕ → Bool
 allPast s = all (ltb 44) s
@@ -51,7 +64,8 @@ plain-append (Plain.byte t p) q = Plain.byte t (plain-append p q)
 
 plain-lowest : (k n : ℕ) → Plain (lowest k n)
 plain-lowest zero n = Plain.none
-plain-lowest (suc k) n = plain-append (plain-lowest k (n / 10)) (Plain.byte (past-comma (48 + n % 10) (omega arith)) Plain.none)
+plain-lowest (suc k) n =
+    plain-append (plain-lowest k (n / 10)) (Plain.byte (past-comma (48 + n % 10) (omega arith)) Plain.none)
 
 plain-sign : (g : ℤ) → Plain (sign g)
 unfolding sign
@@ -62,7 +76,8 @@ plain-kilograms : (g : ℤ) → Plain (kilogramsOf g)
 unfolding kilogramsOf thousandthsOf wholeOf
 plain-kilograms g =
     let n = natAbs g / 1000 in
-    plain-append (plain-sign g) (plain-append (plain-append (plain-lowest (width n) n) (plain (bytes ".") refl)) (plain-lowest 3 (natAbs g)))
+    plain-append (plain-sign g)
+    (plain-append (plain-append (plain-lowest (width n) n) (plain (bytes ".") refl)) (plain-lowest 3 (natAbs g)))
 
 plain-path : (k : Kind) → Plain (bytes (pathOf k))
 plain-path Roughage = plain _ refl
@@ -88,7 +103,8 @@ totals-plain = refl
 pub good-bytes : (l : Label) → labelOk l ≡ true → allOk (text l) ≡ true
 unfolding labelOk
 good-bytes l e =
-    both-true (leb (l .len) 16) (allOk (text l)) (both-true (leb 1 (l .len)) (leb (l .len) 16 && allOk (text l)) e .1) .1
+    both-true (leb (l .len) 16) (allOk (text l)) (both-true (leb 1 (l .len)) (leb (l .len) 16 && allOk (text l)) e .1)
+    .1
 
 record Good (b : ℕ) : Type 0 where
   low : 32 ≤ b
@@ -123,7 +139,8 @@ unquoted (b ∷ s) e c =
     let g = good b (h .0) in
     let n = comma-free b s c in
     let l : 32 ≤ b = g .low in
-    Plain.byte (record { no-comma = n .0; no-quote = g .no-quote; no-cr = λ d. omega arith; no-lf = λ d. omega arith }) (unquoted s (h .1) (n .1))
+    Plain.byte (record { no-comma = n .0; no-quote = g .no-quote; no-cr = λ d. omega arith; no-lf = λ d. omega arith })
+    (unquoted s (h .1) (n .1))
 
 pub label-field : (s : List ℕ) → allOk s ≡ true → FieldOf s (labelField s)
 label-field s e = go (hasComma s) refl
@@ -140,29 +157,35 @@ pub record Line (cs : List (List ℕ)) (t : List ℕ) : Type 0 where
   pub reads : RecordOf cs front
   pub ended : t ≡ front ++ (cr ∷ lf ∷ [])
 
-line : (label path name : List ℕ) (g : ℤ) → FieldOf label (labelField label) → Plain path → Plain name → Line (fieldsOf label path name g) (lineOf label path name g)
+line : (label path name : List ℕ) (g : ℤ) → FieldOf label (labelField label) → Plain path → Plain name
+    → Line (fieldsOf label path name g) (lineOf label path name g)
 unfolding lineOf
 line label path name g l p n =
     record {
       front = labelField label ++ (comma ∷ (path ++ (comma ∷ (name ++ (comma ∷ kilogramsOf g)))));
-      reads = RecordOf.more l (RecordOf.more (FieldOf.plain p) (RecordOf.more (FieldOf.plain n) (RecordOf.last (FieldOf.plain (plain-kilograms g)))));
+      reads = RecordOf.more l
+          (RecordOf.more (FieldOf.plain p)
+          (RecordOf.more (FieldOf.plain n) (RecordOf.last (FieldOf.plain (plain-kilograms g)))));
       ended = simp append-assoc;
     }
 
 -- lines of what passes a test, one after the other
 pub file : {A : Type 0} (fields : A → List (List ℕ)) (of : A → List ℕ) (test : A → Bool)
-    → ((x : A) → test x ≡ true → Line (fields x) (of x)) → (xs : List A) → all test xs ≡ true → FileOf (map fields xs) (each of xs)
+    → ((x : A) → test x ≡ true → Line (fields x) (of x)) → (xs : List A) → all test xs ≡ true
+    → FileOf (map fields xs) (each of xs)
 file fields of test h [] t = FileOf.none
 file fields of test h (x ∷ xs) t =
     let b = both-true (test x) (all test xs) t in
     let l = h x (b .0) in
-    let e : l .front ++ (cr ∷ lf ∷ each of xs) ≡ of x ++ each of xs = sym (ap (λ (t : List ℕ). t ++ each of xs) (l .ended) ∙ append-assoc (l .front) (cr ∷ lf ∷ []) (each of xs)) in
+    let e : l .front ++ (cr ∷ lf ∷ each of xs) ≡ of x ++ each of xs =
+    sym (ap (λ (t : List ℕ). t ++ each of xs) (l .ended) ∙ append-assoc (l .front) (cr ∷ lf ∷ []) (each of xs)) in
     subst (FileOf (fields x ∷ map fields xs)) e (FileOf.more (l .reads) (file fields of test h xs (b .1)))
 
 -- ---- the listings
 
 -- a herd's listing, of a good label, is a file of its records
-pub listing-reads : (l : Label) (k : Kind) (f : Figures) → labelOk l ≡ true → FileOf (herdRecords l k f) (herdListing l k f)
+pub listing-reads : (l : Label) (k : Kind) (f : Figures) → labelOk l ≡ true
+    → FileOf (herdRecords l k f) (herdListing l k f)
 unfolding herdLines
 listing-reads l k f ok =
     file (λ (n : String). fieldsOf (text l) (moduleOf k n) (bytes n) (figure n f)) (herdLine (text l) k f) plainName
@@ -175,6 +198,7 @@ listing-reads l k f ok =
 pub totals-read : (t : Totals) → FileOf (totalRecords t) (totalsListing t)
 unfolding totalsListing
 totals-read t =
-    file (λ (n : String). fieldsOf [] (bytes totalPath) (bytes n) (total n t)) (totalLine t) (λ (n : String). allPast (bytes n))
+    file (λ (n : String). fieldsOf [] (bytes totalPath) (bytes n) (total n t)) (totalLine t)
+    (λ (n : String). allPast (bytes n))
     (λ n e. line [] (bytes totalPath) (bytes n) (total n t) (label-field [] refl) (plain _ refl) (plain _ e))
     totalTexts totals-plain

@@ -1,5 +1,6 @@
--- What a writing call leaves in the lent buffer and what it says. 01: "A writing call gives the listing's length; bytes past it stay as they
--- were." Where the buffer is shorter than the listing it is refusal 13 with record 0, and nothing is written.
+-- What a writing call leaves in the lent buffer and what it says. 01: "A writing call gives the listing's length; bytes
+-- past it stay as they were." Where the buffer is shorter than the listing it is refusal 13 with record 0, and nothing
+-- is written.
 use Prim.Native.Nat.{ℕ}
 use mathlib.Core.Path.{_≡_}
 use mathlib.Core.Bool.{Bool}

@@ -1,4 +1,5 @@
--- How long a listing can be, and its parts. The code's buffers are this long, and its contracts ask for this room; no reader has to believe it.
+-- How long a listing can be, and its parts. The code's buffers are this long, and its contracts ask for this room; no
+-- reader has to believe it.
 use Prim.Native.Nat.{ℕ, _+_, _*_}
 use Prim.Native.String.{String}
 use mathlib.Core.Bool.{Bool, true, false}

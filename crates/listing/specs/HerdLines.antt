@@ -1,4 +1,5 @@
--- 01, The listing, "Order", and 02, W1 and W9: the names that a herd of each kind lists, each under the section of its row.
+-- 01, The listing, "Order", and 02, W1 and W9: the names that a herd of each kind lists, each under the section of its
+-- row.
 use Prim.Native.String.{String}
 use mathlib.Core.List.{List, [], _∷_, _++_}
 use Rattle.inputs.specs.declared.Kind.{Kind}

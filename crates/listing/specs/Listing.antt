@@ -1,5 +1,5 @@
--- 01, The listing, byte by byte: "RFC 4180 again, CRLF after every record: label, module, output name, kilograms with exactly three
--- decimals, `-` in front only below zero. A label with a comma is quoted, no other field is."
+-- 01, The listing, byte by byte: "RFC 4180 again, CRLF after every record: label, module, output name, kilograms with
+-- exactly three decimals, `-` in front only below zero. A label with a comma is quoted, no other field is."
 use Prim.Native.Nat.{ℕ}
 use Prim.Native.String.{String}
 use mathlib.Core.Bool.{Bool, true, false}

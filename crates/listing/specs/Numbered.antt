@@ -1,5 +1,5 @@
--- The listing as the code goes about it: by the numbers of names and kinds, with texts from tables. No reader has to believe it:
--- proofs/AsListed.antt shows that it is 01's listing.
+-- The listing as the code goes about it: by the numbers of names and kinds, with texts from tables. No reader has to
+-- believe it: proofs/AsListed.antt shows that it is 01's listing.
 use Prim.Native.Nat.{ℕ, _+_}
 use Prim.Native.String.{String}
 use mathlib.Core.Path.{_≡_}

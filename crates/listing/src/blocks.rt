@@ -18,7 +18,8 @@ fn put_block(out: &mut [u8], at: usize, t: &[u8], k: usize) -> usize
     base::put(out, at, &bytes)
 }
 
-// Copies t, of at most three blocks, into out from `at` on, and gives the place past it. The last block overlaps the one before it.
+// Copies t, of at most three blocks, into out from `at` on, and gives the place past it. The last block overlaps the
+// one before it.
 pub fn put_text(out: &mut [u8], at: usize, t: &[u8]) -> usize
     requires { ⌜ (length (now t) ≤ longestText) × (at + length (now t) ≤ length (now out)) ⌝ }
     ensures { λ r. ⌜ Wrote (now (out .entry)) at (now (t .entry)) (now (out .exit)) r ⌝ }

@@ -27,7 +27,8 @@ fn has_comma(label: &[u8]) -> bool
 // The label's field from `at` on; the end of it.
 pub fn put_label(out: &mut [u8], at: usize, label: Label) -> usize
     requires { ⌜ at + longestField ≤ length (now out) ⌝ }
-    ensures { λ r. ⌜ Wrote (now (out .entry)) at (labelField (text label)) (now (out .exit)) r × (r ≤ at + longestField) ⌝ }
+    ensures { λ r. ⌜ Wrote (now (out .entry)) at (labelField (text label)) (now (out .exit)) r
+        × (r ≤ at + longestField) ⌝ }
 {
     let in_label = label.bytes;
     let bytes = base::part_of(&in_label, 0, label.len);

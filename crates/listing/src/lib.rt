@@ -1,5 +1,5 @@
-// 01, The listing: a herd's lines and the totals' lines, byte by byte, into a lent buffer; or refusal 13, and nothing is written. Knows
-// nothing of files.
+// 01, The listing: a herd's lines and the totals' lines, byte by byte, into a lent buffer; or refusal 13, and nothing
+// is written. Knows nothing of files.
 mod texts; // the line list
 pub mod blocks; // a text copied a block at a time
 pub mod labels; // a label as a field

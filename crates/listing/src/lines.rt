@@ -7,8 +7,10 @@ ghost use Rattle.listing.specs.Bounds.{longestOwner, longestMiddle};
 ghost use Rattle.listing.specs.Numbered.{Known, putTogether, numbered};
 
 fn put_line(out: &mut [u8], at: usize, owner: &[u8], middle: &[u8], grams: i64) -> usize
-    requires { ⌜ (length (now owner) ≤ longestOwner) × (length (now middle) ≤ longestMiddle) × (at + length (putTogether (now owner) (now middle) grams) ≤ length (now out)) ⌝ }
-    ensures { λ r. ⌜ Wrote (now (out .entry)) at (putTogether (now (owner .entry)) (now (middle .entry)) grams) (now (out .exit)) r ⌝ }
+    requires { ⌜ (length (now owner) ≤ longestOwner) × (length (now middle) ≤ longestMiddle)
+        × (at + length (putTogether (now owner) (now middle) grams) ≤ length (now out)) ⌝ }
+    ensures { λ r. ⌜ Wrote (now (out .entry)) at (putTogether (now (owner .entry)) (now (middle .entry)) grams)
+        (now (out .exit)) r ⌝ }
 {
     let a = blocks::put_text(out, at, owner);
     let b = blocks::put_text(out, a, middle);
@@ -26,8 +28,11 @@ pub fn put_lines(
     grams: &[i64],
     lines: &[usize],
 ) -> usize
-    requires { ⌜ Known (now middles) (now starts) (now grams) (now lines) × (length (now owner) ≤ longestOwner) × (at + length (numbered (now owner) (now middles) (now starts) (now grams) (now lines)) ≤ length (now out)) ⌝ }
-    ensures { λ r. ⌜ Wrote (now (out .entry)) at (numbered (now (owner .entry)) (now (middles .entry)) (now (starts .entry)) (now (grams .entry)) (now (lines .entry))) (now (out .exit)) r ⌝ }
+    requires { ⌜ Known (now middles) (now starts) (now grams) (now lines) × (length (now owner) ≤ longestOwner)
+        × (at + length (numbered (now owner) (now middles) (now starts) (now grams) (now lines)) ≤ length (now out)) ⌝ }
+    ensures { λ r. ⌜ Wrote (now (out .entry)) at
+        (numbered (now (owner .entry)) (now (middles .entry)) (now (starts .entry)) (now (grams .entry))
+        (now (lines .entry))) (now (out .exit)) r ⌝ }
 {
     let mut next = at;
     let mut k = 0;

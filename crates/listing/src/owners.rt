@@ -40,7 +40,8 @@ pub fn list_of(kind: Kind) -> usize
 // From the front of the buffer on.
 pub fn put_owner(out: &mut [u8], label: Label, kind: Kind) -> usize
     requires { ⌜ longestOwner ≤ length (now out) ⌝ }
-    ensures { λ r. ⌜ Wrote (now (out .entry)) 0 (ownerOf (text label) (bytes (pathOf kind))) (now (out .exit)) r × (r ≤ longestOwner) ⌝ }
+    ensures { λ r. ⌜ Wrote (now (out .entry)) 0 (ownerOf (text label) (bytes (pathOf kind))) (now (out .exit)) r
+        × (r ≤ longestOwner) ⌝ }
 {
     let a = labels::put_label(out, 0, label);
     let b = base::put_byte(out, a, b',');

@@ -1,5 +1,6 @@
-// The line list of 01, The listing, once: the texts of a line and the lines of each listing, by number. Texts and lists stand one after the
-// other in a table, with where each starts. A constant table is built anew at each use: a call builds it once and lends it.
+// The line list of 01, The listing, once: the texts of a line and the lines of each listing, by number. Texts and lists
+// stand one after the other in a table, with where each starts. A constant table is built anew at each use: a call
+// builds it once and lends it.
 use outputs::names;
 use outputs::total_names;
 

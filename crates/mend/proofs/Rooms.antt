@@ -140,5 +140,15 @@ module _ (s : List ℕ) (m : Bool) (em : m ≡ marked s) (f : ℕ) (ef : f ≡ t
               answer = rw (e1, e2) (ap₂ Mended mended-long change-many);
             }
 
-pub ruleset mend-steps =
-    (start-inside, start-passed, crs-few, change-many, text-fits, mark-fits, list-fits, out-short, list-short, all-written)
+pub ruleset mend-steps = (
+  start-inside,
+  start-passed,
+  crs-few,
+  change-many,
+  text-fits,
+  mark-fits,
+  list-fits,
+  out-short,
+  list-short,
+  all-written,
+)

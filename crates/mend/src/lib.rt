@@ -179,7 +179,8 @@ fn put_mark(list: &mut [usize], marked: bool) -> usize
 
 // The changes of the text.
 fn put_changes(s: &[u8], from: usize, list: &mut [usize], start: usize) -> usize
-    requires { ⌜ (passedOf (take from (now s)) ≡ passedOf []) × (start + length (listFrom (now s) from) ≤ length (now list)) ⌝ }
+    requires { ⌜ (passedOf (take from (now s)) ≡ passedOf [])
+        × (start + length (listFrom (now s) from) ≤ length (now list)) ⌝ }
     ensures { λ r. ⌜ Wrote (now (list .entry)) start (listFrom (now (s .entry)) from) (now (list .exit)) r ⌝ }
 {
     let mut passed = Passed::nothing();
@@ -205,7 +206,8 @@ pub fn change_count(s: &[u8]) -> usize
 // The mended file and the list of changes, kind and place one after the other; or 13 with record 0 where either lent
 // slice has no room, and both as they were.
 pub fn mend(s: &[u8], out: &mut [u8], list: &mut [usize]) -> Answer
-    ensures { λ r. ⌜ Mends (now (s .entry)) (now (out .entry)) (now (list .entry)) (now (out .exit)) (now (list .exit)) r ⌝ }
+    ensures { λ r. ⌜ Mends (now (s .entry)) (now (out .entry)) (now (list .entry)) (now (out .exit)) (now (list .exit))
+        r ⌝ }
 {
     let marked = is_marked(s);
     let from = text_start(marked);

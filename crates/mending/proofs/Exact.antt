@@ -104,7 +104,15 @@ pub listed-bare : (s : List ℕ) (place : ℕ) → Lists (cr-put place) (changes
 listed-bare s place l =
     let r = listed-from [] s place (past-mark (marked s) place (changesFrom [] s) (rw (changes-all s) at l)) in
     let k = bare-is (r .passed) lf (r .is) in
-    record { before = r .passed; after = r .after; stands = r .stands; at = r .at; no-cr = k .no-cr; even-quotes = k .even-quotes }
+    record {
+      before = r .passed;
+      after = r .after;
+      stands = r .stands;
+      at = r .at;
+      no-cr = k .no-cr;
+      even-quotes =
+          k .even-quotes;
+    }
 
 pub bare-in-list : (s : List ℕ) (place : ℕ) → BareAt s place → Lists (cr-put place) (changesOf s)
 bare-in-list s place b =

@@ -7,7 +7,17 @@ use mathlib.Core.List.{List, [], _∷_, _++_}
 use native.Mathlib.Omega.{arith}
 use lib.ListN.{length, take, drop, length-append}
 use Rattle.mend.specs.Faults.{cr, mark, marked, bare}
-use Rattle.mend.specs.Mended.{Change, mendedByte, changeAt, mendedFrom, changesFrom, textStart, markChange, mendedOf, changesOf}
+use Rattle.mend.specs.Mended.{
+  Change,
+  mendedByte,
+  changeAt,
+  mendedFrom,
+  changesFrom,
+  textStart,
+  markChange,
+  mendedOf,
+  changesOf,
+}
 use Rattle.mend.specs.Mended.Change.{cr-put}
 use Rattle.mend.proofs.Marks.{marked-take, marked-split}
 use Rattle.mending.specs.Undoing.{undoneFrom, undone, madeFrom, made}

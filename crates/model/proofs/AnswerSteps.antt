@@ -1,6 +1,5 @@
--- The steps of the answers, each in the form that a place of the code wants: an accepted record's figures, and the loop that adds up the
--- figures of an accepted farm.
--- Assumes nothing.
+-- The steps of the answers, each in the form that a place of the code wants: an accepted record's figures, and the loop
+-- that adds up the figures of an accepted farm. Assumes nothing.
 use Prim.Native.Nat.{ℕ, _+_, _*_, _≤_, _<_}
 use mathlib.Core.Path.{_≡_, sym, ap, _∙_}
 use mathlib.Core.List.{List, [], map}
@@ -76,7 +75,8 @@ pub ruleset herd-answers = (accepted-sound, accepted-exact, is-herd-answer, is-h
 pub record Adding (f : Farm) (i : ℕ) (sum : Figures) : Type 0 where
   pub room : f .count ≤ 64
   pub within : i ≤ f .count
-  pub left : addUp plusGrams (λ h. herdFigures h .grams) (sum .grams) (drop i (herdsOf f)) ≡ summed herdFigures (herdsOf f)
+  pub left : addUp plusGrams (λ h. herdFigures h .grams) (sum .grams) (drop i (herdsOf f))
+      ≡ summed herdFigures (herdsOf f)
   pub small : To (i * most) (sum .grams)
 
 -- the figures g of the next herd may be added, and then those of i + 1 herds were
@@ -86,7 +86,8 @@ pub record Turned (f : Farm) (i : ℕ) (sum g : Figures) : Type 0 where
 
 module _ (f : Farm) (accepted : checkFarm f ≡ Accepted) where
   pub adding-starts : (sum : Figures) → sum .grams ≡ zeros → Adding f 0 sum
-  adding-starts sum e = record { room = farm-count f accepted; within = omega arith; left = rw e; small = rw e (zeros-to 0) }
+  adding-starts sum e =
+      record { room = farm-count f accepted; within = omega arith; left = rw e; small = rw e (zeros-to 0) }
 
   module _ (i : ℕ) (sum : Figures) (inv : Adding f i sum) where
     pub adding-ends : f .count ≤ i → Added f sum
@@ -96,7 +97,8 @@ module _ (f : Farm) (accepted : checkFarm f ≡ Accepted) where
           small = widen (i * most) figureMost (inv .small) (omega arith);
         }
 
-    module _ (long : length (f .herds) ≡ 64) (b : i < f .count) (d : Herd) (t : Inputs) (et : t ≡ typedOf (getD (f .herds) i d)) where
+    module _ (long : length (f .herds) ≡ 64) (b : i < f .count) (d : Herd) (t : Inputs)
+        (et : t ≡ typedOf (getD (f .herds) i d)) where
       pub next-sound : Sound t
       next-sound = rw et (herd-sound f accepted long i b d)
 
@@ -110,7 +112,8 @@ module _ (f : Farm) (accepted : checkFarm f ≡ Accepted) where
               room = inv .room;
               within = omega arith;
               left = rw (er, eg, et) (rw (taken-at (f .count) (f .herds) i d b j) at (inv .left));
-              small = rw er (widen (i * most + most) ((i + 1) * most) (plus-to (i * most) most (sum .grams) (g .grams) (inv .small) s) (omega arith));
+              small = rw er (widen (i * most + most) ((i + 1) * most)
+                  (plus-to (i * most) most (sum .grams) (g .grams) (inv .small) s) (omega arith));
             };
           }
 

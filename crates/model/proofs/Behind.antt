@@ -55,7 +55,8 @@ module _ (k : Kind) (h g : Herd) (front : take (countOf k) (g .slots) ≡ take (
       ∙ ap (λ (l : List Slot). getD l i noSlot) front
       ∙ getD-take (countOf k) (h .slots) i noSlot b)
 
-same-cattle : (h g : Herd) → ((i : ℕ) → i < 9 → givenAt g i ≡ givenAt h i) → (k : CattleKind) → cattleOf k g ≡ cattleOf k h
+same-cattle : (h g : Herd) → ((i : ℕ) → i < 9 → givenAt g i ≡ givenAt h i) → (k : CattleKind)
+    → cattleOf k g ≡ cattleOf k h
 unfolding outdoorOf
 same-cattle h g s k =
     rw (

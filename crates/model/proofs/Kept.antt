@@ -1,5 +1,5 @@
--- What goes in comes out: the balances of specs/Kept.antt hold of every sound herd, of whatever kind, and of the totals of every accepted
--- farm. So no difference in whole grams ever stopped at zero where less than nothing was left.
+-- What goes in comes out: the balances of specs/Kept.antt hold of every sound herd, of whatever kind, and of the totals
+-- of every accepted farm. So no difference in whole grams ever stopped at zero where less than nothing was left.
 -- Assumes nothing.
 use Prim.Native.Nat.{ℕ, _+_, _-_}
 use Prim.Native.String.{String}
@@ -34,7 +34,15 @@ use Rattle.excretion.specs.Excretion.{ExcretionIn}
 use Rattle.yard.proofs.OnYard.{yard-keeps-n, yard-keeps-tan}
 use Rattle.pasture.specs.Pasture.{outdoorIntoGrazing, roughageIntoGrazing, pigsIntoGrazing}
 use Rattle.pasture.proofs.OnPasture.{pasture-keeps-n, pasture-keeps-tan}
-use Rattle.pasture.proofs.Into.{outdoor-into-le, roughage-into-le, pigs-into-le, outdoor-pasture-modest, roughage-pasture-modest, roughage-housing-modest, pigs-pasture-modest}
+use Rattle.pasture.proofs.Into.{
+  outdoor-into-le,
+  roughage-into-le,
+  pigs-into-le,
+  outdoor-pasture-modest,
+  roughage-pasture-modest,
+  roughage-housing-modest,
+  pigs-pasture-modest,
+}
 use Rattle.housing.proofs.InHousing.{housing-keeps-n, housing-keeps-tan}
 use Rattle.pig_house.proofs.Through.{pig-house-keeps-n, pig-house-keeps-tan}
 use Rattle.typed.specs.Typed.{roughageOf, pigsOf, typedOf}
@@ -84,10 +92,13 @@ of-rest x z a b c d e = e ∙ +ℤ-comm z (pos (a + b + c + d)) ∙ rw (zero-add
 -- the balances of specs/Kept.antt from those of the sections
 module _ (f : FiguresIn cutting) where
   abbrev gases : ℕ
-  gases = f .grazing .«nh3_ngrazing» + f .grazing .«n2_ngrazing» + f .grazing .«no_ngrazing» + f .grazing .«n2o_ngrazing»
+  gases = f .grazing .«nh3_ngrazing» + f .grazing .«n2_ngrazing» + f .grazing .«no_ngrazing»
+      + f .grazing .«n2o_ngrazing»
 
-  keeps-from : f .excretion .«n_excretion» ≡ f .yard .«n_into_yard» + f .grazing .«n_into_grazing» + f .housing .«n_into_housing»
-      → f .excretion .«tan_excretion» ≡ f .yard .«tan_into_yard» + f .grazing .«tan_into_grazing» + f .housing .«tan_into_housing»
+  keeps-from : f .excretion .«n_excretion» ≡ f .yard .«n_into_yard» + f .grazing .«n_into_grazing»
+      + f .housing .«n_into_housing»
+      → f .excretion .«tan_excretion» ≡ f .yard .«tan_into_yard» + f .grazing .«tan_into_grazing»
+      + f .housing .«tan_into_housing»
       → f .grazing .«n_into_grazing» ≡ f .grazing .«n_remain_grazing» + gases
       → pos (f .grazing .«tan_into_grazing») ≡ f .grazing .«tan_remain_grazing» +ℤ pos gases
       → f .yard .«n_into_yard» ≡ f .yard .«nh3_nyard» + f .yard .«n_outyard_liquid»
@@ -98,7 +109,11 @@ module _ (f : FiguresIn cutting) where
       more (record { kept = of-three _ _ _ _ n })
       (more (record { kept = of-three _ _ _ _ tan })
       (more (record { kept = of-five _ _ _ _ _ _ pasture-n })
-      (more (record { kept = of-rest _ (g .«tan_remain_grazing») (g .«nh3_ngrazing») (g .«n2_ngrazing») (g .«no_ngrazing») (g .«n2o_ngrazing») pasture-tan })
+      (more (record {
+        kept =
+            of-rest _ (g .«tan_remain_grazing») (g .«nh3_ngrazing») (g .«n2_ngrazing») (g .«no_ngrazing»)
+            (g .«n2o_ngrazing») pasture-tan;
+      })
       (more (record { kept = of-two _ _ _ yard-n })
       (more (record { kept = of-two _ _ _ yard-tan }) none)))))
 
@@ -107,14 +122,16 @@ made-keeps (of-roughage r e s m) =
     let n = e .«n_excretion» in
     let tan = e .«tan_excretion» in
     keeps-from _ (omega (arith, roughage-into-le r s n)) (omega (arith, roughage-into-le r s tan))
-    (pasture-keeps-n roughageRates (roughageIntoGrazing cutting r n) (roughageIntoGrazing cutting r tan) roughage-rates-modest (roughage-pasture-modest r s n tan m))
+    (pasture-keeps-n roughageRates (roughageIntoGrazing cutting r n) (roughageIntoGrazing cutting r tan)
+    roughage-rates-modest (roughage-pasture-modest r s n tan m))
     (pasture-keeps-tan roughageRates (roughageIntoGrazing cutting r n) (roughageIntoGrazing cutting r tan))
     refl refl
 made-keeps (of-outdoor r o e hr s m) =
     let n = e .«n_excretion» in
     let tan = e .«tan_excretion» in
     keeps-from _ (omega (arith, outdoor-into-le o s n)) (omega (arith, outdoor-into-le o s tan))
-    (pasture-keeps-n r (outdoorIntoGrazing cutting o n) (outdoorIntoGrazing cutting o tan) hr (outdoor-pasture-modest o s n tan m))
+    (pasture-keeps-n r (outdoorIntoGrazing cutting o n) (outdoorIntoGrazing cutting o tan) hr
+    (outdoor-pasture-modest o s n tan m))
     (pasture-keeps-tan r (outdoorIntoGrazing cutting o n) (outdoorIntoGrazing cutting o tan))
     (yard-keeps-n o s n tan m) (yard-keeps-tan o s n tan)
 made-keeps (of-pigs p e s m) =
@@ -122,7 +139,8 @@ made-keeps (of-pigs p e s m) =
     let n = e .«n_excretion» in
     let tan = e .«tan_excretion» in
     keeps-from _ (omega (arith, pigs-into-le t n)) (omega (arith, pigs-into-le t tan))
-    (pasture-keeps-n pigsRates (pigsIntoGrazing cutting t n) (pigsIntoGrazing cutting t tan) pigs-rates-modest (pigs-pasture-modest t n tan m))
+    (pasture-keeps-n pigsRates (pigsIntoGrazing cutting t n) (pigsIntoGrazing cutting t tan) pigs-rates-modest
+    (pigs-pasture-modest t n tan m))
     (pasture-keeps-tan pigsRates (pigsIntoGrazing cutting t n) (pigsIntoGrazing cutting t tan))
     refl refl
 
@@ -134,7 +152,8 @@ pub kept-by-herd : (h : Herd) → checkHerd h ≡ Accepted → Keeps (herdFigure
 kept-by-herd h e = kept (typedOf h) (typed-sound h e)
 
 -- the housing of roughage-consuming animals
-housing-keeps : (r : Roughage) (e : ExcretionIn cutting) → SoundRoughage r → Modest (e .«n_excretion») (e .«tan_excretion») → KeepsHousing (herdOf (roughageOn cutting r e))
+housing-keeps : (r : Roughage) (e : ExcretionIn cutting) → SoundRoughage r
+    → Modest (e .«n_excretion») (e .«tan_excretion») → KeepsHousing (herdOf (roughageOn cutting r e))
 housing-keeps r e s m =
     let n = e .«n_excretion» in
     let tan = e .«tan_excretion» in
@@ -174,7 +193,8 @@ kept-in-pig-house h e k = rw (typed-pigs h k) (pigs-keep (pigsOf h) (pigs-sound 
 abbrev inTotals : Balance → Bool
 inTotals b = isAlone (b .amount) && all isAlone (b .parts)
 
-first-kept : {grams : String → ℤ} {b : Balance} {bs : List Balance} → Each (Balanced grams) (b ∷ bs) → grams (b .amount) ≡ signedTotal grams (b .parts)
+first-kept : {grams : String → ℤ} {b : Balance} {bs : List Balance} → Each (Balanced grams) (b ∷ bs)
+    → grams (b .amount) ≡ signedTotal grams (b .parts)
 first-kept (more p ps) = p .kept
 
 -- what a balance says of each herd it says of the totals
@@ -182,13 +202,20 @@ all-balance : (l : List Figures) (bs : List Balance) → T (all inTotals bs)
     → Each (λ f. Each (Balanced (λ t. figure t f)) bs) l → Each (Balanced (λ t. total t (totalsOf l))) bs
 all-balance l [] h es = none
 all-balance l (b ∷ bs) h es =
-    more (record { kept = totals-balance l (b .amount) (b .parts) (both-left (inTotals b) (all inTotals bs) h) (each-map (λ f (e : Each (Balanced (λ t. figure t f)) (b ∷ bs)). first-kept e) es) })
-    (all-balance l bs (both-right (inTotals b) (all inTotals bs) h) (each-map (λ f (e : Each (Balanced (λ t. figure t f)) (b ∷ bs)). each-tail e) es))
+    more (record {
+      kept =
+          totals-balance l (b .amount) (b .parts) (both-left (inTotals b) (all inTotals bs) h)
+          (each-map (λ f (e : Each (Balanced (λ t. figure t f)) (b ∷ bs)). first-kept e) es);
+    })
+    (all-balance l bs (both-right (inTotals b) (all inTotals bs) h)
+    (each-map (λ f (e : Each (Balanced (λ t. figure t f)) (b ∷ bs)). each-tail e) es))
 
 pub kept-in-totals : (f : Farm) → checkFarm f ≡ Accepted → KeepsTotals (farmAnswer f .totals)
 unfolding farmAnswer
-kept-in-totals f e = rw e (all-balance (map herdFigures (herdsOf f)) farmBalances tt (of-herds (herdsOf f) (farm-each f e)))
+kept-in-totals f e =
+    rw e (all-balance (map herdFigures (herdsOf f)) farmBalances tt (of-herds (herdsOf f) (farm-each f e)))
   where
-    of-herds : (l : List Herd) → Each (λ h. checkHerd h ≡ Accepted) l → Each (λ f. Each (Balanced (λ t. figure t f)) farmBalances) (map herdFigures l)
+    of-herds : (l : List Herd) → Each (λ h. checkHerd h ≡ Accepted) l
+        → Each (λ f. Each (Balanced (λ t. figure t f)) farmBalances) (map herdFigures l)
     of-herds [] none = none
     of-herds (h ∷ l) (more p ps) = more (each-front farmBalances yardBalances (kept-by-herd h p)) (of-herds l ps)

@@ -14,7 +14,6 @@ use Rattle.base.specs.Reordered.{Reordered}
 use Rattle.base.proofs.Reordered.{reordered-map}
 use Rattle.base.proofs.Each.{each-same}
 use Rattle.inputs.specs.declared.Kind.the-variants as kinds
-use Rattle.farm.specs.declared.Given.{Given}
 use Rattle.farm.specs.declared.Herd.{Herd}
 use Rattle.farm.specs.declared.Farm.{Farm}
 use Rattle.farm.specs.declared.Checked.the-variants.{Accepted}
@@ -22,7 +21,6 @@ use Rattle.checks.specs.Checks.{checkHerd, checkFarm, herdsOf}
 use Rattle.cut.proofs.Shares.{part-le}
 use Rattle.amounts.specs.Units.{billionths, year}
 use Rattle.amounts.specs.Arithmetic.{cutting}
-use Rattle.amounts.specs.Bounds.{Modest}
 use Rattle.kinds.specs.declared.ExerciseYard.the-variants.{NotAvailable}
 use Rattle.kinds.specs.declared.HousingType.{HousingType}
 use Rattle.kinds.specs.declared.HousingType.the-variants.{Outdoor}
@@ -91,7 +89,7 @@ use Rattle.model.specs.Truths.{
   pastureNames,
   houseNames,
 }
-use Rattle.model.proofs.OfKind.{typed-roughage, typed-cattle, typed-pigs, roughage-sound, cattle-sound}
+use Rattle.model.proofs.OfKind.{typed-cattle, typed-pigs, roughage-sound, cattle-sound}
 
 abbrev herdOf : FiguresIn cutting → Figures
 herdOf f = record { grams = gramsOf f }

@@ -1,5 +1,5 @@
--- What goes in comes out: the balances that hold between the figures of a herd, and between the totals of a farm, in whole grams and after
--- all cuts. proofs/Kept.antt shows them of every record that is accepted.
+-- What goes in comes out: the balances that hold between the figures of a herd, and between the totals of a farm, in
+-- whole grams and after all cuts. proofs/Kept.antt shows them of every record that is accepted.
 use Prim.Native.String.{String}
 use mathlib.Core.Path.{_≡_}
 use mathlib.Core.List.{List, [], _∷_, _++_}
@@ -23,14 +23,15 @@ a goes ps = record { amount = a; parts = ps }
 pub record Balanced (grams : String → ℤ) (b : Balance) : Type 0 where
   pub kept : grams (b .amount) ≡ signedTotal grams (b .parts)
 
--- what is excreted goes onto the yard, onto pasture and into the housing; what comes onto pasture is emitted there or remains (of the TAN less
--- than nothing may remain, and the balance holds then too)
+-- what is excreted goes onto the yard, onto pasture and into the housing; what comes onto pasture is emitted there or
+-- remains (of the TAN less than nothing may remain, and the balance holds then too)
 abbrev pub farmBalances : List Balance
 farmBalances =
     "n_excretion" goes ("n_into_yard" ∷ "n_into_grazing" ∷ "n_into_housing" ∷ [])
     ∷ "tan_excretion" goes ("tan_into_yard" ∷ "tan_into_grazing" ∷ "tan_into_housing" ∷ [])
     ∷ "n_into_grazing" goes ("nh3_ngrazing" ∷ "n2_ngrazing" ∷ "no_ngrazing" ∷ "n2o_ngrazing" ∷ "n_remain_grazing" ∷ [])
-    ∷ "tan_into_grazing" goes ("nh3_ngrazing" ∷ "n2_ngrazing" ∷ "no_ngrazing" ∷ "n2o_ngrazing" ∷ "tan_remain_grazing" ∷ [])
+    ∷ "tan_into_grazing" goes
+    ("nh3_ngrazing" ∷ "n2_ngrazing" ∷ "no_ngrazing" ∷ "n2o_ngrazing" ∷ "tan_remain_grazing" ∷ [])
     ∷ []
 
 -- what comes onto the yard is emitted there or leaves it; the totals do not list what leaves it

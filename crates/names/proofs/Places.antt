@@ -1,7 +1,8 @@
--- What a found place says: the text is the name there, and none of the others, since no list has a name twice. Assumes nothing.
+-- What a found place says: the text is the name there, and none of the others, since no list has a name twice. Assumes
+-- nothing.
 use Prim.Native.Nat.{ℕ, zero, suc, _+_, _<_}
 use Prim.Native.String.{String}
-use mathlib.Core.Path.{_≡_, refl, sym, ap, subst, _∙_}
+use mathlib.Core.Path.{_≡_, refl, sym, subst}
 use mathlib.Core.Bool.{Bool, true, false}
 use mathlib.Core.List.{List, [], _∷_, map}
 use native.Mathlib.Omega.{arith}
@@ -26,7 +27,7 @@ use Rattle.names.specs.declared.Names.the-variants.{
 use Rattle.names.specs.declared.Found.{Found}
 use Rattle.names.specs.declared.Found.the-variants.{At, Nowhere}
 use Rattle.names.specs.Names.{namesOf}
-use Rattle.names.specs.Find.{firstFrom, isName, findText, findName, isAt, modules, inputNames}
+use Rattle.names.specs.Find.{firstFrom, isName, findText, isAt, modules, inputNames}
 use Rattle.names.proofs.Tables.{entry-at, places}
 
 -- ---- a search through a list
@@ -43,19 +44,22 @@ unfolding firstFrom
 seen test [] d i j e = clash cc
 seen {A} test (x ∷ l) d i j e = go (test x) refl e (seen test l d (i + 1) j)
   where
-    go : (t : Bool) → test x ≡ t → pick t (At i) (firstFrom test (i + 1) l) ≡ At j → (firstFrom test (i + 1) l ≡ At j → Seen test l d (i + 1) j) → Seen test (x ∷ l) d i j
+    go : (t : Bool) → test x ≡ t → pick t (At i) (firstFrom test (i + 1) l) ≡ At j
+        → (firstFrom test (i + 1) l ≡ At j → Seen test l d (i + 1) j) → Seen test (x ∷ l) d i j
     go true h s more = let q : i ≡ j = cc in record { past = 0; is = omega arith; inside = omega arith; holds = h }
     go false h s more =
         let r = more s in
         record { past = suc (r .past); is = omega (arith, r .is); inside = omega (arith, r .inside); holds = r .holds }
 
-unseen : {A : Type 0} (test : A → Bool) (l : List A) (d : A) (i k : ℕ) → firstFrom test i l ≡ Nowhere → k < length l → test (getD l k d) ≡ false
+unseen : {A : Type 0} (test : A → Bool) (l : List A) (d : A) (i k : ℕ) → firstFrom test i l ≡ Nowhere → k < length l
+    → test (getD l k d) ≡ false
 unfolding firstFrom
 unseen test [] d i k e h = absurd (omega arith)
 unseen test (x ∷ l) d i k e h = go (test x) refl e k h (λ n. unseen test l d (i + 1) n)
   where
     go : (t : Bool) → test x ≡ t → pick t (At i) (firstFrom test (i + 1) l) ≡ Nowhere → (k : ℕ) → k < suc (length l)
-        → ((n : ℕ) → firstFrom test (i + 1) l ≡ Nowhere → n < length l → test (getD l n d) ≡ false) → test (getD (x ∷ l) k d) ≡ false
+        → ((n : ℕ) → firstFrom test (i + 1) l ≡ Nowhere → n < length l → test (getD l n d) ≡ false)
+        → test (getD (x ∷ l) k d) ≡ false
     go true q e k h more = clash cc
     go false q e zero h more = q
     go false q e (suc n) h more = more n e (omega arith)
@@ -76,7 +80,8 @@ module _ (names : List String) (s : List ℕ) where
       let h = subst (λ (k : ℕ). sameBytes s (bytes (getD names k "")) ≡ true) z (r .holds) in
       record { inside = omega (arith, r .inside); name = same-eq s (bytes (getD names j "")) h }
 
-  find-text-none : findText names s ≡ Nowhere → (k : ℕ) → k < length names → sameBytes s (bytes (getD names k "")) ≡ false
+  find-text-none : findText names s ≡ Nowhere → (k : ℕ) → k < length names
+      → sameBytes s (bytes (getD names k "")) ≡ false
   unfolding findText isName
   find-text-none e k h = unseen (isName s) names "" 0 k e h
 
@@ -86,13 +91,16 @@ Once names = map At (places 0 names) ≡ map (λ name. findText names (bytes nam
 
 module _ (names : List String) (once : Once names) (s : List ℕ) where
   pub find-text-of : (j : ℕ) → IsNamed names s j → findText names s ≡ At j
-  find-text-of j h = rw (h .name) (sym (entry-at At (λ (name : String). findText names (bytes name)) names "" once j (h .inside)))
+  find-text-of j h = rw (h .name)
+      (sym (entry-at At (λ (name : String). findText names (bytes name)) names "" once j (h .inside)))
 
   -- so the text is the name at k exactly where k is the place that is found
-  pub same-text-at : {x : Found} → x ≡ findText names s → (k : ℕ) → k < length names → sameBytes s (bytes (getD names k "")) ≡ isAt x k
+  pub same-text-at : {x : Found} → x ≡ findText names s → (k : ℕ) → k < length names
+      → sameBytes s (bytes (getD names k "")) ≡ isAt x k
   same-text-at {x} e k h = go x e
     where
-      other : (j : ℕ) → At j ≡ findText names s → (k ≡ j → ⊥) → (t : Bool) → sameBytes s (bytes (getD names k "")) ≡ t → t ≡ false
+      other : (j : ℕ) → At j ≡ findText names s → (k ≡ j → ⊥) → (t : Bool) → sameBytes s (bytes (getD names k "")) ≡ t
+          → t ≡ false
       other j e n true q =
           let f = find-text-of k (record { inside = h; name = same-eq s (bytes (getD names k "")) q }) in
           let z : j ≡ k = cc in

@@ -19,13 +19,16 @@ use Rattle.names.specs.Find.{firstFrom, isName, findText, findName, word
 
 -- ---- the words from `at` on are still to be compared, X is what the whole search finds
 
-module _ (t s lengths : List ℕ) (at i : ℕ) (X : Found) (inv : firstFrom (sameBytes t) i (wordsOf (drop at s) (drop i lengths)) ≡ X) where
-  module _ (b : i < length lengths) {n : ℕ} (e : n ≡ getD lengths i 0) {p : List ℕ} (q : p ≡ part s at (at + n)) {r : Bool} (w : r ≡ sameBytes t p) where
+module _ (t s lengths : List ℕ) (at i : ℕ) (X : Found)
+    (inv : firstFrom (sameBytes t) i (wordsOf (drop at s) (drop i lengths)) ≡ X) where
+  module _ (b : i < length lengths) {n : ℕ} (e : n ≡ getD lengths i 0) {p : List ℕ} (q : p ≡ part s at (at + n))
+      {r : Bool} (w : r ≡ sameBytes t p) where
     word-at : p ≡ take n (drop at s)
     unfolding part
     word-at = let z : at + n - at ≡ n = omega arith in q ∙ ap (λ (k : ℕ). take k (drop at s)) z
 
-    word-next : pick r (At i) (firstFrom (sameBytes t) (i + 1) (wordsOf (drop (at + n + 1) s) (drop (i + 1) lengths))) ≡ X
+    word-next : pick r (At i) (firstFrom (sameBytes t) (i + 1) (wordsOf (drop (at + n + 1) s) (drop (i + 1) lengths)))
+        ≡ X
     unfolding firstFrom wordsOf
     word-next =
         let z : at + (n + 1) ≡ at + n + 1 = omega arith in
@@ -34,7 +37,8 @@ module _ (t s lengths : List ℕ) (at i : ℕ) (X : Found) (inv : firstFrom (sam
     pub word-found : r ≡ true → At i ≡ X
     word-found h = sym (rw h) ∙ word-next
 
-    pub word-other : r ≡ false → firstFrom (sameBytes t) (i + 1) (wordsOf (drop (at + n + 1) s) (drop (i + 1) lengths)) ≡ X
+    pub word-other : r ≡ false
+        → firstFrom (sameBytes t) (i + 1) (wordsOf (drop (at + n + 1) s) (drop (i + 1) lengths)) ≡ X
     word-other h = sym (rw h) ∙ word-next
 
   pub word-none : length lengths ≤ i → Nowhere ≡ X
@@ -45,12 +49,14 @@ pub ruleset word-steps = (word-found, word-other, word-none)
 
 -- ---- the words of a list's text are its names
 
-find-bytes : (s : List ℕ) (i : ℕ) (names : List String) → firstFrom (sameBytes s) i (map bytes names) ≡ firstFrom (isName s) i names
+find-bytes : (s : List ℕ) (i : ℕ) (names : List String)
+    → firstFrom (sameBytes s) i (map bytes names) ≡ firstFrom (isName s) i names
 unfolding firstFrom isName
 find-bytes s i [] = refl
 find-bytes s i (n ∷ names) = ap (pick (sameBytes s (bytes n)) (At i)) (find-bytes s (i + 1) names)
 
-pub find-words : (names : Names) (s : List ℕ) {list : Names} (words lengths : List ℕ) {r : Found} → names ≡ list → r ≡ firstFrom (sameBytes s) 0 (wordsOf words lengths)
+pub find-words : (names : Names) (s : List ℕ) {list : Names} (words lengths : List ℕ) {r : Found} → names ≡ list
+    → r ≡ firstFrom (sameBytes s) 0 (wordsOf words lengths)
     → wordsOf words lengths ≡ map bytes (namesOf list) → r ≡ findName names s
 unfolding findName findText
 find-words names s words lengths e h w = rw (e, h, w) (find-bytes s 0 _)

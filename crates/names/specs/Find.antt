@@ -1,4 +1,5 @@
--- Which of its list a text is, byte for byte. It mirrors the code for its contracts; proofs/Places.antt says what it means.
+-- Which of its list a text is, byte for byte. It mirrors the code for its contracts; proofs/Places.antt says what it
+-- means.
 use Prim.Native.Nat.{ℕ, _+_}
 use Prim.Native.String.{String}
 use mathlib.Core.Bool.{Bool, false}

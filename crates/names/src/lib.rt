@@ -1,5 +1,6 @@
-// The texts of 01's list, and which of its list a text is: the modules, the input names, and the lists of names that a value may be. The texts
-// that every record has are literals, each compared by a few instructions; a list of names that a value may be is one text.
+// The texts of 01's list, and which of its list a text is: the modules, the input names, and the lists of names that a
+// value may be. The texts that every record has are literals, each compared by a few instructions; a list of names that
+// a value may be is one text.
 ghost use mathlib.Core.Path.{_≡_};
 ghost use Prim.Native.Nat.{_≤_};
 ghost use lib.ListN.{length};
@@ -181,8 +182,8 @@ pub fn find_input_name(text: &[u8]) -> Found
 
 // ---- the names that a value may be
 
-// Their lists. A new one is a list in specs/Names.antt, a variant here and its two arms: how many names it has; and its names as one text, with
-// the length of each, so that a name of another length is passed by in one step.
+// Their lists. A new one is a list in specs/Names.antt, a variant here and its two arms: how many names it has; and its
+// names as one text, with the length of each, so that a name of another length is passed by in one step.
 pub enum Names {
     Categories,
     Yards,
@@ -217,7 +218,8 @@ fn wide(b: u8) -> usize
 // Which of the words a text is: they have these lengths, with one byte between them.
 fn find_word(text: &[u8], words: &[u8], lengths: &[u8]) -> Found
     requires { ⌜ length (now lengths) ≤ 255 ⌝ }
-    ensures { λ r. ⌜ r ≡ firstFrom (sameBytes (now (text .entry))) 0 (wordsOf (now (words .entry)) (now (lengths .entry))) ⌝ }
+    ensures { λ r. ⌜ r ≡ firstFrom (sameBytes (now (text .entry))) 0
+        (wordsOf (now (words .entry)) (now (lengths .entry))) ⌝ }
 {
     let mut at = 0;
     let mut place = 0;

@@ -2,7 +2,7 @@
 -- yard, and of the pasture, is the figure and what was cut off over the divisor; what remains of the N is the housing's
 -- (`kept`, crate `model`). Assumes nothing.
 use Prim.Native.Nat.{ℕ, _+_, _*_, _/_, _%_, _<_}
-use mathlib.Core.Path.{_≡_, refl, ap}
+use mathlib.Core.Path.{_≡_, ap}
 use native.Mathlib.Omega.{arith}
 use lib.IntN.{ℤ, pos}
 use Rattle.cut.specs.Frac as F

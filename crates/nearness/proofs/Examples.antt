@@ -6,7 +6,6 @@ use mathlib.Core.Path.{_≡_, refl}
 use mathlib.Core.List.{List, [], _∷_, _++_, map}
 use Prim.Native.Nat.{ℕ, zero, suc, _*_, _<_}
 use Prim.Native.String.{String}
-use native.Mathlib.Omega.{arith}
 use lib.Dec.{T, eqb, leb, ltb, le→leb, lit<, lit≤}
 use lib.ListN.{replicate, drop}
 use lib.IntN.{ℤ, pos, negsuc, _-ℤ_, _*ℤ_, natAbs}
@@ -56,7 +55,8 @@ use Rattle.nearness.proofs.Farm.{within-farm, within-total}
 off : (e : ℕ) (x : ℤ) (q : Frac) → Within e x q → T (leb (natAbs (x *ℤ pos (q .den) -ℤ q .num)) (e * q .den))
 off e x q h = le→leb (natAbs (x *ℤ pos (q .den) -ℤ q .num)) (e * q .den) (h .near)
 
--- ---- ten grams for every figure; forty for what a pig house has (02, W1), twenty for what roughage housing has (02, W3)
+-- ---- ten grams for every figure; forty for what a pig house has (02, W1), twenty for what roughage housing has (02,
+-- W3)
 
 none-said : (names : List String) (n : ℕ) → saidAt promised [] names n ≡ promised
 none-said [] n = refl
@@ -125,12 +125,14 @@ unfolding figuresOf yardTime outdoorGrazingTime «days_with_grazing_and_yard» s
 row4-figure = refl
 
 pub row4-below-zero : 0 < dn (exactFigure "tan_remain_grazing" row4 .num)
-unfolding exactOf exactAt yardTime outdoorGrazingTime «days_with_grazing_and_yard» shareLowered «share_excretion_with_grazing»
+unfolding exactOf exactAt yardTime outdoorGrazingTime «days_with_grazing_and_yard» shareLowered
+    «share_excretion_with_grazing»
 row4-below-zero = lit< tt
 
 pub row4-exact : exactFigure "tan_remain_grazing" row4 .num *ℤ pos 10
     ≡ negsuc 52267 *ℤ pos (exactFigure "tan_remain_grazing" row4 .den)
-unfolding exactOf exactAt yardTime outdoorGrazingTime «days_with_grazing_and_yard» shareLowered «share_excretion_with_grazing»
+unfolding exactOf exactAt yardTime outdoorGrazingTime «days_with_grazing_and_yard» shareLowered
+    «share_excretion_with_grazing»
 row4-exact = refl
 
 pub row4-within : Within promised (figure "tan_remain_grazing" (figuresOf row4)) (exactFigure "tan_remain_grazing" row4)
@@ -210,7 +212,15 @@ largest = largestRoughage ∷ largestCattle ∷ largestPigs ∷ largestHousedPig
 
 roughage-sound : Sound largestRoughage
 roughage-sound =
-    roughage (record { animals = lit≤ tt; grams = number (lit≤ tt); fraction = number (lit≤ tt); free = lit≤ tt; days = lit≤ tt; hours = lit≤ tt })
+    roughage (record {
+      animals = lit≤ tt;
+      grams = number (lit≤ tt);
+      fraction = number (lit≤ tt);
+      free = lit≤ tt;
+      days =
+          lit≤ tt;
+      hours = lit≤ tt;
+    })
 
 cattle-sound : (kind : CattleKind) (tan : Entered) → EnteredTo tenThousandths tan → Sound (cattleHerd kind tan)
 cattle-sound kind tan s =
@@ -251,14 +261,23 @@ pub largest-housed : Within 200 (total "nh3_nhousing" (totalsOf (map figuresOf l
 unfolding promisedOfTotal
 largest-housed = within-total (λ i. i) largest largest-sound "nh3_nhousing"
 
--- ---- half of the promise would be broken: this herd's housing NH3 is more than 4 grams off, and what leaves its housing more than 5
+-- ---- half of the promise would be broken: this herd's housing NH3 is more than 4 grams off, and what leaves its
+-- housing more than 5
 
 abbrev farOff : Inputs
 farOff = roughageHerd 9915 199320 9991 (pos 5) 66 22
 
 pub far-off-sound : Sound farOff
 far-off-sound =
-    roughage (record { animals = lit≤ tt; grams = number (lit≤ tt); fraction = number (lit≤ tt); free = lit≤ tt; days = lit≤ tt; hours = lit≤ tt })
+    roughage (record {
+      animals = lit≤ tt;
+      grams = number (lit≤ tt);
+      fraction = number (lit≤ tt);
+      free = lit≤ tt;
+      days =
+          lit≤ tt;
+      hours = lit≤ tt;
+    })
 
 pub four-grams-broken : Within 4 (figure "nh3_nhousing" (figuresOf farOff)) (exactFigure "nh3_nhousing" farOff) → ⊥
 unfolding figuresOf exactOf exactAt roughageGrazingTime kOf withinDay kAt nearest growthNum growthDen expNum expDen
@@ -287,7 +306,8 @@ unfolding figuresOf exactOf exactAt
 two-grams-broken =
     off 2 (figure "n_outhousing_liquid" (figuresOf farOffPigs)) (exactFigure "n_outhousing_liquid" farOffPigs)
 
--- ---- the ceiling (02, W3): exact means the exact factor, at most 1. All the TAN that comes into this housing is emitted
+-- ---- the ceiling (02, W3): exact means the exact factor, at most 1. All the TAN that comes into this housing is
+-- emitted
 
 abbrev raised : Inputs
 raised = roughageHerd 10000 (200 kg) 10000 (below 100) 365 239
@@ -360,7 +380,8 @@ abbrev atOtherRate : Frac
 atOtherRate = gas exact (exactFigure "tan_into_grazing" row1) 840
 
 pub with-other-rate : Within promised (figure "nh3_ngrazing" (figuresOf row1)) atOtherRate → ⊥
-unfolding figuresOf exactOf exactAt yardTime outdoorGrazingTime «days_with_grazing_and_yard» shareLowered «share_excretion_with_grazing»
+unfolding figuresOf exactOf exactAt yardTime outdoorGrazingTime «days_with_grazing_and_yard» shareLowered
+    «share_excretion_with_grazing»
 with-other-rate = off promised (figure "nh3_ngrazing" (figuresOf row1)) atOtherRate
 
 -- a cut before the multiplication: 400 of 3650 parts of a ton

@@ -1,4 +1,5 @@
--- What a herd excretes: the N is exact, the TAN is cut once and is a part of it. Every kind of herd starts from this. Assumes nothing.
+-- What a herd excretes: the N is exact, the TAN is cut once and is a part of it. Every kind of herd starts from this.
+-- Assumes nothing.
 use Prim.Native.Nat.{ℕ, _*_, _≤_}
 use lib.Dec.{lit<}
 use lib.IntN.{pos}

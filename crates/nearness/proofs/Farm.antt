@@ -1,5 +1,5 @@
--- Demand 3 for a farm: each total of herds that pass the checks lies within what is promised of it, times the number of herds.
--- A total brings in each herd's own errors. Assumes nothing.
+-- Demand 3 for a farm: each total of herds that pass the checks lies within what is promised of it, times the number of
+-- herds. A total brings in each herd's own errors. Assumes nothing.
 use Prim.Native.Nat.{ℕ, _+_, _*_, zero-le}
 use Prim.Native.String.{String}
 use mathlib.Core.Path.{_≡_, refl, sym, ap, _∙_}

@@ -1,5 +1,5 @@
--- A herd's figures, each as near its exact value as was shown: one proof after the other, and one section after the other,
--- in the order of the rows; and all of them read at a number. Assumes nothing.
+-- A herd's figures, each as near its exact value as was shown: one proof after the other, and one section after the
+-- other, in the order of the rows; and all of them read at a number. Assumes nothing.
 use Prim.Native.Nat.{ℕ, zero, suc, _-_}
 use mathlib.Core.List.{List, [], _∷_, _++_, map}
 use lib.ListN.{length, getD, replicate}

@@ -1,5 +1,5 @@
--- Demand 3 for a herd: each figure of each herd that passes the checks is as near its exact value as the table says, and so
--- within what is promised of it. Assumes nothing.
+-- Demand 3 for a herd: each figure of each herd that passes the checks is as near its exact value as the table says,
+-- and so within what is promised of it. Assumes nothing.
 use Prim.Native.Nat.{ℕ}
 use Prim.Native.String.{String}
 use Rattle.cut.specs.Frac.{Within}

@@ -1,5 +1,5 @@
--- The housing of a roughage herd: c_grazing, er_housing, the free factor and the ceiling, each cut in billionths, and the NH3 by that
--- factor. Assumes nothing.
+-- The housing of a roughage herd: c_grazing, er_housing, the free factor and the ceiling, each cut in billionths, and
+-- the NH3 by that factor. Assumes nothing.
 use mathlib.Core.Path.{_≡_, refl, ap}
 use mathlib.Core.Bool.{Bool, true, false}
 use Prim.Native.Nat.{ℕ, _+_, _-_, _*_, _/_, _≤_, _<_}
@@ -43,7 +43,8 @@ module _ (A : Arithmetic) where
   infixl 6 _⊕_
   infixl 5 _over_
   abbrev mean : ℕ → ℕ → Amount
-  mean days hours = whole (otherDays days * billionths) ⊕ whole (grazingDays days hours) ⊗ k hours over allDays days hours
+  mean days hours = whole (otherDays days * billionths) ⊕ whole (grazingDays days hours) ⊗ k hours over allDays days
+      hours
 
 module _ (days hours : ℕ) (hd : days ≤ year) (hh : hours ≤ day) where
   days-add-up : otherDays days + grazingDays days hours ≡ allDays days hours
@@ -54,13 +55,16 @@ module _ (days hours : ℕ) (hd : days ≤ year) (hh : hours ≤ day) where
 
   near-mean : days * hours < year * day → Near 1500000 500000 (pos (mean cutting days hours)) (mean exact days hours)
   near-mean some =
-      near-div-to 1500000 500000 (allDays days hours) (omega arith) (omega (arith, days-add-up)) (omega (arith, days-add-up))
+      near-div-to 1500000 500000 (allDays days hours) (omega arith) (omega (arith, days-add-up))
+      (omega (arith, days-add-up))
       (near-add (near-whole (otherDays days * billionths))
-      (near-mul (grazingDays days hours) mostK (mostK + 1) (le-refl (grazingDays days hours)) (k-most hours) (lit≤ tt) refl
+      (near-mul (grazingDays days hours) mostK (mostK + 1) (le-refl (grazingDays days hours)) (k-most hours) (lit≤ tt)
+      refl
       (near-whole (grazingDays days hours)) (near-k hours hh)))
 
   near-c-by : (b : Bool) → ltb (days * hours) (year * day) ≡ b
-      → Near 1500000 500000 (pos (pick b (mean cutting days hours) billionths)) (pick b (mean exact days hours) (whole billionths))
+      → Near 1500000 500000 (pos (pick b (mean cutting days hours) billionths))
+      (pick b (mean exact days hours) (whole billionths))
   near-c-by true e = near-mean (ltb-true (days * hours) (year * day) e)
   near-c-by false e = near-weaken (lit≤ tt) (lit≤ tt) (near-whole billionths)
 
@@ -73,7 +77,8 @@ uncapped A r c =
     portion A (portion A c «er_housing» thousandths) («c_free_factor_housing» (r .«free_correction_factor»)) percent
 
 -- the exact factor is not below zero
-not-below-by : (r : Roughage) (b : Bool) (n d : ℕ) → dn ((uncapped exact r (pick b (per n d) (whole billionths)) atMost billionths) .num) ≡ 0
+not-below-by : (r : Roughage) (b : Bool) (n d : ℕ)
+    → dn ((uncapped exact r (pick b (per n d) (whole billionths)) atMost billionths) .num) ≡ 0
 not-below-by r true n d = refl
 not-below-by r false n d = refl
 
@@ -93,8 +98,10 @@ near-ef r s =
 abbrev mostTan : ℕ
 mostTan = mostAnimals * mostGrams
 
-pub near-nh3-in-housing : (r : Roughage) → SoundRoughage r → {lo hi tan : ℕ} {TAN : Frac} → tan ≤ mostTan → Near lo hi (pos tan) TAN
+pub near-nh3-in-housing : (r : Roughage) → SoundRoughage r → {lo hi tan : ℕ} {TAN : Frac} → tan ≤ mostTan
+    → Near lo hi (pos tan) TAN
     → Near ((mostTan * 3825000 + lo * (billionths + 4)) / billionths + 1000001)
     ((mostTan * 275000 + hi * (billionths + 4)) / billionths + 1)
     (pos (nh3InHousing cutting r tan)) (nh3InHousing exact r TAN)
-near-nh3-in-housing r s h near = near-factor mostTan billionths (lit< tt) h (factor-le r) (not-below r) near (near-ef r s)
+near-nh3-in-housing r s h near =
+    near-factor mostTan billionths (lit< tt) h (factor-le r) (not-below r) near (near-ef r s)

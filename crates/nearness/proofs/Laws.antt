@@ -1,12 +1,21 @@
--- How near `cutting` is to `exact` in the steps that every formula is made of: a portion of an amount, and k. (The others, a difference, a
--- ceiling and a product, have their laws in crate `cut`.) Assumes nothing.
+-- How near `cutting` is to `exact` in the steps that every formula is made of: a portion of an amount, and k. (The
+-- others, a difference, a ceiling and a product, have their laws in crate `cut`.) Assumes nothing.
 use mathlib.Core.Path.{_≡_, refl}
 use Prim.Native.Nat.{ℕ, zero, suc, _+_, _-_, _*_, _/_, _≤_, _<_, zero-le}
 use native.Mathlib.Nat.{mul-one, one-mul, mul-zero, zero-mul, zero-div, mul-pos, mul-le-mul-left, lt-div-mul-add}
 use native.Mathlib.Omega.{arith}
 use lib.IntN.{ℤ, pos, negsuc, _*ℤ_}
 use Rattle.cut.specs.Frac.{Frac, per, whole, _⊗_}
-use Rattle.cut.proofs.Near.{Near, near-whole, near-weaken, near-part, near-cut-to, near-nearest, near-same, near-shares2}
+use Rattle.cut.proofs.Near.{
+  Near,
+  near-whole,
+  near-weaken,
+  near-part,
+  near-cut-to,
+  near-nearest,
+  near-same,
+  near-shares2,
+}
 use Rattle.tables.specs.Growth.{kOf, growthNum, growthDen}
 use Rattle.tables.proofs.Growth.{k-nearest, growthDen-above}
 use Rattle.amounts.specs.Units.{day, billionths}
@@ -59,13 +68,16 @@ none-of : (z : ℤ) → z *ℤ pos 0 ≡ pos 0
 none-of (pos n) = rw mul-zero
 none-of (negsuc n) = rw mul-zero
 
-near-none : (d : ℕ) {lo hi : ℕ} {x : ℕ} {q : Frac} → 0 < d → Near lo hi (pos x) q → Near 0 0 (pos (portion cutting x 0 d)) (portion exact q 0 d)
+near-none : (d : ℕ) {lo hi : ℕ} {x : ℕ} {q : Frac} → 0 < d → Near lo hi (pos x) q
+    → Near 0 0 (pos (portion cutting x 0 d)) (portion exact q 0 d)
 near-none d {x} {q} hd near =
     rw (mul-zero x, zero-div d)
-    (near-same {q = whole 0} (mul-pos (mul-pos (near .above) (omega arith)) hd) (rw (none-of (q .num), zero-mul)) (near-whole 0))
+    (near-same {q = whole 0} (mul-pos (mul-pos (near .above) (omega arith)) hd) (rw (none-of (q .num), zero-mul))
+    (near-whole 0))
 
 pub near-rate : (n d : ℕ) {lo hi x : ℕ} {q : Frac} → 0 < d
-    → Near lo hi (pos x) q → Near (rateBelow lo n d) (rateAbove hi n d) (pos (portion cutting x n d)) (portion exact q n d)
+    → Near lo hi (pos x) q
+    → Near (rateBelow lo n d) (rateAbove hi n d) (pos (portion cutting x n d)) (portion exact q n d)
 near-rate zero d hd near = near-weaken zero-le zero-le (near-none d hd near)
 near-rate (suc n) d {lo} {hi} {q} hd near =
     apart q (suc n) d
@@ -77,4 +89,5 @@ near-rate (suc n) d {lo} {hi} {q} hd near =
 pub near-k : (t : ℕ) → t ≤ day → Near 500000 500000 (pos (cutting .k t)) (exact .k t)
 near-k t h =
     let k = k-nearest {t = t} {k = kOf t} refl h in
-    near-nearest (kOf t) (billionths * growthNum t) growthDen growthDen-above (omega (arith, k .low)) (omega (arith, k .high))
+    near-nearest (kOf t) (billionths * growthNum t) growthDen growthDen-above (omega (arith, k .low))
+    (omega (arith, k .high))

@@ -1,5 +1,5 @@
--- A herd with a yard: how near each figure is to its exact value, at the rates of any kind; and cattle, as near as the table says.
--- Assumes nothing.
+-- A herd with a yard: how near each figure is to its exact value, at the rates of any kind; and cattle, as near as the
+-- table says. Assumes nothing.
 use Prim.Native.Nat.{ℕ, _+_, _-_, _*_}
 use native.Mathlib.Nat.{le-trans}
 use native.Mathlib.Omega.{arith}
@@ -55,8 +55,10 @@ module _ (o : Outdoor) (s : SoundOutdoor o) {lo hi x : ℕ} {q : Frac} (near : N
   onto-pasture = near-share (outdoorGrazingTime o) (day * (tenths * year)) (lit< tt) (outdoor-grazing-time-le o s) near
 
   through-door : Near (lo + hi + hi) (hi + (lo + 1000000) + (lo + 1000000))
-      (pos (x - intoYard cutting o x - outdoorIntoGrazing cutting o x)) (q ⊖ intoYard exact o q ⊖ outdoorIntoGrazing exact o q)
-  through-door = let h = outdoor-into-le o s x in near-rest (omega arith) (near-rest (omega arith) near onto-yard) onto-pasture
+      (pos (x - intoYard cutting o x - outdoorIntoGrazing cutting o x))
+      (q ⊖ intoYard exact o q ⊖ outdoorIntoGrazing exact o q)
+  through-door = let h = outdoor-into-le o s x in
+      near-rest (omega arith) (near-rest (omega arith) near onto-yard) onto-pasture
 
 -- ---- NH3 on the yard
 
@@ -66,17 +68,20 @@ near-nh3-yard o s = near-share («ef_nh3_nyard» o) (tenThousandths * percent * 
 
 -- ---- the figures
 
-module _ (r : Rates) (hr : ModestRates r) (o : Outdoor) (s : SoundOutdoor o) (e : ExcretionIn cutting) (e′ : ExcretionIn exact) (near : NearExcretion e e′) where
+module _ (r : Rates) (hr : ModestRates r) (o : Outdoor) (s : SoundOutdoor o) (e : ExcretionIn cutting)
+    (e′ : ExcretionIn exact) (near : NearExcretion e e′) where
   n-yard : Near 1000000 0 (pos (intoYard cutting o (e .«n_excretion»))) (intoYard exact o (e′ .«n_excretion»))
   n-yard = onto-yard o s (near .n-near)
 
   tan-yard : Near 2000000 0 (pos (intoYard cutting o (e .«tan_excretion»))) (intoYard exact o (e′ .«tan_excretion»))
   tan-yard = onto-yard o s (near .tan-near)
 
-  n-on : Near 1000000 0 (pos (outdoorIntoGrazing cutting o (e .«n_excretion»))) (outdoorIntoGrazing exact o (e′ .«n_excretion»))
+  n-on : Near 1000000 0 (pos (outdoorIntoGrazing cutting o (e .«n_excretion»)))
+      (outdoorIntoGrazing exact o (e′ .«n_excretion»))
   n-on = onto-pasture o s (near .n-near)
 
-  tan-on : Near 2000000 0 (pos (outdoorIntoGrazing cutting o (e .«tan_excretion»))) (outdoorIntoGrazing exact o (e′ .«tan_excretion»))
+  tan-on : Near 2000000 0 (pos (outdoorIntoGrazing cutting o (e .«tan_excretion»)))
+      (outdoorIntoGrazing exact o (e′ .«tan_excretion»))
   tan-on = onto-pasture o s (near .tan-near)
 
   yard : Modest (intoYard cutting o (e .«n_excretion»)) (intoYard cutting o (e .«tan_excretion»))

@@ -11,7 +11,6 @@ use Rattle.cut.proofs.Products.{mul-to}
 use Rattle.cut.proofs.Near.{Near, near-whole, near-weaken, near-add, near-rest, near-same, near-at-most}
 use Rattle.amounts.specs.Units.{tenths, percent, tenThousandths, billionths}
 use Rattle.amounts.specs.Arithmetic.{cutting}
-use Rattle.amounts.specs.Bounds.{Modest}
 use Rattle.kinds.specs.declared.Pigs.{Pigs}
 use Rattle.kinds.specs.declared.AirScrubber.{AirScrubber}
 use Rattle.kinds.specs.declared.AirScrubber.the-variants as scrubber

@@ -54,14 +54,18 @@ module _ (r : Roughage) (s : SoundRoughage r) {lo hi x : ℕ} {q : Frac} (near :
 
 -- ---- the figures
 
-module _ (r : Roughage) (s : SoundRoughage r) (e : ExcretionIn cutting) (e′ : ExcretionIn exact) (near : NearExcretion e e′) where
-  n-on : Near 1000000 0 (pos (roughageIntoGrazing cutting r (e .«n_excretion»))) (roughageIntoGrazing exact r (e′ .«n_excretion»))
+module _ (r : Roughage) (s : SoundRoughage r) (e : ExcretionIn cutting) (e′ : ExcretionIn exact)
+    (near : NearExcretion e e′) where
+  n-on : Near 1000000 0 (pos (roughageIntoGrazing cutting r (e .«n_excretion»)))
+      (roughageIntoGrazing exact r (e′ .«n_excretion»))
   n-on = onto-pasture r s (near .n-near)
 
-  tan-on : Near 2000000 0 (pos (roughageIntoGrazing cutting r (e .«tan_excretion»))) (roughageIntoGrazing exact r (e′ .«tan_excretion»))
+  tan-on : Near 2000000 0 (pos (roughageIntoGrazing cutting r (e .«tan_excretion»)))
+      (roughageIntoGrazing exact r (e′ .«tan_excretion»))
   tan-on = onto-pasture r s (near .tan-near)
 
-  pasture : Modest (roughageIntoGrazing cutting r (e .«n_excretion»)) (roughageIntoGrazing cutting r (e .«tan_excretion»))
+  pasture : Modest (roughageIntoGrazing cutting r (e .«n_excretion»))
+      (roughageIntoGrazing cutting r (e .«tan_excretion»))
   pasture = roughage-pasture-modest r s _ _ (near .modest)
 
   n-inside : Near 0 1000000 (pos (inside r (e .«n_excretion»))) (exactInside r (e′ .«n_excretion»))
@@ -74,7 +78,8 @@ module _ (r : Roughage) (s : SoundRoughage r) (e : ExcretionIn cutting) (e′ : 
   housing = roughage-housing-modest r s _ _ (near .modest)
 
   nh3 : NearBy (said exactly roughageErrors "nh3_nhousing")
-      (pos (nh3InHousing cutting r (inside r (e .«tan_excretion»)))) (nh3InHousing exact r (exactInside r (e′ .«tan_excretion»)))
+      (pos (nh3InHousing cutting r (inside r (e .«tan_excretion»))))
+      (nh3InHousing exact r (exactInside r (e′ .«tan_excretion»)))
   nh3 = near-nh3-in-housing r s (le-trans (housing .tan-most) (housing .n-most)) tan-inside
 
   pub near-roughage : NearFigures roughageErrors (roughageOn cutting r e) (roughageOn exact r e′)

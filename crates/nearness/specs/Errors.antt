@@ -1,6 +1,6 @@
--- What the proofs attain: how far the cuts can take each figure of each kind of herd from its exact value, below it and above
--- it. A cut leaves a figure less than a gram too small; what is then taken away from another makes that too large. A figure that
--- is left out is exact.
+-- What the proofs attain: how far the cuts can take each figure of each kind of herd from its exact value, below it and
+-- above it. A cut leaves a figure less than a gram too small; what is then taken away from another makes that too
+-- large. A figure that is left out is exact.
 use Prim.Native.Nat.{ℕ}
 use Prim.Native.String.{String}
 use mathlib.Core.List.{List, [], _∷_}

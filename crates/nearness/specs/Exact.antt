@@ -1,6 +1,6 @@
--- What the exact value of a figure and of a total is: the formulas of crates `excretion` to `model`, under the names of crate
--- `outputs`, on the arithmetic below in place of `cutting`. Fractions are "never cut" and "exp taken as its series terms 0 to 20"
--- (01, Steps and cuts).
+-- What the exact value of a figure and of a total is: the formulas of crates `excretion` to `model`, under the names of
+-- crate `outputs`, on the arithmetic below in place of `cutting`. Fractions are "never cut" and "exp taken as its
+-- series terms 0 to 20" (01, Steps and cuts).
 use Prim.Native.Nat.{ℕ, _*_}
 use Prim.Native.String.{String}
 use mathlib.Core.List.{List, []}

@@ -157,5 +157,15 @@ module _ (n : Notes) (i : Inputs) where
 
 pub ruleset kind-notes = (notes-of-roughage, notes-of-cattle, notes-of-pigs)
 
-pub ruleset note-steps =
-    (entered-fits, standard-fits, fraction-fits, share-fits, n-standard, tan-standard, n-below, n-other, tan-below, tan-other)
+pub ruleset note-steps = (
+  entered-fits,
+  standard-fits,
+  fraction-fits,
+  share-fits,
+  n-standard,
+  tan-standard,
+  n-below,
+  n-other,
+  tan-below,
+  tan-other,
+)

@@ -1,5 +1,5 @@
--- 01, "Notes", and those of 02, W3 and W9: each a yes or no beside a herd's figures. `standard` gives none, and a kind that lacks
--- the input gives none.
+-- 01, "Notes", and those of 02, W3 and W9: each a yes or no beside a herd's figures. `standard` gives none, and a kind
+-- that lacks the input gives none.
 use Prim.Native.Nat.{ℕ, _+_, _*_}
 use mathlib.Core.Bool.{Bool, false, not, _||_}
 use mathlib.Core.List.{List, [], _∷_}
@@ -50,7 +50,8 @@ noted n tan free share above =
 
 abbrev pub roughageNotes : Roughage → Notes
 roughageNotes r =
-    noted (offStandard (standardOf (r .animalcategory)) (r .«inp_n_excretion»)) (offShare «share_Nsol» (r .«tan_fraction»))
+    noted (offStandard (standardOf (r .animalcategory)) (r .«inp_n_excretion»))
+    (offShare «share_Nsol» (r .«tan_fraction»))
     (freeEntered (r .«free_correction_factor»)) false (aboveCeiling r)
 
 -- 2.2; other cattle have no standards

@@ -1,6 +1,7 @@
--- 01, Notes, and those of 02, W3 and W9, on both sides of every edge: herds, and the notes that each gets, by name; of a herd that gets none the
--- list is empty. Row 8 of 01 is among them (Herds on both sides of an edge), and all are lines of the one table of crate
--- `model`, specs/Edges. proofs/Rows.antt computes them from the definitions. To be believed.
+-- 01, Notes, and those of 02, W3 and W9, on both sides of every edge: herds, and the notes that each gets, by name; of
+-- a herd that gets none the list is empty. Row 8 of 01 is among them (Herds on both sides of an edge), and all are
+-- lines of the one table of crate `model`, specs/Edges. proofs/Rows.antt computes them from the definitions. To be
+-- believed.
 use Prim.Native.Nat.{ℕ, _+_, _-_}
 use Prim.Native.String.{String}
 use mathlib.Core.Bool.{Bool}
@@ -229,8 +230,8 @@ ofShare =
     ∷ grazing NotAvailable 166 gets []
     ∷ []
 
--- ---- the housing's factor above 1, for roughage (02, W3): no days, hours and free factor give exactly 1; these two are
--- the nearest to it
+-- ---- the housing's factor above 1, for roughage (02, W3): no days, hours and free factor give exactly 1; these two
+-- are the nearest to it
 
 abbrev inHousing : ℤ → ℕ → ℕ → Inputs
 inHousing free days hours = roughage (category "wapiti") entered.Standard entered.Standard free days hours
@@ -263,7 +264,8 @@ ofDairyCows =
     -- free factor not 0, and the share lowered, as for other cattle
     ∷ dairyCows 10 (112 kg) entered.Standard (outdoors 0 NotAvailable Solid (below 1) 0 0) gets ("free_factor" ∷ [])
     ∷ dairyCows 10 (112 kg) entered.Standard (outdoors 165 Exclusively Solid (pos 0) 200 120) gets []
-    ∷ dairyCows 10 (112 kg) entered.Standard (outdoors 166 Exclusively Solid (pos 0) 200 120) gets ("share_lowered" ∷ [])
+    ∷ dairyCows 10 (112 kg) entered.Standard (outdoors 166 Exclusively Solid (pos 0) 200 120) gets
+    ("share_lowered" ∷ [])
     ∷ []
 
 -- ---- what a kind is not told, at values that another kind would be told of

@@ -7,7 +7,8 @@ use Rattle.listing.specs.Listing.{hasComma, labelField}
 use Rattle.noting.specs.Records.{notesRecord}
 
 -- the share is lowered, the fourth of 01's notes
-pub heifers-noted : notesRecord (bytes "Heifers") (noted false false false true false) ≡ bytes "Heifers,no,no,no,yes,no\r\n"
+pub heifers-noted : notesRecord (bytes "Heifers") (noted false false false true false)
+    ≡ bytes "Heifers,no,no,no,yes,no\r\n"
 unfolding notesRecord labelField hasComma
 heifers-noted = refl
 

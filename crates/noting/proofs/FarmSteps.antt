@@ -52,10 +52,12 @@ module _ (f : Farm) (accepted : checkFarm f ≡ Accepted) (old : List ℕ) (room
           pub sound : Sound t
           sound = rw et (herd-sound f accepted long i b d)
 
-          pub goes-on : (n : Notes) → n ≡ notesOf t → (new : List ℕ) (next : ℕ) → Wrote now at (notesRecord (text (h .label)) n) new next
+          pub goes-on : (n : Notes) → n ≡ notesOf t → (new : List ℕ) (next : ℕ)
+              → Wrote now at (notesRecord (text (h .label)) n) new next
               → next ≤ at + longestRecord → Noting f old (i + 1) new next
           goes-on n en new next w r =
-              let same : notesRecord (text (h .label)) n ≡ herdNotes h = ap (notesRecord (text (h .label))) (en ∙ ap notesOf et) in
+              let same : notesRecord (text (h .label)) n ≡ herdNotes h =
+              ap (notesRecord (text (h .label))) (en ∙ ap notesOf et) in
               let left = taken-at (f .count) (f .herds) i d b (omega (arith, inv .few)) in
               record {
                 few = inv .few;

@@ -17,12 +17,11 @@ use Rattle.farm.specs.declared.Herd.{Herd}
 use Rattle.farm.specs.declared.Farm.{Farm}
 use Rattle.farm.specs.declared.Checked.the-variants.{Accepted}
 use Rattle.farm.specs.Labels.{text, allOk, labelOk}
-use Rattle.checks.specs.Checks.{checkFarm, herdsOf}
+use Rattle.checks.specs.Checks.{checkFarm}
 use Rattle.checks.specs.Accepts.{GoodHerd}
 use Rattle.checks.proofs.Accepts.{accepted-farm}
 use Rattle.notes.specs.Notes.{notesOf, inOrder}
 use Rattle.typed.specs.Typed.{typedOf}
-use Rattle.listing.specs.Bounds.{longestField}
 use Rattle.listing.specs.Listing.{hasComma, labelField, each}
 use Rattle.listing.proofs.LabelField.{quoted, bare}
 use Rattle.noting.specs.Records.{noteField, notesRecord, herdNotes, farmNotes}

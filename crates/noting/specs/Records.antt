@@ -1,5 +1,5 @@
--- A farm's notes as records: of each herd its label, quoted as in the listing, then `yes` or `no` for each of 01's notes
--- in their order and for that of 02, W3, and CRLF, as in `Heifers,no,no,no,yes,no`. To be believed.
+-- A farm's notes as records: of each herd its label, quoted as in the listing, then `yes` or `no` for each of 01's
+-- notes in their order and for that of 02, W3, and CRLF, as in `Heifers,no,no,no,yes,no`. To be believed.
 use Prim.Native.Nat.{ℕ}
 use mathlib.Core.Bool.{Bool, true, false}
 use mathlib.Core.List.{List, _∷_, _++_, map}

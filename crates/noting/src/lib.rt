@@ -37,7 +37,8 @@ fn put_note(out: &mut [u8], at: usize, noted: bool) -> usize
 // These notes, one after the other.
 fn put_notes(out: &mut [u8], at: usize, noted: &[bool]) -> usize
     requires { ⌜ at + length (now noted) * longestNote ≤ length (now out) ⌝ }
-    ensures { λ r. ⌜ Wrote (now (out .entry)) at (each noteField (now (noted .entry))) (now (out .exit)) r × (r ≤ at + length (now (noted .entry)) * longestNote) ⌝ }
+    ensures { λ r. ⌜ Wrote (now (out .entry)) at (each noteField (now (noted .entry))) (now (out .exit)) r
+        × (r ≤ at + length (now (noted .entry)) * longestNote) ⌝ }
 {
     let mut next = at;
     let mut k = 0;
@@ -51,7 +52,8 @@ fn put_notes(out: &mut [u8], at: usize, noted: &[bool]) -> usize
 // A herd's record.
 fn put_record(out: &mut [u8], at: usize, label: Label, n: Notes) -> usize
     requires { ⌜ at + longestRecord ≤ length (now out) ⌝ }
-    ensures { λ r. ⌜ Wrote (now (out .entry)) at (notesRecord (text label) n) (now (out .exit)) r × (r ≤ at + longestRecord) ⌝ }
+    ensures { λ r. ⌜ Wrote (now (out .entry)) at (notesRecord (text label) n) (now (out .exit)) r
+        × (r ≤ at + longestRecord) ⌝ }
 {
     let a = labels::put_label(out, at, label);
     let noted = notes::in_order(n);

@@ -1,4 +1,5 @@
--- A total's addends, added one by one: what is still to be added, and that the sum keeps within an i64. Assumes nothing.
+-- A total's addends, added one by one: what is still to be added, and that the sum keeps within an i64. Assumes
+-- nothing.
 use Prim.Native.Nat.{ℕ, _+_, _-_, _*_, _^_, _≤_, _<_}
 use mathlib.Core.Path.{_≡_, sym, ap, _∙_}
 use mathlib.Core.List.{List, []}
@@ -26,18 +27,21 @@ pub record Adding (g : List ℤ) (total : ℤ) (end k : ℕ) (sum : ℤ) : Type 
   pub room : natAbs sum + (end - k) * figureMost < 2 ^ 63
   pub inside : end ≤ length table
 
-pub run : (t : ℕ) → t < length totals → Run table (getD addends t []) (getD (starts 0 addends) t 0) (getD (starts 0 addends) (t + 1) 0)
+pub run : (t : ℕ) → t < length totals
+    → Run table (getD addends t []) (getD (starts 0 addends) t 0) (getD (starts 0 addends) (t + 1) 0)
 run t h = run-at addends t h
 
 -- a total has at most three addends, and each is a name
 few : (t : ℕ) → t < length totals → length (getD addends t []) ≤ 3
 few t h = leb→le _ _ (all-at (λ (l : List ℕ). leb (length l) 3) addends tt t [] h)
 
-pub known : {g : List ℤ} {total : ℤ} {end k : ℕ} {sum : ℤ} → Adding g total end k sum → k < end → getD table k 0 < length rows
+pub known : {g : List ℤ} {total : ℤ} {end k : ℕ} {sum : ℤ} → Adding g total end k sum → k < end
+    → getD table k 0 < length rows
 known {end} {k} a h = ltb→lt _ _ (all-at (λ (n : ℕ). ltb n (length rows)) table tt k 0 (omega (arith, a .inside)))
 
 module _ (g : List ℤ) (to : To figureMost g) where
-  pub begun : (t : ℕ) → t < length totals → Adding g (totalAt g t) (getD (starts 0 addends) (t + 1) 0) (getD (starts 0 addends) t 0) (pos 0)
+  pub begun : (t : ℕ) → t < length totals
+      → Adding g (totalAt g t) (getD (starts 0 addends) (t + 1) 0) (getD (starts 0 addends) t 0) (pos 0)
   unfolding totalAt
   begun t h =
       let r = run t h in
@@ -63,9 +67,11 @@ module _ (g : List ℤ) (to : To figureMost g) where
     pub one-more : (r : ℤ) → r ≡ sum +ℤ read → Adding g total end (k + 1) (toZ w64 (ofZ w64 r))
     one-more r e =
         let s : r ≡ sum +ℤ at g n = rw was at e in
-        let b : toZ w64 (ofZ w64 (sum +ℤ at g n)) ≡ sum +ℤ at g n = back (sum +ℤ at g n) (omega (arith, a .room, to .most n, abs-add sum (at g n))) in
+        let b : toZ w64 (ofZ w64 (sum +ℤ at g n)) ≡ sum +ℤ at g n =
+        back (sum +ℤ at g n) (omega (arith, a .room, to .most n, abs-add sum (at g n))) in
         record {
-          to-come = rw (s, b, add-one) (ap (addUp _+ℤ_ (at g) sum) (sym (slice-cons k end table 0 h (a .inside))) ∙ a .to-come);
+          to-come = rw (s, b, add-one)
+              (ap (addUp _+ℤ_ (at g) sum) (sym (slice-cons k end table 0 h (a .inside))) ∙ a .to-come);
           room = rw (s, b) (omega (arith, a .room, to .most n, abs-add sum (at g n)));
           inside = a .inside;
         }

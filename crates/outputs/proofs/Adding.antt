@@ -1,5 +1,5 @@
--- Herds added up: a figure of the sum is the sum of the figures, for every number at once; so each total is 2.1's, and the sums fit.
--- Assumes nothing.
+-- Herds added up: a figure of the sum is the sum of the figures, for every number at once; so each total is 2.1's, and
+-- the sums fit. Assumes nothing.
 use Prim.Native.Nat.{ℕ, suc, _+_, _≤_, _<_}
 use mathlib.Core.Path.{_≡_, refl, sym, ap, _∙_}
 use mathlib.Core.Bool.{Bool, true, false}
@@ -60,7 +60,8 @@ module _ (f g : ℕ → ℤ) (agree : (n : ℕ) → n < length rows → f n ≡ 
   same-sum : (ns : List ℕ) → T (areNames ns) → (t : ℤ) → addUp _+ℤ_ f t ns ≡ addUp _+ℤ_ g t ns
   same-sum [] k t = refl
   same-sum (n ∷ ns) k t =
-      ap (λ z. addUp _+ℤ_ f (t +ℤ z) ns) (agree n (ltb→lt n (length rows) (both-left (ltb n (length rows)) (areNames ns) k)))
+      ap (λ z. addUp _+ℤ_ f (t +ℤ z) ns)
+      (agree n (ltb→lt n (length rows) (both-left (ltb n (length rows)) (areNames ns) k)))
       ∙ same-sum ns (both-right (ltb n (length rows)) (areNames ns) k) (t +ℤ g n)
 
 module _ {A : Type 0} (g : A → Figures) (l : List A) where
@@ -72,7 +73,8 @@ module _ {A : Type 0} (g : A → Figures) (l : List A) where
 
   pub totals-of-sum : (t : Totals) → t .grams ≡ totalGrams (summed g l) → t ≡ totalsOf (map g l)
   unfolding totalsOf
-  totals-of-sum t e = ap ofGrams (e ∙ by-number-same (totalAt (summed g l)) (farmTotal (map g l)) (length totals) total-of-sum)
+  totals-of-sum t e = ap ofGrams
+      (e ∙ by-number-same (totalAt (summed g l)) (farmTotal (map g l)) (length totals) total-of-sum)
     where
       ofGrams : List ℤ → Totals
       ofGrams x = record { grams = x }
@@ -99,8 +101,10 @@ pub plus-to : (k l : ℕ) (a b : List ℤ) → To k a → To l b → To (k + l) 
 plus-to k l a b ta tb = record { most = λ n. go n (ltb n (length rows)) refl }
   where
     go : (n : ℕ) (t : Bool) → ltb n (length rows) ≡ t → natAbs (at (plusGrams a b) n) ≤ k + l
-    go n true e = rw (plus-at a b n (ltb-true n (length rows) e)) (omega (arith, ta .most n, tb .most n, abs-add (at a n) (at b n)))
-    go n false e = rw (by-number-past (λ n. at a n +ℤ at b n) (length rows) n (ltb-false n (length rows) e)) (omega arith)
+    go n true e = rw (plus-at a b n (ltb-true n (length rows) e))
+        (omega (arith, ta .most n, tb .most n, abs-add (at a n) (at b n)))
+    go n false e = rw (by-number-past (λ n. at a n +ℤ at b n) (length rows) n (ltb-false n (length rows) e))
+        (omega arith)
 
 pub zeros-to : (k : ℕ) → To k zeros
 zeros-to k = record { most = λ n. go n (ltb n (length rows)) refl }

@@ -1,16 +1,16 @@
--- A total of one addend is that figure, summed over the herds. So what balances in each herd balances in the totals. Assumes nothing.
+-- A total of one addend is that figure, summed over the herds. So what balances in each herd balances in the totals.
+-- Assumes nothing.
 use Prim.Native.Nat.{ℕ}
 use Prim.Native.String.{String}
-use mathlib.Core.Path.{_≡_, refl, sym, ap, _∙_}
+use mathlib.Core.Path.{_≡_, sym, ap, _∙_}
 use mathlib.Core.Bool.{Bool, false, _&&_}
 use mathlib.Core.List.{List, [], _∷_}
 use lib.Dec.{T, eqb, ltb, ltb→lt, eqb→eq}
 use lib.ListN.{length, getD}
-use lib.IntN.{ℤ, pos, +ℤ-idl}
+use lib.IntN.{+ℤ-idl}
 use Rattle.base.specs.Runs.{all}
 use Rattle.base.specs.Each.{Each, none, more}
 use Rattle.base.proofs.Table.{both-left, both-right}
-use Rattle.base.proofs.Each.{each-map}
 use Rattle.cut.specs.Total.{signedTotal}
 use Rattle.cut.proofs.Totals.{signedTotal-same, signedTotal-swap}
 use Rattle.outputs.specs.declared.Figures.{Figures}
@@ -32,23 +32,30 @@ only-one (x ∷ (y ∷ l)) n t = absurd t
 abbrev pub isAlone : String → Bool
 isAlone t = ltb (totalNumber t) (length totals) && onlyOne (getD addends (totalNumber t) []) (number t)
 
-pub total-alone : (l : List Figures) (t : String) → T (isAlone t) → total t (totalsOf l) ≡ signedTotal (λ f. figure t f) l
+pub total-alone : (l : List Figures) (t : String) → T (isAlone t)
+    → total t (totalsOf l) ≡ signedTotal (λ f. figure t f) l
 unfolding totalsOf farmTotal
 total-alone l t h =
     let first = ltb (totalNumber t) (length totals) in
     let second = onlyOne (getD addends (totalNumber t) []) (number t) in
-    by-number-at (farmTotal l) (length totals) (totalNumber t) (ltb→lt (totalNumber t) (length totals) (both-left first second h))
-    ∙ ap (λ ns. signedTotal (λ n. signedTotal (λ (f : Figures). at (f .grams) n) l) ns) (only-one (getD addends (totalNumber t) []) (number t) (both-right first second h))
+    by-number-at (farmTotal l) (length totals) (totalNumber t)
+    (ltb→lt (totalNumber t) (length totals) (both-left first second h))
+    ∙ ap (λ ns. signedTotal (λ n. signedTotal (λ (f : Figures). at (f .grams) n) l) ns)
+    (only-one (getD addends (totalNumber t) []) (number t) (both-right first second h))
     ∙ +ℤ-idl (signedTotal (λ f. figure t f) l)
 
 -- each name of a list is such a total
-totals-alone : (l : List Figures) (ts : List String) → T (all isAlone ts) → Each (λ t. total t (totalsOf l) ≡ signedTotal (λ f. figure t f) l) ts
+totals-alone : (l : List Figures) (ts : List String) → T (all isAlone ts)
+    → Each (λ t. total t (totalsOf l) ≡ signedTotal (λ f. figure t f) l) ts
 totals-alone l [] h = none
-totals-alone l (t ∷ ts) h = more (total-alone l t (both-left (isAlone t) (all isAlone ts) h)) (totals-alone l ts (both-right (isAlone t) (all isAlone ts) h))
+totals-alone l (t ∷ ts) h =
+    more (total-alone l t (both-left (isAlone t) (all isAlone ts) h))
+    (totals-alone l ts (both-right (isAlone t) (all isAlone ts) h))
 
 -- the parts of an amount add up to it in the totals where they do so in each herd
 pub totals-balance : (l : List Figures) (t : String) (ts : List String) → T (isAlone t && all isAlone ts)
-    → Each (λ f. figure t f ≡ signedTotal (λ p. figure p f) ts) l → total t (totalsOf l) ≡ signedTotal (λ p. total p (totalsOf l)) ts
+    → Each (λ f. figure t f ≡ signedTotal (λ p. figure p f) ts) l
+    → total t (totalsOf l) ≡ signedTotal (λ p. total p (totalsOf l)) ts
 totals-balance l t ts h es =
     total-alone l t (both-left (isAlone t) (all isAlone ts) h)
     ∙ signedTotal-same es

@@ -1,4 +1,5 @@
--- A table filled number by number, the loop that everything over the names is: what is stored so far, one more, and all. Assumes nothing.
+-- A table filled number by number, the loop that everything over the names is: what is stored so far, one more, and
+-- all. Assumes nothing.
 use Prim.Native.Nat.{ℕ, zero, suc, _+_, _≤_, _<_}
 use mathlib.Core.Path.{_≡_, refl, sym, ap, _∙_}
 use mathlib.Core.Bool.{Bool, true, false}
@@ -57,9 +58,11 @@ module _ (f : ℕ → ℤ) where
   pub fill-all : (k : ℕ) {i : ℕ} {g : List ℤ} → Filled f i g → k ≤ i → length g ≡ k → g ≡ byNumber k f
   unfolding byNumber
   fill-all k {i} {g} d h l =
-      ext-getD (pos 0) g (from 0 k f) (l ∙ sym (length-from 0 k)) (λ n b. d .filled n (omega arith) ∙ sym (by-number-at k n (omega arith)))
+      ext-getD (pos 0) g (from 0 k f) (l ∙ sym (length-from 0 k))
+      (λ n b. d .filled n (omega arith) ∙ sym (by-number-at k n (omega arith)))
 
 -- two rules that agree on the numbers give one table
 pub by-number-same : (f g : ℕ → ℤ) (k : ℕ) → ((n : ℕ) → n < k → f n ≡ g n) → byNumber k f ≡ byNumber k g
 unfolding byNumber
-by-number-same f g k h = fill-all g k (record { filled = λ n l. by-number-at f k n l ∙ h n l }) (omega arith) (length-from f 0 k)
+by-number-same f g k h =
+    fill-all g k (record { filled = λ n l. by-number-at f k n l ∙ h n l }) (omega arith) (length-from f 0 k)

@@ -25,5 +25,6 @@ module _ {a b : List ℤ} (ta : To figureMost a) (tb : To figureMost b) (n : ℕ
   pub plus-fits : natAbs (toZ w64 (ofZ w64 (at a n))) + natAbs (toZ w64 (ofZ w64 (at b n))) < 2 ^ 63
   plus-fits = plus-asks (at a n) (at b n) (omega (arith, ta .most n, tb .most n))
 
-  pub plus-is : (r : ℤ) → r ≡ toZ w64 (ofZ w64 (at a n)) +ℤ toZ w64 (ofZ w64 (at b n)) → toZ w64 (ofZ w64 r) ≡ at a n +ℤ at b n
+  pub plus-is : (r : ℤ) → r ≡ toZ w64 (ofZ w64 (at a n)) +ℤ toZ w64 (ofZ w64 (at b n))
+      → toZ w64 (ofZ w64 r) ≡ at a n +ℤ at b n
   plus-is = plus-gave (at a n) (at b n) (omega (arith, ta .most n, tb .most n))

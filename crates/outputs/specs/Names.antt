@@ -1,5 +1,5 @@
--- The output names of a herd and of a farm, once (01, The listing; 001 has each under its section): a row a name, in the order of their
--- numbers. A name's number is the place of its row. In a definition a name is written as its text.
+-- The output names of a herd and of a farm, once (01, The listing; 001 has each under its section): a row a name, in
+-- the order of their numbers. A name's number is the place of its row. In a definition a name is written as its text.
 -- To be believed: the rows, and 2.1's totals with their addends.
 use Prim.Native.Nat.{ℕ, suc}
 use Prim.Native.String.{String}

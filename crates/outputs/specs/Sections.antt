@@ -1,5 +1,5 @@
--- A herd's figures as the sections of 001 give them, over any arithmetic; and the structs of the code as such sections on whole grams.
--- To be believed: a figure is a field of its section, under its name in 001.
+-- A herd's figures as the sections of 001 give them, over any arithmetic; and the structs of the code as such sections
+-- on whole grams. To be believed: a figure is a field of its section, under its name in 001.
 use Rattle.amounts.specs.Arithmetic.{Arithmetic, cutting}
 use Rattle.excretion.specs.declared.Excretion.{Excretion}
 use Rattle.excretion.specs.Excretion.{ExcretionIn, ofExcretion}

@@ -1,5 +1,6 @@
-// The output list: what a herd and a farm have figures of, by number. A herd's figures are one array of grams by the number of the name, the
-// totals another by the number of the total, and what is done with every name alike is a loop. specs/Names.antt has the names, a row each.
+// The output list: what a herd and a farm have figures of, by number. A herd's figures are one array of grams by the
+// number of the name, the totals another by the number of the total, and what is done with every name alike is a loop.
+// specs/Names.antt has the names, a row each.
 pub mod names; // the names by number
 pub mod total_names; // the totals by number
 pub mod parts; // the one place where a field meets its number

@@ -1,5 +1,5 @@
-// Files one after the other on standard input, each behind its length in four bytes, the lowest first: how test programs get the vectors of
-// the second implementation.
+// Files one after the other on standard input, each behind its length in four bytes, the lowest first: how test
+// programs get the vectors of the second implementation.
 use streams::Outcome;
 ghost use Prim.Native.Nat.{_≤_};
 

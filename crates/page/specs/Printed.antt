@@ -113,7 +113,8 @@ dairyYard =
     ∷ prints "2.19" (tech "red_floor_properties_solid_floor") "0.0" inPercent («red_floor_properties» Solid)
     ∷ prints "2.19" (tech "red_floor_properties_unpaved_floor") "0.5" inPercent («red_floor_properties» Unpaved)
     ∷ prints "2.19" (tech "red_floor_properties_perforated_floor") "0.75" inPercent («red_floor_properties» Perforated)
-    ∷ prints "2.19" (tech "red_floor_properties_paddock_or_pasture_used_as_exercise_yard") "0.9" inPercent («red_floor_properties» Paddock)
+    ∷ prints "2.19" (tech "red_floor_properties_paddock_or_pasture_used_as_exercise_yard") "0.9" inPercent
+    («red_floor_properties» Paddock)
     ∷ []
 
 -- 2.20
@@ -144,7 +145,8 @@ yard =
     ∷ prints "2.34" (tech "red_floor_properties_solid_floor") "0.0" inPercent («red_floor_properties» Solid)
     ∷ prints "2.34" (tech "red_floor_properties_unpaved_floor") "0.5" inPercent («red_floor_properties» Unpaved)
     ∷ prints "2.34" (tech "red_floor_properties_perforated_floor") "0.75" inPercent («red_floor_properties» Perforated)
-    ∷ prints "2.34" (tech "red_floor_properties_paddock_or_pasture_used_as_exercise_yard") "0.9" inPercent («red_floor_properties» Paddock)
+    ∷ prints "2.34" (tech "red_floor_properties_paddock_or_pasture_used_as_exercise_yard") "0.9" inPercent
+    («red_floor_properties» Paddock)
     ∷ []
 
 -- 2.35

@@ -23,7 +23,18 @@ use Rattle.rates.specs.Rates.{pigsRates, roughageRates}
 use Rattle.rates.specs.Bounds.{RatesOf}
 use Rattle.yard.specs.Yard.{yardTime, intoYard}
 use Rattle.pasture.specs.declared.Grazing.{Grazing}
-use Rattle.pasture.specs.Pasture.{outdoorGrazingTime, roughageGrazingTime, outdoorIntoGrazing, roughageIntoGrazing, pigsIntoGrazing, onPasture, outdoorGrazing, roughageGrazing, pigsGrazing, ofGrazing}
+use Rattle.pasture.specs.Pasture.{
+  outdoorGrazingTime,
+  roughageGrazingTime,
+  outdoorIntoGrazing,
+  roughageIntoGrazing,
+  pigsIntoGrazing,
+  onPasture,
+  outdoorGrazing,
+  roughageGrazing,
+  pigsGrazing,
+  ofGrazing,
+}
 use Rattle.pasture.proofs.Times.{outdoor-grazing-time-le, times-le, roughage-grazing-time-le}
 
 -- ---- a herd with a yard

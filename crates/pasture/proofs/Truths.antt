@@ -18,7 +18,15 @@ use Rattle.rates.specs.declared.Rates.{Rates}
 use Rattle.yard.specs.Yard.{«days_with_grazing_and_yard», shareOnBoth}
 use Rattle.yard.proofs.Times.{is-both}
 use Rattle.yard.proofs.Truths.{not-available-shared, worded}
-use Rattle.pasture.specs.Pasture.{outdoorGrazingTime, roughageGrazingTime, pigsIntoGrazing, afterGases, outdoorGrazing, roughageGrazing, pigsGrazing}
+use Rattle.pasture.specs.Pasture.{
+  outdoorGrazingTime,
+  roughageGrazingTime,
+  pigsIntoGrazing,
+  afterGases,
+  outdoorGrazing,
+  roughageGrazing,
+  pigsGrazing,
+}
 
 -- ---- TAN and N
 

@@ -1,5 +1,5 @@
--- 2.35, 2.61 and 2.88: what the animals excrete on pasture, the gases from it and what remains. 2.20, of dairy cows, has
--- the formulas of 2.35, at its own rates.
+-- 2.35, 2.61 and 2.88: what the animals excrete on pasture, the gases from it and what remains. 2.20, of dairy cows,
+-- has the formulas of 2.35, at its own rates.
 use Prim.Native.Nat.{ℕ, _+_, _-_, _*_}
 use Rattle.amounts.specs.Units.{tenths, tenThousandths, year, day}
 use Rattle.amounts.specs.Arithmetic.{Arithmetic, cutting}

@@ -18,7 +18,8 @@ ghost use Rattle.amounts.specs.Arithmetic.{cutting};
 ghost use Rattle.amounts.specs.Bounds.{Modest, PortionsOf, UpTo};
 ghost use Rattle.kinds.specs.Sound.{SoundOutdoor, SoundRoughage};
 ghost use Rattle.rates.specs.Bounds.{ModestRates};
-ghost use Rattle.pasture.specs.Pasture.{outdoorGrazingTime, roughageGrazingTime, onPasture, pigsIntoGrazing, outdoorGrazing, roughageGrazing, pigsGrazing, ofGrazing};
+ghost use Rattle.pasture.specs.Pasture.{outdoorGrazingTime, roughageGrazingTime, onPasture, pigsIntoGrazing};
+ghost use Rattle.pasture.specs.Pasture.{outdoorGrazing, roughageGrazing, pigsGrazing, ofGrazing};
 ghost use Rattle.pasture.specs.Bounds.{Emitted};
 
 // What a pasture emits.

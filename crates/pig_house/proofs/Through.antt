@@ -2,7 +2,16 @@
 -- way. The ceilings alone keep it so, whatever the rates are. Assumes nothing.
 use mathlib.Core.Path.{_≡_, refl, ap, _∙_}
 use Prim.Native.Nat.{ℕ, _+_, _-_, _*_, _≤_}
-use native.Mathlib.Nat.{mul-le-mul-left, mul-le-mul-right, div-mul-le-self, le-refl, le-trans, mul-comm, mul-zero, zero-mul}
+use native.Mathlib.Nat.{
+  mul-le-mul-left,
+  mul-le-mul-right,
+  div-mul-le-self,
+  le-refl,
+  le-trans,
+  mul-comm,
+  mul-zero,
+  zero-mul,
+}
 use native.Mathlib.Omega.{arith}
 use borrow.Author.Needs.{zero≤}
 use mir.Syntax.{w64}

@@ -1,6 +1,6 @@
--- 2.51 to 2.62 in plain words: the emission factor is at most twice the rate, so that no ceiling is reached, and at most
--- the rate where the free factor is not below zero; outdoors a pig house is empty, only a biotrickling filter keeps
--- something, deep litter gives no slurry and the slurry types no solid manure. Assumes nothing.
+-- 2.51 to 2.62 in plain words: the emission factor is at most twice the rate, so that no ceiling is reached, and at
+-- most the rate where the free factor is not below zero; outdoors a pig house is empty, only a biotrickling filter
+-- keeps something, deep litter gives no slurry and the slurry types no solid manure. Assumes nothing.
 use mathlib.Core.Path.{_≡_, refl, ap, _∙_}
 use Prim.Native.Nat.{ℕ, _+_, _-_, _*_, _≤_}
 use native.Mathlib.Nat.{zero-mul, mul-zero, le-trans, mul-le-mul-left, div-le-of-le-mul}

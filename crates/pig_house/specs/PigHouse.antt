@@ -96,8 +96,8 @@ module _ (A : Arithmetic) where
   abbrev pub «ef_housing_grazing» : Pigs → Amount
   «ef_housing_grazing» p = grazingWithFree p atMost billionths
 
-  -- ef_nh3_nhousing: share_indoor × ef_housing_indoor + (1 - share_indoor) × ef_housing_grazing, and then the ceiling of
-  -- 1 (02, W3)
+  -- ef_nh3_nhousing: share_indoor × ef_housing_indoor + (1 - share_indoor) × ef_housing_grazing, and then the ceiling
+  -- of 1 (02, W3)
   abbrev pub indoorPart : Pigs → Amount
   indoorPart p = portion A («ef_housing_indoor» p) («share_indoor» (p .«housing_type»)) tenths
 

@@ -1,5 +1,5 @@
-// What a command prints for a file, on standard output: what crate `calls` puts for it, in one piece. Nothing is printed
-// after a part that could not be written.
+// What a command prints for a file, on standard output: what crate `calls` puts for it, in one piece. Nothing is
+// printed after a part that could not be written.
 pub mod input; // the farm file on standard input
 pub mod ending; // how a run ended, on standard error
 pub mod tell; // answers of other calls, a line each

@@ -1,5 +1,5 @@
--- A herd that follows the one being read, from the calls that look at the others: each law in the form that a place of src/farms.rt wants.
--- Assumes nothing.
+-- A herd that follows the one being read, from the calls that look at the others: each law in the form that a place of
+-- src/farms.rt wants. Assumes nothing.
 use Prim.Native.Nat.{ℕ, _+_, _≤_, _<_}
 use mathlib.Core.Path.{_≡_, sym, _∙_}
 use mathlib.Core.Bool.{Bool, true, false}

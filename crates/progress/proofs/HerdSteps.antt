@@ -1,5 +1,5 @@
--- What a record does to a herd, from the calls that look at it: each law in the form that a place of src/herds.rt wants.
--- Assumes nothing.
+-- What a record does to a herd, from the calls that look at it: each law in the form that a place of src/herds.rt
+-- wants. Assumes nothing.
 use Prim.Native.Nat.{ℕ, _<_}
 use mathlib.Core.Path.{_≡_, refl, sym, _∙_, ap}
 use mathlib.Core.Bool.{Bool, true, false, not}
@@ -23,11 +23,13 @@ use Rattle.progress.specs.Herds.{withInput, newHerd, hasInput, after, ad
 
 -- ---- a slot
 
-pub slot-taken : (h : Herd) (slot : ℕ) {r : Bool} → r ≡ isMissing (getD (h .slots) slot noSlot .given) → not r ≡ hasInput h slot
+pub slot-taken : (h : Herd) (slot : ℕ) {r : Bool} → r ≡ isMissing (getD (h .slots) slot noSlot .given)
+    → not r ≡ hasInput h slot
 slot-taken h slot e = rw e
 
 pub herd-new : (l : Label) (k : Kind) (slot : ℕ) (g : Given)
-    → _≡_ {A = Herd} (record { label = l; kind = k; slots = set (replicate slots noSlot) slot (record { given = g }) }) (newHerd l k slot g)
+    → _≡_ {A = Herd} (record { label = l; kind = k; slots = set (replicate slots noSlot) slot (record { given = g }) })
+    (newHerd l k slot g)
 unfolding newHerd withInput
 herd-new l k slot g = refl
 
@@ -43,7 +45,9 @@ module _ (h : Herd) (k : Kind) (i : ℕ) (g : Given) {b : Bool} (q : b ≡ sameK
     unfolding addingTo
     given-already e = simp (addingTo, sym q, same, sym w ∙ e)
 
-    pub adds : r ≡ false → after Adds (record { label = h .label; kind = h .kind; slots = set (h .slots) i (record { given = g }) }) ≡ addingTo h k i g
+    pub adds : r ≡ false
+        → after Adds (record { label = h .label; kind = h .kind; slots = set (h .slots) i (record { given = g }) })
+        ≡ addingTo h k i g
     unfolding addingTo withInput
     adds e = simp (addingTo, sym q, same, sym w ∙ e)
 

@@ -1,4 +1,5 @@
--- What stands at a place, by what the reader found there: each law in the form that a place of src/places.rt wants. Assumes nothing.
+-- What stands at a place, by what the reader found there: each law in the form that a place of src/places.rt wants.
+-- Assumes nothing.
 use Prim.Native.Nat.{ℕ}
 use mathlib.Core.Path.{_≡_, sym, ap, _∙_}
 use mathlib.Core.List.{List}
@@ -21,7 +22,8 @@ module _ (s : List ℕ) (place : ReaderPlace) (h : Herd) {o : Step} (q : o ≡ s
   unfolding readAt
   read-is e = ap (readBy s place h) (sym q ∙ e)
 
-  pub read-record : {f : Fields} {next : ReaderPlace} → o ≡ Record f next → {y : Entry} → y ≡ entryOf (partsAt s f) → {t : HerdAfter} → t ≡ effectOf h y
+  pub read-record : {f : Fields} {next : ReaderPlace} → o ≡ Record f next → {y : Entry} → y ≡ entryOf (partsAt s f)
+      → {t : HerdAfter} → t ≡ effectOf h y
       → record { effect = t .effect; herd = t .herd; next = next } ≡ readAt s place h
   read-record e v w = rw (w, v) (sym (read-is e))
 

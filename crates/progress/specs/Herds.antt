@@ -1,5 +1,6 @@
--- What a record does to the herd being read: it adds an input, begins another herd, or is refused with 10 or 11. It mirrors the code for its
--- contracts; what 10 and 11 mean is said of the records in `rules/specs`, and proved to be the same there.
+-- What a record does to the herd being read: it adds an input, begins another herd, or is refused with 10 or 11. It
+-- mirrors the code for its contracts; what 10 and 11 mean is said of the records in `rules/specs`, and proved to be the
+-- same there.
 use Prim.Native.Nat.{ℕ}
 use mathlib.Core.Bool.{Bool, not}
 use mathlib.Core.List.{[], _∷_}
@@ -40,13 +41,15 @@ after e h = record { effect = e; herd = h }
 -- a record of the herd's own label: 10, 11, or one input more
 unfoldable pub addingTo : Herd → Kind → ℕ → Given → HerdAfter
 addingTo h k slot g =
-    first (after (Wrong OtherKind) h when not (sameKind (h .kind) k) ∷ after (Wrong GivenAlready) h when hasInput h slot ∷ [])
+    first (after (Wrong OtherKind) h when not (sameKind (h .kind) k) ∷ after (Wrong GivenAlready) h when hasInput h slot
+    ∷ [])
     (after Adds (withInput h slot g))
 
 -- what a record of this label does that says this
 abbrev pub effectBy : Herd → Label → RecordRead → HerdAfter
 effectBy h l (reads.Wrong fault) = after (Wrong fault) h
-effectBy h l (reads.Gives k slot g) = pick (sameLabel (h .label) l) (addingTo h k slot g) (after Begins (newHerd l k slot g))
+effectBy h l (reads.Gives k slot g) =
+    pick (sameLabel (h .label) l) (addingTo h k slot g) (after Begins (newHerd l k slot g))
 
 unfoldable pub effectOf : Herd → Entry → HerdAfter
 effectOf h e = effectBy h (e .label) (e .read)

@@ -1,5 +1,5 @@
-// A herd that follows the one being read: whether its label is new and there is room for it, and how many herds there are and which lacks an input
-// with the one that was being read.
+// A herd that follows the one being read: whether its label is new and there is room for it, and how many herds there
+// are and which lacks an input with the one that was being read.
 use farm::Checked;
 use farm::Fault;
 use farm::HERDS_MOST;

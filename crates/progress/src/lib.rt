@@ -1,4 +1,5 @@
-// What stands next in a file does to the herd being read and to the herds before it: refusals 2 and 8 to 11, and what 12 asks.
+// What stands next in a file does to the herd being read and to the herds before it: refusals 2 and 8 to 11, and what
+// 12 asks.
 pub mod places; // what stands at a place: 2
 mod herds; // the herd being read: 10 and 11
 pub mod farms; // the herds before it: 8, 9 and 12
@@ -7,7 +8,8 @@ use csv::ReaderPlace;
 use farm::Fault;
 use farm::Herd;
 
-// What comes next does to the herd being read: it is a record that adds to it, that begins another, or that is wrong; or the file ends.
+// What comes next does to the herd being read: it is a record that adds to it, that begins another, or that is wrong;
+// or the file ends.
 pub enum Effect {
     Adds,
     Begins,

@@ -1,7 +1,7 @@
--- 02, W7: "Two advisers added the yard and pasture fractions by hand and were one gram off." In the answer of an accepted
--- cattle herd the exact share of the yard, and of the pasture, is the figure and what was cut off over the divisor; that
--- yard, pasture and housing are together what is excreted is `kept` (crate `model`). And the quotients of a roughage
--- herd's factors are the factors of its housing. Assumes nothing.
+-- 02, W7: "Two advisers added the yard and pasture fractions by hand and were one gram off." In the answer of an
+-- accepted cattle herd the exact share of the yard, and of the pasture, is the figure and what was cut off over the
+-- divisor; that yard, pasture and housing are together what is excreted is `kept` (crate `model`). And the quotients of
+-- a roughage herd's factors are the factors of its housing. Assumes nothing.
 use mathlib.Core.Path.{_≡_, refl}
 use Rattle.cut.specs.Frac.{Same}
 use Rattle.amounts.specs.Arithmetic.{cutting}

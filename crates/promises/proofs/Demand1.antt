@@ -1,9 +1,8 @@
--- Demand 1: a file of any bytes gets either the farm's figures or exactly one numbered refusal with its record number, always the first that
--- applies in the written order; a refusal leaves the lent buffer untouched. And any two results that a call's contract allows are equal.
--- So of a record that is handed in.
--- What a call says is told in 01's numbers, by `says` of crate `farm` and `saysOf` of crate `listing`; what the checks of a record say, by
--- `herd-says` and `farm-says` of crate `checks`.
--- Assumes nothing.
+-- Demand 1: a file of any bytes gets either the farm's figures or exactly one numbered refusal with its record number,
+-- always the first that applies in the written order; a refusal leaves the lent buffer untouched. And any two results
+-- that a call's contract allows are equal. So of a record that is handed in. What a call says is told in 01's numbers,
+-- by `says` of crate `farm` and `saysOf` of crate `listing`; what the checks of a record say, by `herd-says` and
+-- `farm-says` of crate `checks`. Assumes nothing.
 use Prim.Native.Nat.{ℕ, _≤_, _<_}
 use mathlib.Core.Path.{_≡_, refl, sym, ap, _∙_}
 use mathlib.Core.Bool.{Bool, true, false}
@@ -26,7 +25,24 @@ use Rattle.checks.proofs.Refuses.{record-gets}
 use Rattle.reader.specs.declared.FileAnswer.{FileAnswer}
 use Rattle.reader.specs.Files.{readOf, accepted, refused}
 use Rattle.rules.specs.Rules.{KeepsRules, Record}
-use Rattle.rules.specs.Refusals.{First, AppliesAt, too-long, broken, wrong, missing, Applies, not-four-fields, bad-label, not-in-the-list, standard-forbidden, bad-value, earlier-label, no-room-for-herd, other-kind, given-already}
+use Rattle.rules.specs.Refusals.{
+  First,
+  AppliesAt,
+  too-long,
+  broken,
+  wrong,
+  missing,
+  Applies,
+  not-four-fields,
+  bad-label,
+  not-in-the-list,
+  standard-forbidden,
+  bad-value,
+  earlier-label,
+  no-room-for-herd,
+  other-kind,
+  given-already,
+}
 use Rattle.rules.proofs.Accepts.{accepts-exactly}
 use Rattle.rules.proofs.Refuses.{Outcome, takes, gives as gives-first, outcome}
 use Rattle.rules.proofs.Answers.{answered}
@@ -116,26 +132,31 @@ pub call-says : {c : Call} {old new : List ℕ} {r : Written} → Called c old n
 call-says {c} {old} w = rw (w .answer) (by-finding c old (c .checked) refl)
 
 -- one that says a refusal, 13 too, leaves the buffer as it was
-fits-or-not : (listing old : List ℕ) (t : Bool) (k n : ℕ) → saysOf (pick t (Length (length listing)) (Refused BufferTooShort 0)) ≡ refuses k n
+fits-or-not : (listing old : List ℕ) (t : Bool) (k n : ℕ)
+    → saysOf (pick t (Length (length listing)) (Refused BufferTooShort 0)) ≡ refuses k n
     → pick t (listing ++ drop (length listing) old) old ≡ old
 fits-or-not listing old true k n e = clash cc
 fits-or-not listing old false k n e = refl
 
-by-checks : (c : Checked) (listing old : List ℕ) (k n : ℕ) → saysOf (said c listing old) ≡ refuses k n → left c listing old ≡ old
+by-checks : (c : Checked) (listing old : List ℕ) (k n : ℕ) → saysOf (said c listing old) ≡ refuses k n
+    → left c listing old ≡ old
 unfolding leaves answers
 by-checks checks.Accepted listing old k n e = fits-or-not listing old (leb (length listing) (length old)) k n e
 by-checks (checks.Refused f m) listing old k n e = refl
 
-pub refusal-leaves : {c : Call} {old new : List ℕ} {r : Written} (k n : ℕ) → Called c old new r → saysOf r ≡ refuses k n → new ≡ old
-refusal-leaves {c} {old} {new} {r} k n w e = w .buffer ∙ by-checks (c .checked) (c .listing) old k n (sym (ap saysOf (w .answer)) ∙ e)
+pub refusal-leaves : {c : Call} {old new : List ℕ} {r : Written} (k n : ℕ) → Called c old new r → saysOf r ≡ refuses k n
+    → new ≡ old
+refusal-leaves {c} {old} {new} {r} k n w e = w .buffer
+    ∙ by-checks (c .checked) (c .listing) old k n (sym (ap saysOf (w .answer)) ∙ e)
 
--- any two results that a writing call's contract allows are equal, and so are the bytes that it leaves; every other call's contract says
--- what its result is
+-- any two results that a writing call's contract allows are equal, and so are the bytes that it leaves; every other
+-- call's contract says what its result is
 pub record Same (new new′ : List ℕ) (r r′ : Written) : Type 0 where
   pub bytes : new ≡ new′
   pub answer : r ≡ r′
 
-pub one-result : {c : Call} {old new new′ : List ℕ} {r r′ : Written} → Called c old new r → Called c old new′ r′ → Same new new′ r r′
+pub one-result : {c : Call} {old new new′ : List ℕ} {r r′ : Written} → Called c old new r → Called c old new′ r′
+    → Same new new′ r r′
 one-result w v = record { bytes = w .buffer ∙ sym (v .buffer); answer = w .answer ∙ sym (v .answer) }
 
 -- and so of what a command prints

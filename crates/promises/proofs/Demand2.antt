@@ -1,6 +1,6 @@
--- Demand 2: every figure equals what the published formulas and tables give, cut only where the rules name it; a file is accepted exactly when
--- it keeps the file rules; the listing's bytes are fixed. The rows of 01 that are proved stand as one table in crate `model`, proofs/Edges.
--- Assumes nothing.
+-- Demand 2: every figure equals what the published formulas and tables give, cut only where the rules name it; a file
+-- is accepted exactly when it keeps the file rules; the listing's bytes are fixed. The rows of 01 that are proved stand
+-- as one table in crate `model`, proofs/Edges. Assumes nothing.
 use Prim.Native.Nat.{ℕ, _≤_}
 use mathlib.Core.Path.{_≡_, ap, _∙_}
 use mathlib.Core.Logic.{_↔_}
@@ -58,7 +58,8 @@ demand-2-figures {s} {f} k =
     passes : checkFarm (farmOf hs) ≡ Accepted
     passes = accepted-passes s (farmOf hs) reads
 
--- ---- the listing's bytes: where the checks find nothing and the buffer has room, the listing and then the bytes that stood behind it
+-- ---- the listing's bytes: where the checks find nothing and the buffer has room, the listing and then the bytes that
+-- stood behind it
 
 pub record Listed (listing old new : List ℕ) (r : Written) : Type 0 where
   pub bytes : new ≡ listing ++ drop (length listing) old

@@ -1,8 +1,7 @@
 -- Demand 3: for every record that a call accepts, each figure that it gives lies within what is promised of its exact
--- value, and each total within what is promised of it for each herd; below zero too. And so for every herd and the totals
--- of a file that is read. What is promised is a table (crate `nearness`, specs/Promised): 10 grams, but for the names with
--- a row of their own.
--- Assumes nothing.
+-- value, and each total within what is promised of it for each herd; below zero too. And so for every herd and the
+-- totals of a file that is read. What is promised is a table (crate `nearness`, specs/Promised): 10 grams, but for the
+-- names with a row of their own. Assumes nothing.
 use Prim.Native.Nat.{ℕ, _*_}
 use mathlib.Core.Path.{_≡_, sym, _∙_}
 use mathlib.Core.List.{List, map}
@@ -13,7 +12,7 @@ use Rattle.cut.specs.Frac.{Within}
 use Rattle.farm.specs.declared.Herd.{Herd}
 use Rattle.farm.specs.declared.Farm.{Farm}
 use Rattle.farm.specs.declared.Checked.the-variants.{Accepted}
-use Rattle.checks.specs.Checks.{checkHerd, checkFarm, herdsOf}
+use Rattle.checks.specs.Checks.{checkFarm, herdsOf}
 use Rattle.checks.proofs.Accepts.{farm-each}
 use Rattle.reader.specs.Files.{readOf, accepted}
 use Rattle.rules.proofs.Passing.{accepted-passes}
@@ -31,7 +30,8 @@ use Rattle.contracts.proofs.RecordSteps.{herd-checked, herd-figured, farm-check
 -- ---- a herd's record: every figure, by its number
 
 abbrev pub FiguresWithin : Herd → Type 0
-FiguresWithin h = (n : ℕ) → Within (promisedAt (typedOf h) n) (at (herdAnswer h .figures .grams) n) (exactAt (typedOf h) n)
+FiguresWithin h = (n : ℕ)
+    → Within (promisedAt (typedOf h) n) (at (herdAnswer h .figures .grams) n) (exactAt (typedOf h) n)
 
 pub demand-3-herd : (h : Herd) → herdAnswer h .checked ≡ Accepted → FiguresWithin h
 demand-3-herd h e n =
@@ -45,7 +45,9 @@ abbrev pub typedHerds : Farm → List Inputs
 typedHerds f = map typedOf (herdsOf f)
 
 abbrev pub TotalsWithin : Farm → Type 0
-TotalsWithin f = (t : ℕ) → Within (promisedOfTotal t * length (herdsOf f)) (at (farmAnswer f .totals .grams) t) (exactOfTotal (typedHerds f) t)
+TotalsWithin f = (t : ℕ)
+    → Within (promisedOfTotal t * length (herdsOf f)) (at (farmAnswer f .totals .grams) t)
+    (exactOfTotal (typedHerds f) t)
 
 pub demand-3-farm : (f : Farm) → farmAnswer f .checked ≡ Accepted → TotalsWithin f
 unfolding farmAnswer

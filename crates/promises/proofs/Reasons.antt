@@ -2,7 +2,7 @@
 -- comes onto the yard is the part of the N that the told days and shares make of the year, with one cut. Assumes
 -- nothing.
 use Prim.Native.Nat.{ℕ, _+_, _-_, _*_}
-use mathlib.Core.Path.{_≡_, sym, ap, _∙_}
+use mathlib.Core.Path.{_≡_, ap}
 use lib.IntN.{pos, natAbs}
 use Rattle.cut.specs.Cut.{_cutBy_}
 use Rattle.kinds.specs.declared.Outdoor.{Outdoor}

@@ -1,10 +1,10 @@
--- The code looks at 3 to 7, then at the label: where it is that of the herd being read at 10 and 11, else at 8 and 9. That gives the first that
--- applies of 3 to 11 as they are listed, since 8 and 9 are of another label and 10 and 11 of the herd's own. Assumes
--- nothing.
+-- The code looks at 3 to 7, then at the label: where it is that of the herd being read at 10 and 11, else at 8 and 9.
+-- That gives the first that applies of 3 to 11 as they are listed, since 8 and 9 are of another label and 10 and 11 of
+-- the herd's own. Assumes nothing.
 use Prim.Native.Nat.{ℕ, _<_}
 use mathlib.Core.Path.{_≡_, refl, sym, ap, _∙_, subst}
 use mathlib.Core.Bool.{Bool, true, false, true≢false, not, _&&_}
-use mathlib.Core.List.{List, [], _∷_, _++_}
+use mathlib.Core.List.{List, [], _∷_}
 use lib.Dec.{leb}
 use borrow.Author.Tests.{leb-false}
 use Rattle.base.specs.Pick.{pick}
@@ -39,7 +39,8 @@ use Rattle.reader.specs.Files.{Progress, refused, closed, isCurrent, rec
 
 -- the tests of a record of another label
 abbrev pub newTests : ℕ → Progress → Label → List (Test FileAnswer)
-newTests n p l = refused n EarlierLabel when earlierLabel (herdsOf (p .farm)) l ∷ refused n NoRoomForHerd when leb herdsMost (closed p .farm .count) ∷ []
+newTests n p l = refused n EarlierLabel when earlierLabel (herdsOf (p .farm)) l
+    ∷ refused n NoRoomForHerd when leb herdsMost (closed p .farm .count) ∷ []
 
 -- the herd h, whose first record is the n-th, is the one being read
 abbrev pub beginning : ℕ → Progress → Herd → Progress
@@ -50,9 +51,12 @@ abbrev pub withCurrent : Progress → Herd → Progress
 withCurrent p h = record { farm = p .farm; herd = h; first = p .first; lacking = p .lacking }
 
 pub data EffectSays (n : ℕ) (p : Progress) (x : Parts) : Effect → Herd → Type 0 where
-  wrong : {fault : Fault} {h : Herd} → ((z : FileAnswer) → first (recordTests n p x) z ≡ refused n fault) → EffectSays n p x (Wrong fault) h
-  adds : {h : Herd} → (p .herd ≡ noHerd → ⊥) → ((z : FileAnswer) → first (recordTests n p x) z ≡ z) → taken n p x ≡ withCurrent p h → EffectSays n p x Adds h
-  begins : {h : Herd} → ((z : FileAnswer) → first (recordTests n p x) z ≡ first (newTests n p (h .label)) z) → taken n p x ≡ beginning n p h → EffectSays n p x Begins h
+  wrong : {fault : Fault} {h : Herd} → ((z : FileAnswer) → first (recordTests n p x) z ≡ refused n fault)
+      → EffectSays n p x (Wrong fault) h
+  adds : {h : Herd} → (p .herd ≡ noHerd → ⊥) → ((z : FileAnswer) → first (recordTests n p x) z ≡ z)
+      → taken n p x ≡ withCurrent p h → EffectSays n p x Adds h
+  begins : {h : Herd} → ((z : FileAnswer) → first (recordTests n p x) z ≡ first (newTests n p (h .label)) z)
+      → taken n p x ≡ beginning n p h → EffectSays n p x Begins h
 
 module _ (n : ℕ) (p : Progress) (x : Parts) where
   abbrev k : Kind
@@ -79,31 +83,40 @@ module _ (n : ℕ) (p : Progress) (x : Parts) where
 
   -- the herd's own label: 10 and 11
   own-effect : (p .herd ≡ noHerd → ⊥) → (same given : Bool)
-      → ((z : FileAnswer) → first (recordTests n p x) z ≡ pick (not same) (refused n OtherKind) (pick given (refused n GivenAlready) z))
+      → ((z : FileAnswer) → first (recordTests n p x) z
+      ≡ pick (not same) (refused n OtherKind) (pick given (refused n GivenAlready) z))
       → taken n p x ≡ took true
-      → let t = pick (not same) (after (Wrong OtherKind) (p .herd)) (pick given (after (Wrong GivenAlready) (p .herd)) (after Adds (withInput (p .herd) i g))) in
+      → let t = pick (not same) (after (Wrong OtherKind) (p .herd))
+      (pick given (after (Wrong GivenAlready) (p .herd)) (after Adds (withInput (p .herd) i g))) in
       EffectSays n p x (t .effect) (t .herd)
   own-effect some false given l t = EffectSays.wrong l
   own-effect some true true l t = EffectSays.wrong l
   own-effect some true false l t = EffectSays.adds some l t
 
   -- 3 to 7 do not apply
-  gives-effect : labelOk (labelIn x) ≡ true → (own : Bool) → isCurrent p x ≡ own → ((z : FileAnswer) → first (recordTests n p x) z ≡ first (behind own) z) → taken n p x ≡ took own
+  gives-effect : labelOk (labelIn x) ≡ true → (own : Bool) → isCurrent p x ≡ own
+      → ((z : FileAnswer) → first (recordTests n p x) z ≡ first (behind own) z) → taken n p x ≡ took own
       → let t = pick own (addingTo (p .herd) k i g) (after Begins (newHerd (labelIn x) k i g)) in
       EffectSays n p x (t .effect) (t .herd)
   unfolding addingTo newHerd withInput
-  gives-effect good true e l t = own-effect (λ q. true≢false (sym (rw q at e) ∙ no-label (labelIn x) good)) (sameKind (p .herd .kind) k) (hasInput (p .herd) i) l t
+  gives-effect good true e l t =
+      own-effect (λ q. true≢false (sym (rw q at e) ∙ no-label (labelIn x) good)) (sameKind (p .herd .kind) k)
+      (hasInput (p .herd) i) l t
   gives-effect good false e l t = EffectSays.begins l t
 
-  read-lines : {t : RecordRead} → recordRead x ≡ t → (z : FileAnswer) → first (recordTests n p x) z ≡ decided (refused n) (first (behind (isCurrent p x)) z) t
+  read-lines : {t : RecordRead} → recordRead x ≡ t → (z : FileAnswer)
+      → first (recordTests n p x) z ≡ decided (refused n) (first (behind (isCurrent p x)) z) t
   unfolding recordRead recordTests
-  read-lines e z = read-first k i g (refused n) (behind (isCurrent p x)) z (faults x) ∙ ap (decided (refused n) (first (behind (isCurrent p x)) z)) e
+  read-lines e z = read-first k i g (refused n) (behind (isCurrent p x)) z (faults x)
+      ∙ ap (decided (refused n) (first (behind (isCurrent p x)) z)) e
 
-  read-effect : (t : RecordRead) → recordRead x ≡ t → EffectSays n p x (effectBy (p .herd) (labelIn x) t .effect) (effectBy (p .herd) (labelIn x) t .herd)
+  read-effect : (t : RecordRead) → recordRead x ≡ t
+      → EffectSays n p x (effectBy (p .herd) (labelIn x) t .effect) (effectBy (p .herd) (labelIn x) t .herd)
   unfolding recordRead taken
   read-effect (reads.Wrong fault) e = EffectSays.wrong (read-lines e)
   read-effect (reads.Gives m j v) e =
-      subst (λ (t : RecordRead). EffectSays n p x (effectBy (p .herd) (labelIn x) t .effect) (effectBy (p .herd) (labelIn x) t .herd)) (read-gives k i g (faults x) e)
+      subst (λ (t : RecordRead). EffectSays n p x (effectBy (p .herd) (labelIn x) t .effect)
+      (effectBy (p .herd) (labelIn x) t .herd)) (read-gives k i g (faults x) e)
       (gives-effect (input-good x e) (isCurrent p x) refl (read-lines e) refl)
 
   pub effect-says : let t = effectOf (p .herd) (entryOf x) in EffectSays n p x (t .effect) (t .herd)
@@ -113,15 +126,19 @@ module _ (n : ℕ) (p : Progress) (x : Parts) where
 -- ---- another label: 8 and 9
 
 pub data Admits (n : ℕ) (p : Progress) (l : Label) : Checked → Type 0 where
-  refuses : {fault : Fault} {k : ℕ} → ((z : FileAnswer) → first (newTests n p l) z ≡ refused k fault) → Admits n p l (Refused fault k)
-  accepts : ((z : FileAnswer) → first (newTests n p l) z ≡ z) → closed p .farm .count < herdsMost → Admits n p l Accepted
+  refuses : {fault : Fault} {k : ℕ} → ((z : FileAnswer) → first (newTests n p l) z ≡ refused k fault)
+      → Admits n p l (Refused fault k)
+  accepts : ((z : FileAnswer) → first (newTests n p l) z ≡ z) → closed p .farm .count < herdsMost
+      → Admits n p l Accepted
 
-pub admits : (n : ℕ) (p : Progress) (l : Label) → Admits n p l (admitted (labelsOf (herdsOf (p .farm))) (closed p .farm .count) l n)
+pub admits : (n : ℕ) (p : Progress) (l : Label)
+    → Admits n p l (admitted (labelsOf (herdsOf (p .farm))) (closed p .farm .count) l n)
 unfolding admitted earlierLabel
 admits n p l = go (hasLabel (labelsOf (herdsOf (p .farm))) l) (leb herdsMost (closed p .farm .count)) (λ z. refl) refl
   where
     go : (earlier full : Bool)
-        → ((z : FileAnswer) → first (newTests n p l) z ≡ pick earlier (refused n EarlierLabel) (pick full (refused n NoRoomForHerd) z))
+        → ((z : FileAnswer) → first (newTests n p l) z
+        ≡ pick earlier (refused n EarlierLabel) (pick full (refused n NoRoomForHerd) z))
         → leb herdsMost (closed p .farm .count) ≡ full
         → Admits n p l (pick earlier (Refused EarlierLabel n) (pick full (Refused NoRoomForHerd n) Accepted))
     go true full h e = Admits.refuses h

@@ -1,6 +1,6 @@
 -- How far a file is read, from the calls that go on with it: each law in the form that a place of src/files.rt wants.
 -- Assumes nothing.
-use Prim.Native.Nat.{ℕ, _+_}
+use Prim.Native.Nat.{ℕ}
 use mathlib.Core.Path.{_≡_, refl, sym, _∙_}
 use lib.ListN.{set}
 use borrow.Author.Tests.{eq-eqb, ne-eqb}
@@ -19,7 +19,8 @@ use Rattle.reader.specs.Steps.{progress, Underway}
 
 -- ---- a refusal
 
-pub refusal : (n : ℕ) (fault : Fault) {f : Farm} → f ≡ noFarm → record { checked = Refused fault n; farm = f } ≡ refused n fault
+pub refusal : (n : ℕ) (fault : Fault) {f : Farm} → f ≡ noFarm
+    → record { checked = Refused fault n; farm = f } ≡ refused n fault
 refusal n fault e = cc
 
 -- ---- how many herds there are
@@ -29,7 +30,8 @@ pub none-yet : {p : Progress} → p ≡ nothingRead → counted (p .farm .count)
 unfolding counted
 none-yet e = rw e
 
--- ---- the herd being read is closed: it stands behind the others, and where there is none yet, the one that stands there says nothing
+-- ---- the herd being read is closed: it stands behind the others, and where there is none yet, the one that stands
+-- there says nothing
 
 -- the farm with a herd stored behind those that it counts
 abbrev pub stored : Farm → Herd → ℕ → Farm
@@ -48,7 +50,8 @@ module _ {p : Progress} where
 
 -- ---- read through: 12
 
-module _ (f : Farm) (c : Current) (u : Underway (progress f c)) {k : ℕ} (w : k ≡ lackingWith (c .lacking) (c .herd) (c .first)) where
+module _ (f : Farm) (c : Current) (u : Underway (progress f c)) {k : ℕ}
+    (w : k ≡ lackingWith (c .lacking) (c .herd) (c .first)) where
   lacking-is : k ≡ closed (progress f c) .lacking
   lacking-is = w ∙ sym (closed-lacking u)
 
@@ -56,7 +59,8 @@ module _ (f : Farm) (c : Current) (u : Underway (progress f c)) {k : ℕ} (w : k
   unfolding finished
   input-missing n q = simp (finished, sym lacking-is, ne-eqb k 0 n) q
 
-  pub farm-read : k ≡ 0 → {n : ℕ} → n ≡ counted (f .count) (c .first) → accepted (stored f (c .herd) n) ≡ finished (progress f c)
+  pub farm-read : k ≡ 0 → {n : ℕ} → n ≡ counted (f .count) (c .first)
+      → accepted (stored f (c .herd) n) ≡ finished (progress f c)
   unfolding finished
   farm-read e q = simp (finished, sym lacking-is, eq-eqb k 0 e, closed-farm u) (cc)
 

@@ -1,5 +1,5 @@
--- The loop over a file's records: what is read from here on, X, is what is read from the front. Each step opens the reading by what stands at
--- the place. Assumes nothing.
+-- The loop over a file's records: what is read from here on, X, is what is read from the front. Each step opens the
+-- reading by what stands at the place. Assumes nothing.
 use Prim.Native.Nat.{ℕ, _+_, _-_, _≤_, _<_}
 use mathlib.Core.Path.{_≡_, sym, ap, _∙_}
 use mathlib.Core.List.{List}
@@ -46,25 +46,35 @@ onFrom s place n p = readFrom n p (readingOf (drop (place .at) s))
 
 data PlaceSays (s : List ℕ) (place : ReaderPlace) (n : ℕ) (p : Progress) : Effect → Herd → ReaderPlace → Type 0 where
   ends : {h : Herd} {next : ReaderPlace} → onFrom s place n p ≡ finished p → PlaceSays s place n p Ends h next
-  wrong : {fault : Fault} {h : Herd} {next : ReaderPlace} → onFrom s place n p ≡ refused n fault → PlaceSays s place n p (Wrong fault) h next
-  adds : {h : Herd} {next : ReaderPlace} → (p .herd ≡ noHerd → ⊥) → onFrom s place n p ≡ onFrom s next (n + 1) (withCurrent p h) → place .at < next .at → next .at ≤ length s
+  wrong : {fault : Fault} {h : Herd} {next : ReaderPlace} → onFrom s place n p ≡ refused n fault
+      → PlaceSays s place n p (Wrong fault) h next
+  adds : {h : Herd} {next : ReaderPlace} → (p .herd ≡ noHerd → ⊥)
+      → onFrom s place n p ≡ onFrom s next (n + 1) (withCurrent p h) → place .at < next .at → next .at ≤ length s
       → PlaceSays s place n p Adds h next
-  begins : {h : Herd} {next : ReaderPlace} → onFrom s place n p ≡ first (newTests n p (h .label)) (onFrom s next (n + 1) (beginning n p h))
+  begins : {h : Herd} {next : ReaderPlace}
+      → onFrom s place n p ≡ first (newTests n p (h .label)) (onFrom s next (n + 1) (beginning n p h))
       → place .at < next .at → next .at ≤ length s
       → PlaceSays s place n p Begins h next
 
 module _ (s : List ℕ) (place : ReaderPlace) (n : ℕ) (p : Progress) where
-  effect-read : (x : Parts) (next : ReaderPlace) → onFrom s place n p ≡ first (recordTests n p x) (onFrom s next (n + 1) (taken n p x)) → place .at < next .at → next .at ≤ length s
+  effect-read : (x : Parts) (next : ReaderPlace)
+      → onFrom s place n p ≡ first (recordTests n p x) (onFrom s next (n + 1) (taken n p x)) → place .at < next .at
+      → next .at ≤ length s
       → {t : Effect} {h : Herd} → EffectSays n p x t h → PlaceSays s place n p t h next
   effect-read x next e past fits (EffectSays.wrong l) = PlaceSays.wrong (e ∙ l _)
-  effect-read x next e past fits (EffectSays.adds some l k) = PlaceSays.adds some (e ∙ l _ ∙ ap (onFrom s next (n + 1)) k) past fits
+  effect-read x next e past fits (EffectSays.adds some l k) =
+      PlaceSays.adds some (e ∙ l _ ∙ ap (onFrom s next (n + 1)) k) past fits
   effect-read x next e past fits (EffectSays.begins {h} l k) =
-      PlaceSays.begins (e ∙ l _ ∙ ap (λ (q : Progress). first (newTests n p (h .label)) (onFrom s next (n + 1) q)) k) past fits
+      PlaceSays.begins (e ∙ l _ ∙ ap (λ (q : Progress). first (newTests n p (h .label)) (onFrom s next (n + 1) q)) k)
+      past fits
 
-  step-read : {o : Step} → Says s (place .at) o → let m = readBy s place (p .herd) o in PlaceSays s place n p (m .effect) (m .herd) (m .next)
+  step-read : {o : Step} → Says s (place .at) o → let m = readBy s place (p .herd) o in
+      PlaceSays s place n p (m .effect) (m .herd) (m .next)
   unfolding readFrom
   step-read (Says.found {f} {n = next} x) =
-      let e : onFrom s place n p ≡ first (recordTests n p (partsAt s f)) (onFrom s next (n + 1) (taken n p (partsAt s f))) = rw (x .reads, readFrom, x .holds) in
+      let e : onFrom s place n p
+      ≡ first (recordTests n p (partsAt s f)) (onFrom s next (n + 1) (taken n p (partsAt s f))) =
+      rw (x .reads, readFrom, x .holds) in
       effect-read (partsAt s f) next e (x .past) (x .fits) (effect-says n p (partsAt s f))
   step-read (Says.broken b a e) = PlaceSays.wrong {fault = RecordBroken} (rw (e, readFrom))
   step-read (Says.ended l) = PlaceSays.ends (rw (end-read s (place .at) l, readFrom))
@@ -75,8 +85,8 @@ module _ (s : List ℕ) (place : ReaderPlace) (n : ℕ) (p : Progress) where
 
 -- ---- how far the loop is
 
--- at a place where the n-th record comes: the farm has room for the herd being read, the first of the labels are those of its herds, and what is
--- read from here on is what is read from the front
+-- at a place where the n-th record comes: the farm has room for the herd being read, the first of the labels are those
+-- of its herds, and what is read from here on is what is read from the front
 pub record Reached (s : List ℕ) (place : ReaderPlace) (f : Farm) (ls : List Label) (c : Current) (n : ℕ) : Type 0 where
   pub inside : place .at ≤ length s
   pub numbered : (0 < n) × (n ≤ place .at + 1)
@@ -87,7 +97,8 @@ pub record Reached (s : List ℕ) (place : ReaderPlace) (f : Farm) (ls : List La
   pub labelled : take (f .count) ls ≡ labelsOf (herdsOf f)
   pub reads : onFrom s place n (progress f c) ≡ readFrom 1 nothingRead (readingOf s)
 
-pub at-front : (s : List ℕ) {place : ReaderPlace} → place .at ≡ 0 → {f : Farm} → f ≡ noFarm → {ls : Labels} → ls ≡ noLabels → {h : Herd} → h ≡ noHerd
+pub at-front : (s : List ℕ) {place : ReaderPlace} → place .at ≡ 0 → {f : Farm} → f ≡ noFarm → {ls : Labels}
+    → ls ≡ noLabels → {h : Herd} → h ≡ noHerd
     → Reached s place f (ls .of) (record { herd = h; first = 0; lacking = 0 }) 1
 at-front s e q l w =
     record {
@@ -108,7 +119,8 @@ data Taken : Effect → Type 0 where
   on-adds : Taken Adds
   on-begins : Taken Begins
 
-module _ (s : List ℕ) (place : ReaderPlace) (f : Farm) (ls : List Label) (c : Current) (n : ℕ) (x : Reached s place f ls c n)
+module _ (s : List ℕ) (place : ReaderPlace) (f : Farm) (ls : List Label) (c : Current) (n : ℕ)
+    (x : Reached s place f ls c n)
     {m : PlaceRead} (w : m ≡ readAt s place (c .herd)) where
   abbrev X : FileAnswer
   X = readFrom 1 nothingRead (readingOf s)
@@ -131,7 +143,8 @@ module _ (s : List ℕ) (place : ReaderPlace) (f : Farm) (ls : List Label) (c : 
   past-it : {u : Effect} → Taken u → m .effect ≡ u → (place .at < m .next .at) × (m .next .at ≤ length s)
   past-it t z = go t (place-is z)
     where
-      go : {u : Effect} → Taken u → PlaceSays s place n (progress f c) u (m .herd) (m .next) → (place .at < m .next .at) × (m .next .at ≤ length s)
+      go : {u : Effect} → Taken u → PlaceSays s place n (progress f c) u (m .herd) (m .next)
+          → (place .at < m .next .at) × (m .next .at ≤ length s)
       go Taken.on-adds (PlaceSays.adds some e past fits) = (past, fits)
       go Taken.on-begins (PlaceSays.begins e past fits) = (past, fits)
 
@@ -153,31 +166,38 @@ module _ (s : List ℕ) (place : ReaderPlace) (f : Farm) (ls : List Label) (c : 
           reads = on (place-is z);
         }
       where
-        on : PlaceSays s place n (progress f c) Adds (m .herd) (m .next) → onFrom s (m .next) (n + 1) (withCurrent (progress f c) (m .herd)) ≡ X
+        on : PlaceSays s place n (progress f c) Adds (m .herd) (m .next)
+            → onFrom s (m .next) (n + 1) (withCurrent (progress f c) (m .herd)) ≡ X
         on (PlaceSays.adds some e past fits) = sym e ∙ x .reads
 
-        go : PlaceSays s place n (progress f c) Adds (m .herd) (m .next) → Underway (progress f c) → Underway (withCurrent (progress f c) (m .herd))
+        go : PlaceSays s place n (progress f c) Adds (m .herd) (m .next) → Underway (progress f c)
+            → Underway (withCurrent (progress f c) (m .herd))
         go (PlaceSays.adds some e past fits) (Underway.reading k) = Underway.reading k
         go (PlaceSays.adds some e past fits) (Underway.not-yet k) = absurd (some (ap (λ (p : Progress). p .herd) k))
 
   -- a record of another label
-  module _ (z : m .effect ≡ Begins) {b : Checked} (v : b ≡ admitted (take (f .count) ls) (counted (f .count) (c .first)) (m .herd .label) n) where
+  module _ (z : m .effect ≡ Begins) {b : Checked}
+      (v : b ≡ admitted (take (f .count) ls) (counted (f .count) (c .first)) (m .herd .label) n) where
     admits-is : {k : Checked} → b ≡ k → Admits n (progress f c) (m .herd .label) k
     admits-is y =
-        let e : admitted (labelsOf (herdsOf f)) (closed (progress f c) .farm .count) (m .herd .label) n ≡ b = rw (closed-farm (x .underway), sym (x .labelled)) (sym v) in
+        let e : admitted (labelsOf (herdsOf f)) (closed (progress f c) .farm .count) (m .herd .label) n ≡ b =
+        rw (closed-farm (x .underway), sym (x .labelled)) (sym v) in
         rw (e ∙ y) at (admits n (progress f c) (m .herd .label))
 
     pub read-refused : {fault : Fault} {k : ℕ} → b ≡ Refused fault k → {r : FileAnswer} → r ≡ refused k fault → r ≡ X
     read-refused {fault} {k} y {r} q = go (place-is z) (admits-is y)
       where
-        go : PlaceSays s place n (progress f c) Begins (m .herd) (m .next) → Admits n (progress f c) (m .herd .label) (Refused fault k) → r ≡ X
+        go : PlaceSays s place n (progress f c) Begins (m .herd) (m .next)
+            → Admits n (progress f c) (m .herd .label) (Refused fault k) → r ≡ X
         go (PlaceSays.begins e past fits) (Admits.refuses h) = q ∙ sym (h _) ∙ sym e ∙ x .reads
 
     pub begins-less : length s - m .next .at < length s - place .at
     begins-less = omega (arith, past-it Taken.on-begins z)
 
-    pub begun : b ≡ Accepted → {k : ℕ} → k ≡ counted (f .count) (c .first) → {lacking′ : ℕ} → lacking′ ≡ lackingWith (c .lacking) (c .herd) (c .first)
-        → Reached s (m .next) (stored f (c .herd) k) (set ls (f .count) (c .herd .label)) (record { herd = m .herd; first = n; lacking = lacking′ }) (n + 1)
+    pub begun : b ≡ Accepted → {k : ℕ} → k ≡ counted (f .count) (c .first) → {lacking′ : ℕ}
+        → lacking′ ≡ lackingWith (c .lacking) (c .herd) (c .first)
+        → Reached s (m .next) (stored f (c .herd) k) (set ls (f .count) (c .herd .label))
+        (record { herd = m .herd; first = n; lacking = lacking′ }) (n + 1)
     begun y {k} q {lacking′} t =
         let g = past-it Taken.on-begins z in
         record {
@@ -194,16 +214,23 @@ module _ (s : List ℕ) (place : ReaderPlace) (f : Farm) (ls : List Label) (c : 
         roomy : Admits n (progress f c) (m .herd .label) Accepted → k < herdsMost
         roomy (Admits.accepts h room) = rw q (rw (closed-farm (x .underway)) at room)
 
-        labels : Underway (progress f c) → take k (set ls (f .count) (c .herd .label)) ≡ labelsOf (take k (set (f .herds) (f .count) (c .herd)))
+        labels : Underway (progress f c)
+            → take k (set ls (f .count) (c .herd .label)) ≡ labelsOf (take k (set (f .herds) (f .count) (c .herd)))
         labels (Underway.not-yet e) = rw (q, none-yet e)
         labels (Underway.reading k) =
-            rw (q, sym (one-counted (f .count) (c .first) k)) (labels-stored ls (f .herds) (f .count) (x .labelled) (x .labels-long) (x .herds-long) (x .room) (c .herd))
+            rw (q, sym (one-counted (f .count) (c .first) k))
+            (labels-stored ls (f .herds) (f .count) (x .labelled) (x .labels-long) (x .herds-long) (x .room)
+            (c .herd))
 
-        is : progress (stored f (c .herd) k) (record { herd = m .herd; first = n; lacking = lacking′ }) ≡ beginning n (progress f c) (m .herd)
+        is : progress (stored f (c .herd) k) (record { herd = m .herd; first = n; lacking = lacking′ })
+            ≡ beginning n (progress f c) (m .herd)
         is = rw (t, q, closed-farm (x .underway), closed-lacking (x .underway))
 
-        on : PlaceSays s place n (progress f c) Begins (m .herd) (m .next) → Admits n (progress f c) (m .herd .label) Accepted
-            → onFrom s (m .next) (n + 1) (progress (stored f (c .herd) k) (record { herd = m .herd; first = n; lacking = lacking′ })) ≡ X
-        on (PlaceSays.begins e past fits) (Admits.accepts h room) = ap (onFrom s (m .next) (n + 1)) is ∙ sym (h _) ∙ sym e ∙ x .reads
+        on : PlaceSays s place n (progress f c) Begins (m .herd) (m .next)
+            → Admits n (progress f c) (m .herd .label) Accepted
+            → onFrom s (m .next) (n + 1)
+            (progress (stored f (c .herd) k) (record { herd = m .herd; first = n; lacking = lacking′ })) ≡ X
+        on (PlaceSays.begins e past fits) (Admits.accepts h room) = ap (onFrom s (m .next) (n + 1)) is ∙ sym (h _)
+            ∙ sym e ∙ x .reads
 
 pub ruleset read-steps = (at-front, read-through, read-wrong, adds-less, added, read-refused, begins-less, begun)

@@ -1,6 +1,7 @@
--- 01, Refusal numbers, over a whole file: 1 before all, then records from the front, in each 2 to 11 in that order, then 12. The first that
--- applies is given; where none does, the farm that the records say. It mirrors the code for its contracts: this is how the reader goes; what it
--- means is said of the records alone in `rules/specs`, and proved to be the same there.
+-- 01, Refusal numbers, over a whole file: 1 before all, then records from the front, in each 2 to 11 in that order,
+-- then 12. The first that applies is given; where none does, the farm that the records say. It mirrors the code for its
+-- contracts: this is how the reader goes; what it means is said of the records alone in `rules/specs`, and proved to be
+-- the same there.
 use Prim.Native.Nat.{ℕ, _+_}
 use mathlib.Core.Bool.{Bool, not, _&&_}
 use mathlib.Core.List.{List, [], _∷_, _++_}
@@ -13,7 +14,15 @@ use Rattle.inputs.specs.Inputs.{sameKind}
 use Rattle.farm.specs.declared.Herd.{Herd}
 use Rattle.farm.specs.declared.Farm.{Farm}
 use Rattle.farm.specs.declared.Fault.{Fault}
-use Rattle.farm.specs.declared.Fault.the-variants.{FileTooLong, RecordBroken, EarlierLabel, NoRoomForHerd, OtherKind, GivenAlready, InputMissing}
+use Rattle.farm.specs.declared.Fault.the-variants.{
+  FileTooLong,
+  RecordBroken,
+  EarlierLabel,
+  NoRoomForHerd,
+  OtherKind,
+  GivenAlready,
+  InputMissing,
+}
 use Rattle.farm.specs.declared.Checked.the-variants.{Accepted, Refused}
 use Rattle.farm.specs.Limits.{herdsMost}
 use Rattle.farm.specs.Labels.{sameLabel}
@@ -32,8 +41,8 @@ accepted f = record { checked = Accepted; farm = f }
 
 -- ---- how far a file is read
 
--- the herds before the one being read; that one, and the number of its first record, 0 where there is none yet; and of the herds before it, the
--- first record of the first that lacks an input, 0 where none does
+-- the herds before the one being read; that one, and the number of its first record, 0 where there is none yet; and of
+-- the herds before it, the first record of the first that lacks an input, 0 where none does
 pub record Progress : Type 0 where
   pub farm : Farm
   pub herd : Herd
@@ -53,7 +62,8 @@ lackingNow p = lackingWith (p .lacking) (p .herd) (p .first)
 -- the herd being read, where there is one, has all its records
 unfoldable pub closed : Progress → Progress
 closed p =
-    pick (eqb (p .first) 0) p (record { farm = withHerd (p .farm) (p .herd); herd = noHerd; first = 0; lacking = lackingNow p })
+    pick (eqb (p .first) 0) p
+    (record { farm = withHerd (p .farm) (p .herd); herd = noHerd; first = 0; lacking = lackingNow p })
 
 -- the record belongs to the herd being read
 abbrev pub isCurrent : Progress → Parts → Bool
@@ -74,7 +84,13 @@ recordTests n p x =
 unfoldable pub taken : ℕ → Progress → Parts → Progress
 taken n p x =
     pick (isCurrent p x)
-    (record { farm = p .farm; herd = withInput (p .herd) (slotIn x) (givenIn x); first = p .first; lacking = p .lacking })
+    (record {
+      farm = p .farm;
+      herd = withInput (p .herd) (slotIn x) (givenIn x);
+      first = p .first;
+      lacking =
+          p .lacking;
+    })
     (record {
       farm = closed p .farm;
       herd = newHerd (labelIn x) (kindIn x) (slotIn x) (givenIn x);
@@ -86,7 +102,8 @@ taken n p x =
 
 -- read through: 12, or the farm
 unfoldable pub finished : Progress → FileAnswer
-finished p = first (refused (closed p .lacking) InputMissing when not (eqb (closed p .lacking) 0) ∷ []) (accepted (closed p .farm))
+finished p = first (refused (closed p .lacking) InputMissing when not (eqb (closed p .lacking) 0) ∷ [])
+    (accepted (closed p .farm))
 
 -- from record n on, with these records to come; a broken record is 2
 unfoldable pub readFrom : ℕ → Progress → Reading → FileAnswer

@@ -1,4 +1,5 @@
--- How far the code has read a file: in two parts, the farm and the herd being read. It mirrors the code for its contracts.
+-- How far the code has read a file: in two parts, the farm and the herd being read. It mirrors the code for its
+-- contracts.
 use mathlib.Core.Path.{_≡_}
 use Rattle.farm.specs.declared.Farm.{Farm}
 use Rattle.reader.specs.declared.files.Current.{Current}

@@ -20,8 +20,8 @@ ghost use Rattle.reader.specs.Steps.{Underway, progress};
 // At most so many bytes.
 pub const FILE_MOST: usize = 65536;
 
-// The herd being read, and the number of its first record, 0 where there is none yet; and of the herds before it, the first record of the
-// first that lacks an input, 0 where none does.
+// The herd being read, and the number of its first record, 0 where there is none yet; and of the herds before it, the
+// first record of the first that lacks an input, 0 where none does.
 struct Current {
     herd: Herd,
     first: usize,
@@ -56,7 +56,8 @@ fn finished(mut farm: Farm, c: Current) -> FileAnswer
     }
 }
 
-// The records from the front. The farm is changed where it stands: to hand it over and back would copy it for each herd.
+// The records from the front. The farm is changed where it stands: to hand it over and back would copy it for each
+// herd.
 fn read_records(s: &[u8]) -> FileAnswer
     ensures { λ r. ⌜ r ≡ readFrom 1 nothingRead (readingOf (now (s .entry))) ⌝ }
 {

@@ -1,8 +1,8 @@
 -- The steps of the reasons, each in the form that a place of the code wants. Assumes nothing.
 use Prim.Native.Nat.{ℕ, _≤_, _<_}
-use mathlib.Core.Path.{_≡_, refl, sym, ap, _∙_}
+use mathlib.Core.Path.{_≡_, sym, _∙_}
 use mathlib.Core.Bool.{Bool, true, false}
-use borrow.Author.Tests.{eq-eqb, ne-eqb, le-leb, lt-leb}
+use borrow.Author.Tests.{ne-eqb, le-leb, lt-leb}
 use Rattle.amounts.specs.Units.{tenths}
 use Rattle.amounts.specs.Bounds.{UpTo}
 use Rattle.kinds.specs.declared.Outdoor.{Outdoor}
@@ -13,7 +13,7 @@ use Rattle.kinds.specs.declared.Inputs.{Inputs}
 use Rattle.kinds.specs.declared.Inputs.the-variants as kinds
 use Rattle.kinds.specs.Sound.{SoundOutdoor, Sound}
 use Rattle.kinds.proofs.OfKind.{sound-cattle}
-use Rattle.yard.specs.Yard.{«days_with_grazing_and_yard», «share_excretion»}
+use Rattle.yard.specs.Yard.{«share_excretion»}
 use Rattle.yard.specs.Bounds.{Both}
 use Rattle.farm.specs.declared.Herd.{Herd}
 use Rattle.farm.specs.declared.Fault.{Fault}
@@ -30,7 +30,7 @@ use Rattle.reasons.specs.declared.Told.{Told}
 use Rattle.reasons.specs.declared.Told.the-variants.{Because, NoYard}
 use Rattle.reasons.specs.declared.ReasonAnswer.{ReasonAnswer}
 use Rattle.reasons.specs.declared.ReasonAnswer.the-variants.{Given, Refused}
-use Rattle.reasons.specs.Reasons.{partly, chosenShare, isNotAvailable, reasonOf, shareFrom, whyOf, toldOf}
+use Rattle.reasons.specs.Reasons.{partly, isNotAvailable, reasonOf, shareFrom, whyOf, toldOf}
 use Rattle.reasons.specs.Answers.{toldAnswer, reasonAnswer}
 
 -- ---- the tests, in their order

@@ -8,7 +8,7 @@ use Rattle.farm.specs.declared.Checked.{Checked}
 use Rattle.farm.specs.declared.Checked.the-variants as checks
 use Rattle.farm.specs.Refusals as refusals
 use Rattle.checks.specs.Checks.{checkHerd}
-use Rattle.checks.specs.Refusals.{Handed, AppliesAt, FirstOfRecord}
+use Rattle.checks.specs.Refusals.{AppliesAt, FirstOfRecord}
 use Rattle.checks.specs.Refusals as handed
 use Rattle.kinds.specs.declared.Outdoor.{Outdoor}
 use Rattle.typed.specs.Typed.{typedOf}

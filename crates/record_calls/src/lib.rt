@@ -1,5 +1,5 @@
-// The calls that work out what a record says: figures and totals, and why a yard has its share. A record of any content is answered, with its
-// figures or with exactly one refusal.
+// The calls that work out what a record says: figures and totals, and why a yard has its share. A record of any content
+// is answered, with its figures or with exactly one refusal.
 use farm::Farm;
 use farm::Herd;
 use model::FarmAnswer;

@@ -1,5 +1,5 @@
-// The calls that write what a record says into a lent buffer: a herd's listing, its cuts, a farm's totals. A record of any content is answered;
-// what the checks refuse comes before 13.
+// The calls that write what a record says into a lent buffer: a herd's listing, its cuts, a farm's totals. A record of
+// any content is answered; what the checks refuse comes before 13.
 use farm::Checked;
 use farm::Farm;
 use farm::Herd;

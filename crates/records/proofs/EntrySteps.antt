@@ -1,5 +1,5 @@
--- What a record says by itself, from the calls that look at its fields: each law in the form that a place of src/entries.rt wants.
--- Assumes nothing.
+-- What a record says by itself, from the calls that look at its fields: each law in the form that a place of
+-- src/entries.rt wants. Assumes nothing.
 use Prim.Native.Nat.{ℕ}
 use mathlib.Core.Path.{_≡_, sym, _∙_}
 use mathlib.Core.Bool.{Bool, true, false, not}
@@ -25,7 +25,8 @@ use Rattle.records.specs.Entries.{labelIn, recordRead, inputRead, entryO
 
 -- ---- what it says: 5 to 7
 
-module _ (s : List ℕ) (f : Fields) {a b : List ℕ} (qa : a ≡ held s (f .second)) (qb : b ≡ held s (f .third)) {x : FoundInput} (q : x ≡ findInput a b) where
+module _ (s : List ℕ) (f : Fields) {a b : List ℕ} (qa : a ≡ held s (f .second)) (qb : b ≡ held s (f .third))
+    {x : FoundInput} (q : x ≡ findInput a b) where
   found-at : findInput (held s (f .second)) (held s (f .third)) ≡ x
   found-at = rw (qa, qb) at (sym q)
 
@@ -33,7 +34,8 @@ module _ (s : List ℕ) (f : Fields) {a b : List ℕ} (qa : a ≡ held s (f .sec
   unfolding inputRead
   read-nowhere e = simp (inputRead, found-at ∙ e)
 
-  module _ {k : Kind} {i : ℕ} {form : Form} (e : x ≡ At k i form) {v : List ℕ} (qv : v ≡ held s (f .fourth)) {y : ValueRead} (u : y ≡ valueOf form v) where
+  module _ {k : Kind} {i : ℕ} {form : Form} (e : x ≡ At k i form) {v : List ℕ} (qv : v ≡ held s (f .fourth))
+      {y : ValueRead} (u : y ≡ valueOf form v) where
     value-at : valueOf form (held s (f .fourth)) ≡ y
     value-at = rw qv at (sym u)
 
@@ -73,7 +75,8 @@ module _ (s : List ℕ) (f : Fields) {a : List ℕ} (qa : a ≡ held s (f .first
     unfolding recordRead
     bad-label n = entry (simp (recordRead, eq-eqb (f .count) 4 four, good-at, n))
 
-    pub good-label : not r ≡ false → {t : RecordRead} → t ≡ inputRead (partsAt s f) → record { label = l; read = t } ≡ entryOf (partsAt s f)
+    pub good-label : not r ≡ false → {t : RecordRead} → t ≡ inputRead (partsAt s f)
+        → record { label = l; read = t } ≡ entryOf (partsAt s f)
     unfolding recordRead inputRead
     good-label n e = entry (simp (recordRead, eq-eqb (f .count) 4 four, good-at, n) e)
 

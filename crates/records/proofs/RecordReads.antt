@@ -1,4 +1,5 @@
--- What a record says by itself is the first of 3 to 7 that applies, and else a value for a slot that herds have, under a good label. Assumes nothing.
+-- What a record says by itself is the first of 3 to 7 that applies, and else a value for a slot that herds have, under
+-- a good label. Assumes nothing.
 use Prim.Native.Nat.{ℕ, _<_}
 use mathlib.Core.Path.{_≡_, refl}
 use mathlib.Core.Bool.{Bool, true, false, not}
@@ -23,7 +24,21 @@ use Rattle.records.specs.declared.RecordRead.{RecordRead}
 use Rattle.records.specs.declared.RecordRead.the-variants as reads
 use Rattle.records.specs.declared.Entry.{Entry}
 use Rattle.records.specs.Values.{valueOf}
-use Rattle.records.specs.Entries.{labelIn, isNowhere, kindBy, slotBy, formBy, foundIn, isForbidden, isUnfit, givenBy, entryTests, recordRead, entryOf, HasSlot}
+use Rattle.records.specs.Entries.{
+  labelIn,
+  isNowhere,
+  kindBy,
+  slotBy,
+  formBy,
+  foundIn,
+  isForbidden,
+  isUnfit,
+  givenBy,
+  entryTests,
+  recordRead,
+  entryOf,
+  HasSlot,
+}
 
 -- ---- lists of refusals, whatever a refusal is said as
 
@@ -44,20 +59,25 @@ abbrev pub said : Kind → ℕ → Given → List (Test Fault) → RecordRead
 said k i g ls = first (lines reads.Wrong ls) (reads.Gives k i g)
 
 module _ (k : Kind) (i : ℕ) (g : Given) where
-  pub read-first : {A : Type 0} (refuse : Fault → A) (behind : List (Test A)) (z : A) (ls : List (Test Fault)) → first (lines refuse ls ++ behind) z ≡ decided refuse (first behind z) (said k i g ls)
+  pub read-first : {A : Type 0} (refuse : Fault → A) (behind : List (Test A)) (z : A) (ls : List (Test Fault))
+      → first (lines refuse ls ++ behind) z ≡ decided refuse (first behind z) (said k i g ls)
   read-first refuse behind z [] = refl
   read-first {A} refuse behind z (l ∷ ls) = go (l .holds) (read-first refuse behind z ls)
     where
       go : (b : Bool) → first (lines refuse ls ++ behind) z ≡ decided refuse (first behind z) (said k i g ls)
-          → pick b (refuse (l .answer)) (first (lines refuse ls ++ behind) z) ≡ decided refuse (first behind z) (pick b (reads.Wrong (l .answer)) (said k i g ls))
+          → pick b (refuse (l .answer)) (first (lines refuse ls ++ behind) z)
+          ≡ decided refuse (first behind z) (pick b (reads.Wrong (l .answer)) (said k i g ls))
       go true e = refl
       go false e = e
 
-  pub read-gives : (ls : List (Test Fault)) {m : Kind} {j : ℕ} {v : Given} → said k i g ls ≡ reads.Gives m j v → reads.Gives k i g ≡ reads.Gives m j v
+  pub read-gives : (ls : List (Test Fault)) {m : Kind} {j : ℕ} {v : Given} → said k i g ls ≡ reads.Gives m j v
+      → reads.Gives k i g ≡ reads.Gives m j v
   read-gives [] e = e
   read-gives (l ∷ ls) {m} {j} {v} e = go (l .holds) e (read-gives ls)
     where
-      go : (b : Bool) → pick b (reads.Wrong (l .answer)) (said k i g ls) ≡ reads.Gives m j v → (said k i g ls ≡ reads.Gives m j v → reads.Gives k i g ≡ reads.Gives m j v) → reads.Gives k i g ≡ reads.Gives m j v
+      go : (b : Bool) → pick b (reads.Wrong (l .answer)) (said k i g ls) ≡ reads.Gives m j v
+          → (said k i g ls ≡ reads.Gives m j v → reads.Gives k i g ≡ reads.Gives m j v)
+          → reads.Gives k i g ≡ reads.Gives m j v
       go true h more = cc
       go false h more = more h
 
@@ -81,7 +101,8 @@ entry-has-slot x = go (foundIn x) refl
     b : Bool
     b = not (labelOk (labelIn x))
 
-    nowhere : (a b : Bool) → HasSlot (pick a (reads.Wrong NotFourFields) (pick b (reads.Wrong BadLabel) (reads.Wrong NotInTheList)))
+    nowhere : (a b : Bool)
+        → HasSlot (pick a (reads.Wrong NotFourFields) (pick b (reads.Wrong BadLabel) (reads.Wrong NotInTheList)))
     nowhere true b = HasSlot.wrong
     nowhere false true = HasSlot.wrong
     nowhere false false = HasSlot.wrong
@@ -95,7 +116,9 @@ entry-has-slot x = go (foundIn x) refl
         ∷ BadValue when isUnfit (valueOf (formBy o) (x .fourth))
         ∷ []
 
-    go : (o : FoundInput) → findInput (x .second) (x .third) ≡ o → HasSlot (first (lines reads.Wrong (by o)) (reads.Gives (kindBy o) (slotBy o) (givenBy (valueOf (formBy o) (x .fourth)))))
+    go : (o : FoundInput) → findInput (x .second) (x .third) ≡ o
+        → HasSlot (first (lines reads.Wrong (by o))
+        (reads.Gives (kindBy o) (slotBy o) (givenBy (valueOf (formBy o) (x .fourth)))))
     go (At k i form) e =
         let in-kind = find-input-at (x .second) (x .third) e .0 .inside in
         read-has-slot k i (givenBy (valueOf form (x .fourth))) (omega (arith, count-most k)) (by (At k i form))
@@ -103,11 +126,14 @@ entry-has-slot x = go (foundIn x) refl
 
 -- ---- nor of a bad label
 
-pub input-good : (x : Parts) {m : Kind} {j : ℕ} {v : Given} → recordRead x ≡ reads.Gives m j v → labelOk (labelIn x) ≡ true
+pub input-good : (x : Parts) {m : Kind} {j : ℕ} {v : Given} → recordRead x ≡ reads.Gives m j v
+    → labelOk (labelIn x) ≡ true
 unfolding recordRead
 input-good x {m} {j} {v} e = go (not (eqb (x .count) 4)) (labelOk (labelIn x)) _ e
   where
-    go : (a good : Bool) (t : RecordRead) → pick a (reads.Wrong NotFourFields) (pick (not good) (reads.Wrong BadLabel) t) ≡ reads.Gives m j v → good ≡ true
+    go : (a good : Bool) (t : RecordRead)
+        → pick a (reads.Wrong NotFourFields) (pick (not good) (reads.Wrong BadLabel) t) ≡ reads.Gives m j v
+        → good ≡ true
     go a true t h = refl
     go true false t h = cc
     go false false t h = cc

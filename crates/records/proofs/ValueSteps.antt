@@ -36,7 +36,16 @@ use Rattle.names.proofs.Places.{find-text-at}
 use Rattle.farm.specs.declared.Given.the-variants.{Standard, Value, Signed}
 use Rattle.records.specs.declared.ValueRead.{ValueRead}
 use Rattle.records.specs.declared.ValueRead.the-variants.{Is, Forbidden, Unfit}
-use Rattle.records.specs.Values.{isStandard, numberRead, hasMinus, belowRead, aboveRead, signedRead, nameRead, valueOf}
+use Rattle.records.specs.Values.{
+  isStandard,
+  numberRead,
+  hasMinus,
+  belowRead,
+  aboveRead,
+  signedRead,
+  nameRead,
+  valueOf,
+}
 
 -- a number was read
 module _ {x y : Number} (q : x ≡ y) where
@@ -151,7 +160,8 @@ module _ {form : Form} (s : List ℕ) {d m : ℕ} where
     unfolding valueOf
     value-standard e h = simp (e, valueOf, sym t ∙ h)
 
-    pub value-no-standard : {r : ValueRead} → form ≡ OrStandard d m → b ≡ false → r ≡ numberRead (numberOf s d m) → r ≡ valueOf form s
+    pub value-no-standard : {r : ValueRead} → form ≡ OrStandard d m → b ≡ false → r ≡ numberRead (numberOf s d m)
+        → r ≡ valueOf form s
     unfolding valueOf
     value-no-standard e h q = simp (e, valueOf, sym t ∙ h) q
 
@@ -159,7 +169,8 @@ module _ {form : Form} (s : List ℕ) {d m : ℕ} where
     unfolding valueOf
     value-forbidden e h = simp (e, valueOf, sym t ∙ h)
 
-    pub value-not-forbidden : {r : ValueRead} → form ≡ NoStandard d m → b ≡ false → r ≡ numberRead (numberOf s d m) → r ≡ valueOf form s
+    pub value-not-forbidden : {r : ValueRead} → form ≡ NoStandard d m → b ≡ false → r ≡ numberRead (numberOf s d m)
+        → r ≡ valueOf form s
     unfolding valueOf
     value-not-forbidden e h q = simp (e, valueOf, sym t ∙ h) q
 
@@ -168,8 +179,21 @@ pub value-signed : {form : Form} (s : List ℕ) {r : ValueRead} {most : ℕ} →
 unfolding valueOf
 value-signed s e q = simp (e, valueOf) q
 
-pub value-name : {form : Form} (s : List ℕ) {r : ValueRead} {names : Names} → form ≡ OneOf names → r ≡ nameRead (findName names s) → r ≡ valueOf form s
+pub value-name : {form : Form} (s : List ℕ) {r : ValueRead} {names : Names} → form ≡ OneOf names
+    → r ≡ nameRead (findName names s) → r ≡ valueOf form s
 unfolding valueOf
 value-name s e q = simp (e, valueOf) q
 
-pub ruleset value-steps = (number-is, number-unfit, name-is, name-unfit, value-number, value-standard, value-no-standard, value-forbidden, value-not-forbidden, value-signed, value-name)
+pub ruleset value-steps = (
+  number-is,
+  number-unfit,
+  name-is,
+  name-unfit,
+  value-number,
+  value-standard,
+  value-no-standard,
+  value-forbidden,
+  value-not-forbidden,
+  value-signed,
+  value-name,
+)

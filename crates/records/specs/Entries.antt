@@ -1,5 +1,6 @@
--- What a record says by itself: its label, the input that it names and the value that it gives; and refusals 3 to 7 (01, Refusal numbers). It mirrors
--- the code for its contracts; what these mean is said of the records in `rules/specs`, and proved to be the same there.
+-- What a record says by itself: its label, the input that it names and the value that it gives; and refusals 3 to 7
+-- (01, Refusal numbers). It mirrors the code for its contracts; what these mean is said of the records in
+-- `rules/specs`, and proved to be the same there.
 use Prim.Native.Nat.{ℕ, _<_}
 use mathlib.Core.Bool.{Bool, true, false, not}
 use mathlib.Core.List.{List, [], _∷_}

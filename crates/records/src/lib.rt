@@ -1,4 +1,5 @@
-// What a record says by itself: refusals 3 to 7, or a value for an input. What it does then is crate `progress`, the whole file crate `reader`.
+// What a record says by itself: refusals 3 to 7, or a value for an input. What it does then is crate `progress`, the
+// whole file crate `reader`.
 mod values; // what a value's text says
 pub mod entries; // what a record says
 

@@ -8,7 +8,8 @@ use names::Names;
 ghost use mathlib.Core.Path.{_≡_};
 ghost use Rattle.decimal.specs.Reading.{numberOf};
 ghost use Rattle.names.specs.Find.{findName};
-ghost use Rattle.records.specs.Values.{isStandard, numberRead, hasMinus, belowRead, aboveRead, signedRead, nameRead, valueOf};
+ghost use Rattle.records.specs.Values.{isStandard, numberRead, hasMinus, belowRead, aboveRead, signedRead};
+ghost use Rattle.records.specs.Values.{nameRead, valueOf};
 
 fn is_standard(s: &[u8]) -> bool
     ensures { λ r. ⌜ r ≡ isStandard (now (s .entry)) ⌝ }

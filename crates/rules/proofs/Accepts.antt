@@ -1,4 +1,5 @@
--- Exact acceptance: a file is read as a farm exactly where it keeps 01's file rules and its records say that farm. Assumes nothing.
+-- Exact acceptance: a file is read as a farm exactly where it keeps 01's file rules and its records say that farm.
+-- Assumes nothing.
 use Prim.Native.Nat.{ℕ}
 use mathlib.Core.Path.{_≡_, sym, ap, subst, _∙_}
 use mathlib.Core.Logic.{_↔_}
@@ -36,7 +37,8 @@ keeps (too-long _) e = let c = ap (λ (a : FileAnswer). a .checked) e in clash c
 -- what keeps the rules is accepted
 accepted-so : {s : List ℕ} {f : Farm} → KeepsRules s f → readOf s ≡ accepted f
 unfolding readOf
-accepted-so {s} k = rw (readOf, le-ltb fileMost (length s) (k .short)) (ap (readFrom 1 nothingRead) (file-read (k .reads)) ∙ says-read (k .says))
+accepted-so {s} k = rw (readOf, le-ltb fileMost (length s) (k .short))
+    (ap (readFrom 1 nothingRead) (file-read (k .reads)) ∙ says-read (k .says))
 
 pub accepts-exactly : (s : List ℕ) (f : Farm) → (readOf s ≡ accepted f) ↔ KeepsRules s f
 accepts-exactly s f = (keeps (answered s), accepted-so)

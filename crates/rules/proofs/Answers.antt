@@ -35,7 +35,8 @@ data Splits (rs : List Record) (cs : Record) (a : List Record) (c : Record) : Ty
 not-nil : {R : Type 0} (a : List Record) (c : Record) (b : List Record) → [] ≡ a ++ (c ∷ b) → R
 not-nil a c b e = absurd (omega (arith, ap length e, length-append a (c ∷ b)))
 
-splits : (rs : List Record) (cs : Record) (a : List Record) (c : Record) (b : List Record) → rs ++ (cs ∷ []) ≡ a ++ (c ∷ b) → Splits rs cs a c
+splits : (rs : List Record) (cs : Record) (a : List Record) (c : Record) (b : List Record)
+    → rs ++ (cs ∷ []) ≡ a ++ (c ∷ b) → Splits rs cs a c
 splits [] cs [] c b e = at-end refl (cc)
 splits [] cs (x ∷ a) c b e = let d : [] ≡ a ++ (c ∷ b) = cc in not-nil a c b d
 splits (y ∷ rs) cs [] c b e = let d : y ≡ c = cc in within rs (ap (λ (x : Record). x ∷ rs) d)
@@ -58,11 +59,14 @@ clean-last rs cs clean here′ a c b e f x = go (splits rs cs a c b e)
 -- ---- the answer to a reading
 
 pub data Ran (w : Reading) : FileAnswer → Type 0 where
-  accepts : (rs : List Record) {f : Farm} → w ≡ thens rs end → Clean rs → FarmOf rs f → Each (λ r. Lacks rs r → ⊥) rs → Ran w (accepted f)
+  accepts : (rs : List Record) {f : Farm} → w ≡ thens rs end → Clean rs → FarmOf rs f → Each (λ r. Lacks rs r → ⊥) rs
+      → Ran w (accepted f)
   breaks : (rs : List Record) → w ≡ thens rs broken → Clean rs → Ran w (refused (length rs + 1) RecordBroken)
-  wrong : (before : List Record) (cs : Record) (rest : Reading) {fault : Fault} → w ≡ thens before (cs then rest) → Clean before → Applies before cs fault → NoneBelow before cs (number fault)
+  wrong : (before : List Record) (cs : Record) (rest : Reading) {fault : Fault} → w ≡ thens before (cs then rest)
+      → Clean before → Applies before cs fault → NoneBelow before cs (number fault)
       → Ran w (refused (length before + 1) fault)
-  missing : (before : List Record) (cs : Record) (after : List Record) → w ≡ thens (before ++ (cs ∷ after)) end → Clean (before ++ (cs ∷ after)) → Lacks (before ++ (cs ∷ after)) cs
+  missing : (before : List Record) (cs : Record) (after : List Record) → w ≡ thens (before ++ (cs ∷ after)) end
+      → Clean (before ++ (cs ∷ after)) → Lacks (before ++ (cs ∷ after)) cs
       → Each (λ r. Lacks (before ++ (cs ∷ after)) r → ⊥) before → Ran w (refused (length before + 1) InputMissing)
 
 through : {w : Reading} {rs : List Record} {x : FileAnswer} → w ≡ thens rs end → Clean rs → Ended rs x → Ran w x
@@ -74,18 +78,22 @@ through {w} {rs} e clean (lacking before cs after d l n) =
     go d = missing before cs after (e ∙ ap (λ (x : List Record). thens x end) d) (rw d at clean) (rw d at l) (rw d at n)
 
 module _ (w : Reading) where
-  pub run : (before : List Record) (p : Progress) → Inv before p → Clean before → (r : Reading) → w ≡ thens before r → Ran w (readFrom (length before + 1) p r)
+  pub run : (before : List Record) (p : Progress) → Inv before p → Clean before → (r : Reading) → w ≡ thens before r
+      → Ran w (readFrom (length before + 1) p r)
   unfolding readFrom
   run before p inv clean end e = through e clean (finish inv)
   run before p inv clean broken e = breaks before e clean
   run before p inv clean (cs then r) e = go (verdict inv cs) (λ b q i c d. run b q i c r d)
     where
-      go : Verdict before cs (length before + 1) p → ((b : List Record) (q : Progress) → Inv b q → Clean b → w ≡ thens b r → Ran w (readFrom (length b + 1) q r))
+      go : Verdict before cs (length before + 1) p
+          → ((b : List Record) (q : Progress) → Inv b q → Clean b → w ≡ thens b r → Ran w (readFrom (length b + 1) q r))
           → Ran w (readFrom (length before + 1) p (cs then r))
       go (refuses x below q) again = subst (Ran w) (sym (q _)) (wrong before cs r e clean x below)
       go (goes-on below q on) again =
-          let n : length (before ++ (cs ∷ [])) + 1 ≡ length before + 1 + 1 = omega (arith, length-append before (cs ∷ [])) in
-          let rest = again _ _ on (clean-last before cs clean (none-at-all below)) (e ∙ sym (thens-append before (cs ∷ []) r)) in
+          let n : length (before ++ (cs ∷ [])) + 1 ≡ length before + 1 + 1 =
+          omega (arith, length-append before (cs ∷ [])) in
+          let rest = again _ _ on (clean-last before cs clean (none-at-all below))
+          (e ∙ sym (thens-append before (cs ∷ []) r)) in
           subst (Ran w) (ap (λ (k : ℕ). readFrom k (taken (length before + 1) p (partsOf cs)) r) n ∙ sym (q _)) rest
 
 -- ---- the answer to a file
@@ -100,4 +108,5 @@ answered s = go (ltb fileMost (length s)) refl
   where
     go : (t : Bool) → ltb fileMost (length s) ≡ t → Answered s (readOf s)
     go true e = rw (readOf, e) (too-long (ltb-true fileMost (length s) e))
-    go false e = rw (readOf, e) (read (ltb-false fileMost (length s) e) (run (readingOf s) [] nothingRead start clean-none (readingOf s) refl))
+    go false e = rw (readOf, e)
+        (read (ltb-false fileMost (length s) e) (run (readingOf s) [] nothingRead start clean-none (readingOf s) refl))

@@ -1,4 +1,5 @@
--- A record by itself: it says a label, an input and a value, or one of 3 to 7 is given, the first that applies. Assumes nothing.
+-- A record by itself: it says a label, an input and a value, or one of 3 to 7 is given, the first that applies. Assumes
+-- nothing.
 use Prim.Native.Nat.{ℕ}
 use mathlib.Core.Path.{_≡_, refl, sym, ap, _∙_}
 use mathlib.Core.Bool.{Bool, true, false}
@@ -29,15 +30,27 @@ use Rattle.records.specs.Values.{valueOf}
 use Rattle.records.specs.Entries.{kindIn, slotIn, givenIn, entryTests}
 use Rattle.reader.specs.Files.{refused}
 use Rattle.rules.specs.Rules.{Record, GoodLabel, Names, ValueIs, RecordSays, says}
-use Rattle.rules.specs.Refusals.{labelText, valueIn, NamesInput, Applies, not-four-fields, bad-label, not-in-the-list, standard-forbidden, bad-value}
+use Rattle.rules.specs.Refusals.{
+  labelText,
+  valueIn,
+  NamesInput,
+  Applies,
+  not-four-fields,
+  bad-label,
+  not-in-the-list,
+  standard-forbidden,
+  bad-value,
+}
 use Rattle.rules.proofs.Labels.{ok-good, good-ok}
 use Rattle.rules.proofs.Values.{value-said, said-value, forbidden-said, said-forbidden}
 use Rattle.rules.proofs.Faults.{NoneBelow, none-yet, none-next}
 
 -- ---- the input that a record names
 
-found-named : (m n : List ℕ) {k : Kind} {i : ℕ} {form : Form} → findInput m n ≡ At k i form → Names m n k i × (form ≡ formOf k i)
-found-named m n e = let x = find-input-at m n e in (record { inside = x .0 .inside; path = x .0 .path; name = x .0 .name }, x .1)
+found-named : (m n : List ℕ) {k : Kind} {i : ℕ} {form : Form} → findInput m n ≡ At k i form
+    → Names m n k i × (form ≡ formOf k i)
+found-named m n e = let x = find-input-at m n e in
+    (record { inside = x .0 .inside; path = x .0 .path; name = x .0 .name }, x .1)
 
 named-found : {m n : List ℕ} {k : Kind} {i : ℕ} → Names m n k i → findInput m n ≡ At k i (formOf k i)
 named-found {m} {n} {k} {i} x = find-input-of m n k i (record { inside = x .inside; path = x .path; name = x .name })
@@ -82,15 +95,23 @@ pub record Same {A : Type 0} (l l′ : A) (k k′ : Kind) (i j : ℕ) (g g′ : 
   pub slot : i ≡ j
   pub given : g ≡ g′
 
-pub one-given : {cs : Record} {l l′ : List ℕ} {k k′ : Kind} {i j : ℕ} {g g′ : Given} → RecordSays cs l k i g → RecordSays cs l′ k′ j g′ → Same l l′ k k′ i j g g′
+pub one-given : {cs : Record} {l l′ : List ℕ} {k k′ : Kind} {i j : ℕ} {g g′ : Given} → RecordSays cs l k i g
+    → RecordSays cs l′ k′ j g′ → Same l l′ k k′ i j g g′
 one-given a b =
     let r = reads a in
     let q = reads b in
-    record { label = sym (r .label) ∙ q .label; kind = sym (r .kind) ∙ q .kind; slot = sym (r .slot) ∙ q .slot; given = sym (r .given) ∙ q .given }
+    record {
+      label = sym (r .label) ∙ q .label;
+      kind = sym (r .kind) ∙ q .kind;
+      slot = sym (r .slot) ∙ q .slot;
+      given =
+          sym (r .given) ∙ q .given;
+    }
 
 -- ---- the other way
 
-four : {k : Kind} {i : ℕ} {g : Given} (cs : Record) → length cs ≡ 4 → GoodLabel (labelText cs) → NamesInput cs k i → ValueIs (formOf k i) (valueIn cs) g → RecordSays cs (labelText cs) k i g
+four : {k : Kind} {i : ℕ} {g : Given} (cs : Record) → length cs ≡ 4 → GoodLabel (labelText cs) → NamesInput cs k i
+    → ValueIs (formOf k i) (valueIn cs) g → RecordSays cs (labelText cs) k i g
 four [] e = absurd (omega arith)
 four (a ∷ []) e = absurd (omega arith)
 four (a ∷ b ∷ []) e = absurd (omega arith)
@@ -120,7 +141,8 @@ module _ (before : List Record) (cs : Record) where
 
     module _ {r : ValueRead} (e : valueOf (formOf k i) (valueIn cs) ≡ r) where
       no-6 : (r ≡ Forbidden → ⊥) → Applies before cs StandardForbidden → ⊥
-      no-6 n (standard-forbidden x f s) = n (sym e ∙ ap (λ form. valueOf form (valueIn cs)) (sym (one-form x)) ∙ forbidden-said (valueIn cs) f s)
+      no-6 n (standard-forbidden x f s) =
+          n (sym e ∙ ap (λ form. valueOf form (valueIn cs)) (sym (one-form x)) ∙ forbidden-said (valueIn cs) f s)
 
     no-7 : {g : Given} → ValueIs (formOf k i) (valueIn cs) g → Applies before cs BadValue → ⊥
     no-7 {g} v (bad-value x n) = n g (rw (one-form x) v)
@@ -128,8 +150,10 @@ module _ (before : List Record) (cs : Record) where
   pub alone : Alone before cs
   alone = count (eqb (length cs) 4) refl
     where
-      value : {k : Kind} {i : ℕ} → length cs ≡ 4 → eqb (length cs) 4 ≡ true → GoodLabel (labelText cs) → labelOk (labelOf (labelText cs)) ≡ true → NamesInput cs k i
-          → findInput (getD cs 1 []) (getD cs 2 []) ≡ At k i (formOf k i) → NoneBelow before cs 6 → (r : ValueRead) → valueOf (formOf k i) (valueIn cs) ≡ r → Alone before cs
+      value : {k : Kind} {i : ℕ} → length cs ≡ 4 → eqb (length cs) 4 ≡ true → GoodLabel (labelText cs)
+          → labelOk (labelOf (labelText cs)) ≡ true → NamesInput cs k i
+          → findInput (getD cs 1 []) (getD cs 2 []) ≡ At k i (formOf k i) → NoneBelow before cs 6 → (r : ValueRead)
+          → valueOf (formOf k i) (valueIn cs) ≡ r → Alone before cs
       value {k} {i} h e3 good e4 names e5 below (Is g) e =
           let v = said-value (formOf k i) (valueIn cs) e in
           tells (four cs h good names v) (none-next 7 (none-next 6 below (no-6 names e (λ d. clash cc))) (no-7 names v))
@@ -142,18 +166,21 @@ module _ (before : List Record) (cs : Record) where
           (none-next 6 below (no-6 names e (λ d. clash cc)))
           (λ n z. rw (e3, e4, e5, e))
 
-      input : length cs ≡ 4 → eqb (length cs) 4 ≡ true → GoodLabel (labelText cs) → labelOk (labelOf (labelText cs)) ≡ true → NoneBelow before cs 5
+      input : length cs ≡ 4 → eqb (length cs) 4 ≡ true → GoodLabel (labelText cs)
+          → labelOk (labelOf (labelText cs)) ≡ true → NoneBelow before cs 5
           → (r : FoundInput) → findInput (getD cs 1 []) (getD cs 2 []) ≡ r → Alone before cs
       input h e3 good e4 below (At k i form) e =
           let x = found-named (getD cs 1 []) (getD cs 2 []) e in
-          value h e3 good e4 (x .0) (named-found (x .0)) (none-next 5 below (no-5 (x .0))) (valueOf (formOf k i) (valueIn cs)) refl
+          value h e3 good e4 (x .0) (named-found (x .0)) (none-next 5 below (no-5 (x .0)))
+          (valueOf (formOf k i) (valueIn cs)) refl
       input h e3 good e4 below Nowhere e =
           wrong
           (not-in-the-list (λ k i names. let f = named-found names in clash cc))
           below
           (λ n z. rw (e3, e4, e))
 
-      label : length cs ≡ 4 → eqb (length cs) 4 ≡ true → NoneBelow before cs 4 → (t : Bool) → labelOk (labelOf (labelText cs)) ≡ t → Alone before cs
+      label : length cs ≡ 4 → eqb (length cs) 4 ≡ true → NoneBelow before cs 4 → (t : Bool)
+          → labelOk (labelOf (labelText cs)) ≡ t → Alone before cs
       label h e3 below true e =
           let good = ok-good (labelText cs) e in
           input h e3 good e (none-next 4 below (no-4 good)) (findInput (getD cs 1 []) (getD cs 2 [])) refl
@@ -161,5 +188,6 @@ module _ (before : List Record) (cs : Record) where
           wrong (bad-label (λ good. let g = good-ok (labelText cs) good in clash cc)) below (λ n z. rw (e3, e))
 
       count : (t : Bool) → eqb (length cs) 4 ≡ t → Alone before cs
-      count true e = let h = eqb-true (length cs) 4 e in label h e (none-next 3 none-yet (no-3 h)) (labelOk (labelOf (labelText cs))) refl
+      count true e = let h = eqb-true (length cs) 4 e in
+          label h e (none-next 3 none-yet (no-3 h)) (labelOk (labelOf (labelText cs))) refl
       count false e = wrong (not-four-fields (eqb-false (length cs) 4 e)) none-yet (λ n z. rw e)

@@ -1,5 +1,5 @@
--- Files on both sides of the rules, computed from the definitions under one statement: the pigs of 01, its row 10, and a
--- file for each refusal of reading. Assumes nothing.
+-- Files on both sides of the rules, computed from the definitions under one statement: the pigs of 01, its row 10, and
+-- a file for each refusal of reading. Assumes nothing.
 use Prim.Native.Nat.{ℕ, zero, suc, _+_, _-_, _/_, _%_}
 use Prim.Native.String.{String}
 use mathlib.Core.Path.{_≡_, refl, ap}
@@ -18,7 +18,20 @@ use Rattle.farm.specs.declared.Given.{Given}
 use Rattle.farm.specs.declared.Given.the-variants.{Standard, Value, Signed}
 use Rattle.farm.specs.declared.Slot.{Slot}
 use Rattle.farm.specs.declared.Herd.{Herd}
-use Rattle.farm.specs.declared.Fault.the-variants.{FileTooLong, RecordBroken, NotFourFields, BadLabel, NotInTheList, StandardForbidden, BadValue, EarlierLabel, NoRoomForHerd, OtherKind, GivenAlready, InputMissing}
+use Rattle.farm.specs.declared.Fault.the-variants.{
+  FileTooLong,
+  RecordBroken,
+  NotFourFields,
+  BadLabel,
+  NotInTheList,
+  StandardForbidden,
+  BadValue,
+  EarlierLabel,
+  NoRoomForHerd,
+  OtherKind,
+  GivenAlready,
+  InputMissing,
+}
 use Rattle.farm.specs.Limits.{slots}
 use Rattle.farm.specs.Labels.{byteOk, labelOk, sameLabel, labelOf}
 use Rattle.checks.specs.Checks.{lacks, earlierLabel}
@@ -34,7 +47,8 @@ use Rattle.rules.proofs.Accepts.{accepts-exactly}
 
 -- a record of a herd, with its end
 abbrev line : String → String → String → String → List ℕ
-line label path name value = bytes label ++ bytes "," ++ bytes path ++ bytes "," ++ bytes name ++ bytes "," ++ bytes value ++ bytes "\r\n"
+line label path name value =
+    bytes label ++ bytes "," ++ bytes path ++ bytes "," ++ bytes name ++ bytes "," ++ bytes value ++ bytes "\r\n"
 
 abbrev pig : String → String → String → List ℕ
 pig label name value = line label "Livestock::FatteningPigs::Excretion" name value
@@ -119,7 +133,8 @@ pigHerd = pigsHoused 4 2 0 1 (pos 0)
 -- ten red deer by the standards
 abbrev deerFile : List ℕ
 deerFile =
-    deer "animalcategory" "red_deer" ++ deer "animals" "10" ++ deer "inp_n_excretion" "standard" ++ deer "tan_fraction" "StandarD"
+    deer "animalcategory" "red_deer" ++ deer "animals" "10" ++ deer "inp_n_excretion" "standard"
+    ++ deer "tan_fraction" "StandarD"
     ++ line "D" "Livestock::RoughageConsuming::Housing::CFreeFactor" "free_correction_factor" "0"
     ++ line "D" "Livestock::RoughageConsuming::Grazing" "grazing_days" "365"
     ++ line "D" "Livestock::RoughageConsuming::Grazing" "grazing_hours" "7.5"
@@ -129,7 +144,8 @@ deerHerd =
     record {
       label = labelOf (bytes "D");
       kind = Roughage;
-      slots = slot (Value 1) ∷ slot (Value 10) ∷ slot Standard ∷ slot Standard ∷ slot (Signed (pos 0)) ∷ slot (Value 365) ∷ slot (Value 75) ∷ replicate (slots - countOf Roughage) noSlot;
+      slots = slot (Value 1) ∷ slot (Value 10) ∷ slot Standard ∷ slot Standard ∷ slot (Signed (pos 0))
+          ∷ slot (Value 365) ∷ slot (Value 75) ∷ replicate (slots - countOf Roughage) noSlot;
     }
 
 -- so many herds of one record each, by two digits from these on
@@ -201,7 +217,8 @@ examples =
     ∷ (cows "inp_n_excretion" "standard" gives refused 1 StandardForbidden)
     ∷ (cows "tan_fraction" "Standard" gives refused 1 InputMissing)
     ∷ (cows "yard_days" "1" gives refused 1 NotInTheList)
-    ∷ (cows "animals" "1" ++ line "C1" "Livestock::OtherCattle::Excretion" "tan_fraction" "55" gives refused 2 OtherKind)
+    ∷ (cows "animals" "1"
+    ++ line "C1" "Livestock::OtherCattle::Excretion" "tan_fraction" "55" gives refused 2 OtherKind)
     ∷ (pigs ++ pig "P2" "animals" "1" ++ pig "P1" "animals" "1" gives refused 10 EarlierLabel)
     ∷ (herdsFrom 10 64 gives refused 1 InputMissing)
     ∷ (herdsFrom 10 65 gives refused 65 NoRoomForHerd)
@@ -221,4 +238,5 @@ worked = refl
 
 -- the pigs of 01 keep the rules
 pub pigs-keep : KeepsRules pigs (farmOf (pigHerd ∷ []))
-pigs-keep = accepts-exactly pigs (farmOf (pigHerd ∷ [])) .0 (ap (λ (l : List FileAnswer). getD l 3 (accepted (farmOf []))) worked)
+pigs-keep = accepts-exactly pigs (farmOf (pigHerd ∷ [])) .0
+    (ap (λ (l : List FileAnswer). getD l 3 (accepted (farmOf []))) worked)

@@ -46,10 +46,12 @@ herdTests n p l k i =
 
 abbrev pub tookTo : ℕ → Progress → Label → Kind → ℕ → Given → Progress
 tookTo n p l k i g =
-    pick (sameLabel (p .herd .label) l) (record { farm = p .farm; herd = withInput (p .herd) i g; first = p .first; lacking = p .lacking })
+    pick (sameLabel (p .herd .label) l)
+    (record { farm = p .farm; herd = withInput (p .herd) i g; first = p .first; lacking = p .lacking })
     (record { farm = closed p .farm; herd = newHerd l k i g; first = n; lacking = closed p .lacking })
 
-module _ {cs : Record} {l : List ℕ} {k : Kind} {i : ℕ} {g : Given} (said : RecordSays cs l k i g) (n : ℕ) (p : Progress) where
+module _ {cs : Record} {l : List ℕ} {k : Kind} {i : ℕ} {g : Given} (said : RecordSays cs l k i g) (n : ℕ)
+    (p : Progress) where
   pub record-tests : (z : FileAnswer) → first (recordTests n p (partsOf cs)) z ≡ first (herdTests n p (labelOf l) k i) z
   unfolding recordTests
   record-tests z =
@@ -63,7 +65,8 @@ module _ {cs : Record} {l : List ℕ} {k : Kind} {i : ℕ} {g : Given} (said : R
   unfolding taken
   record-took =
       let r = reads said in
-      ap (λ (t : List ℕ). tookTo n p (labelOf t) (kindIn (partsOf cs)) (slotIn (partsOf cs)) (givenIn (partsOf cs))) (r .label)
+      ap (λ (t : List ℕ). tookTo n p (labelOf t) (kindIn (partsOf cs)) (slotIn (partsOf cs)) (givenIn (partsOf cs)))
+      (r .label)
       ∙ ap (λ (x : Kind). tookTo n p (labelOf l) x (slotIn (partsOf cs)) (givenIn (partsOf cs))) (r .kind)
       ∙ ap (λ (j : ℕ). tookTo n p (labelOf l) k j (givenIn (partsOf cs))) (r .slot)
       ∙ ap (λ (v : Given). tookTo n p (labelOf l) k i v) (r .given)
@@ -74,7 +77,8 @@ pub herds-of : (hs : List Herd) → herdsOf (farmOf hs) ≡ hs
 herds-of hs = take-append-seam hs (replicate (herdsMost - length hs) noHerd)
 
 farm-eq : (a b : Farm) → a .herds ≡ b .herds → a .count ≡ b .count → a ≡ b
-farm-eq a b p q = ap (λ (x : List Herd). record { herds = x; count = a .count }) p ∙ ap (λ (n : ℕ). record { herds = b .herds; count = n }) q
+farm-eq a b p q = ap (λ (x : List Herd). record { herds = x; count = a .count }) p
+    ∙ ap (λ (n : ℕ). record { herds = b .herds; count = n }) q
 
 -- one herd more
 pub one-more : (hs : List Herd) (h : Herd) → length hs < herdsMost → withHerd (farmOf hs) h ≡ farmOf (hs ++ (h ∷ []))
@@ -128,7 +132,8 @@ stand-labelled (Stand.more p s) = more (part-labelled p) (stand-labelled s)
 module _ {l : List ℕ} (good : GoodLabel l) where
   module _ (h : Herd) (x : Labelled h) where
     pub own-herd : sameLabel (h .label) (labelOf l) ≡ true → h .label ≡ labelOf l
-    own-herd e = x .is ∙ ap labelOf (same-texts (x .good) good (ap (λ (y : Label). sameLabel y (labelOf l)) (sym (x .is)) ∙ e))
+    own-herd e = x .is ∙ ap labelOf
+        (same-texts (x .good) good (ap (λ (y : Label). sameLabel y (labelOf l)) (sym (x .is)) ∙ e))
 
     pub other-herd : (h .label ≡ labelOf l → ⊥) → sameLabel (h .label) (labelOf l) ≡ false
     other-herd n = ap (λ (y : Label). sameLabel y (labelOf l)) (x .is) ∙ other-label (x .good) good (λ e. n (x .is ∙ e))
@@ -138,32 +143,38 @@ module _ {l : List ℕ} (good : GoodLabel l) where
         let t : false ≡ true = sym e ∙ ap (λ (y : Label). sameLabel y (labelOf l)) d ∙ own-label good in
         clash cc
 
-  pub no-earlier : {hs : List Herd} → Each Labelled hs → Each (λ h. h .label ≡ labelOf l → ⊥) hs → earlierLabel hs (labelOf l) ≡ false
+  pub no-earlier : {hs : List Herd} → Each Labelled hs → Each (λ h. h .label ≡ labelOf l → ⊥) hs
+      → earlierLabel hs (labelOf l) ≡ false
   unfolding earlierLabel
   no-earlier none none = refl
   no-earlier (more {a = h} x xs) (more n ns) = rw (other-herd h x n) (no-earlier xs ns)
 
-  pub earlier-none : (hs : List Herd) → Each Labelled hs → earlierLabel hs (labelOf l) ≡ false → Each (λ h. h .label ≡ labelOf l → ⊥) hs
+  pub earlier-none : (hs : List Herd) → Each Labelled hs → earlierLabel hs (labelOf l) ≡ false
+      → Each (λ h. h .label ≡ labelOf l → ⊥) hs
   unfolding earlierLabel
   earlier-none [] none e = none
   earlier-none (h ∷ hs) (more x xs) e =
       let n = neither (sameLabel (h .label) (labelOf l)) (earlierLabel hs (labelOf l)) e in
       more (not-own h x (n .0)) (earlier-none hs xs (n .1))
 
-  pub earlier-some : (hs : List Herd) → Each Labelled hs → earlierLabel hs (labelOf l) ≡ true → Some (λ h. h .label ≡ labelOf l) hs
+  pub earlier-some : (hs : List Herd) → Each Labelled hs → earlierLabel hs (labelOf l) ≡ true
+      → Some (λ h. h .label ≡ labelOf l) hs
   unfolding earlierLabel
   earlier-some [] none e = clash cc
   earlier-some (h ∷ hs) (more x xs) e = go (sameLabel (h .label) (labelOf l)) refl e (earlier-some hs xs)
     where
-      go : (t : Bool) → sameLabel (h .label) (labelOf l) ≡ t → (t || earlierLabel hs (labelOf l)) ≡ true → (earlierLabel hs (labelOf l) ≡ true → Some (λ h. h .label ≡ labelOf l) hs)
+      go : (t : Bool) → sameLabel (h .label) (labelOf l) ≡ t → (t || earlierLabel hs (labelOf l)) ≡ true
+          → (earlierLabel hs (labelOf l) ≡ true → Some (λ h. h .label ≡ labelOf l) hs)
           → Some (λ h. h .label ≡ labelOf l) (h ∷ hs)
       go true q e later = here (own-herd h x q)
       go false q e later = there (later e)
 
 -- ---- herds one after the other
 
-pub stand-last : {R : List Record → Herd → Type 0} {a b : List Record} {hs : List Herd} {h : Herd} → Stand R a hs → R b h → Stand R (a ++ b) (hs ++ (h ∷ []))
-stand-last {R} {b = b} {h = h} Stand.none r = let x : Stand R (b ++ []) (h ∷ []) = Stand.more r Stand.none in rw append-nil at x
+pub stand-last : {R : List Record → Herd → Type 0} {a b : List Record} {hs : List Herd} {h : Herd} → Stand R a hs
+    → R b h → Stand R (a ++ b) (hs ++ (h ∷ []))
+stand-last {R} {b = b} {h = h} Stand.none r = let x : Stand R (b ++ []) (h ∷ []) = Stand.more r Stand.none in
+    rw append-nil at x
 stand-last (Stand.more q s) r = rw append-assoc (Stand.more q (stand-last s r))
 
 pub labels-last : (hs : List Herd) (h : Herd) → labelsOf (hs ++ (h ∷ [])) ≡ labelsOf hs ++ (h .label ∷ [])
@@ -174,5 +185,6 @@ each-labels : {l : Label} {hs : List Herd} → Each (λ h. h .label ≡ l → �
 each-labels none = none
 each-labels (more n ns) = more n (each-labels ns)
 
-pub apart-herds : (hs : List Herd) (h : Herd) → Apart (labelsOf hs) → Each (λ x. x .label ≡ h .label → ⊥) hs → Apart (labelsOf (hs ++ (h ∷ [])))
+pub apart-herds : (hs : List Herd) (h : Herd) → Apart (labelsOf hs) → Each (λ x. x .label ≡ h .label → ⊥) hs
+    → Apart (labelsOf (hs ++ (h ∷ [])))
 apart-herds hs h d n = rw (labels-last hs h) (apart-last d (each-labels n))

@@ -8,10 +8,35 @@ use lib.Dec.{eqb}
 use lib.ListN.{getD}
 use borrow.Author.Tests.{eqb-true, eqb-false}
 use Rattle.farm.specs.declared.Fault.{Fault}
-use Rattle.farm.specs.declared.Fault.the-variants.{FileTooLong, RecordBroken, NotFourFields, BadLabel, NotInTheList, StandardForbidden, BadValue, EarlierLabel, NoRoomForHerd, OtherKind, GivenAlready, InputMissing, BufferTooShort}
+use Rattle.farm.specs.declared.Fault.the-variants.{
+  FileTooLong,
+  RecordBroken,
+  NotFourFields,
+  BadLabel,
+  NotInTheList,
+  StandardForbidden,
+  BadValue,
+  EarlierLabel,
+  NoRoomForHerd,
+  OtherKind,
+  GivenAlready,
+  InputMissing,
+  BufferTooShort,
+}
 use Rattle.farm.specs.Refusals.{number}
 use Rattle.rules.specs.Rules.{Record}
-use Rattle.rules.specs.Refusals.{Applies, not-four-fields, bad-label, not-in-the-list, standard-forbidden, bad-value, earlier-label, no-room-for-herd, other-kind, given-already}
+use Rattle.rules.specs.Refusals.{
+  Applies,
+  not-four-fields,
+  bad-label,
+  not-in-the-list,
+  standard-forbidden,
+  bad-value,
+  earlier-label,
+  no-room-for-herd,
+  other-kind,
+  given-already,
+}
 
 -- the refusal of a number
 abbrev pub faultOf : ℕ → Fault
@@ -82,7 +107,8 @@ module _ {before : List Record} {cs : Record} where
   none-next k below here f h a = go (eqb (number f) k) refl
     where
       go : (t : Bool) → eqb (number f) k ≡ t → ⊥
-      go true e = here (subst (λ (x : Fault). Applies before cs x) (sym (of-number f) ∙ ap faultOf (eqb-true (number f) k e)) a)
+      go true e = here (subst (λ (x : Fault). Applies before cs x)
+          (sym (of-number f) ∙ ap faultOf (eqb-true (number f) k e)) a)
       go false e = let n = eqb-false (number f) k e in below f (omega arith) a
 
   pub none-at-all : NoneBelow before cs 12 → (f : Fault) → Applies before cs f → ⊥

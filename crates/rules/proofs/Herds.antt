@@ -1,5 +1,5 @@
--- A herd and the records that say it: how both grow by a record, that the records determine the herd, and what it means that an input lacks.
--- Assumes nothing.
+-- A herd and the records that say it: how both grow by a record, that the records determine the herd, and what it means
+-- that an input lacks. Assumes nothing.
 use Prim.Native.Nat.{ℕ, zero, suc, _+_, _<_, _≤_}
 use mathlib.Core.Path.{_≡_, refl, sym, ap, _∙_}
 use mathlib.Core.Bool.{Bool, true, false, _||_}
@@ -12,7 +12,6 @@ use lib.Seq.{getD-set-same, getD-set-other, ext-getD}
 use borrow.Author.Tests.{eq-eqb, eqb-true, eqb-false, not-false}
 use Rattle.base.proofs.Clash.{clash}
 use Rattle.base.specs.Each.{Each, none, more}
-use Rattle.base.proofs.Each.{each-map}
 use Rattle.inputs.specs.declared.Kind.{Kind}
 use Rattle.inputs.specs.declared.Kind.the-variants.{Roughage, Cattle, Pigs, DairyCow}
 use Rattle.inputs.specs.declared.Form.{Form}
@@ -67,7 +66,8 @@ pub some-slot : (j : ℕ) (is : List ℕ) → Some (λ i. i ≡ j) is ⊎ Each (
 some-slot j [] = inr none
 some-slot j (i ∷ is) = go (eqb i j) refl (some-slot j is)
   where
-    go : (t : Bool) → eqb i j ≡ t → Some (λ i. i ≡ j) is ⊎ Each (λ i. i ≡ j → ⊥) is → Some (λ i. i ≡ j) (i ∷ is) ⊎ Each (λ i. i ≡ j → ⊥) (i ∷ is)
+    go : (t : Bool) → eqb i j ≡ t → Some (λ i. i ≡ j) is ⊎ Each (λ i. i ≡ j → ⊥) is
+        → Some (λ i. i ≡ j) (i ∷ is) ⊎ Each (λ i. i ≡ j → ⊥) (i ∷ is)
     go true e r = inl (here (eqb-true i j e))
     go false e (inl s) = inl (there s)
     go false e (inr n) = inr (more (eqb-false i j e) n)
@@ -90,7 +90,8 @@ pub gives-filled : {h : Herd} {cs : Record} {i : ℕ} → Gives h cs i → missi
 gives-filled x = ap (λ (s : Slot). isMissing (s .given)) (x .has) ∙ value-given (reads (x .says) .value)
 
 -- no input has a slot that is missing
-pub unfilled : {h : Herd} {rs : List Record} {is : List ℕ} (j : ℕ) → Pairs (Gives h) rs is → missingAt h j ≡ true → Each (λ i. i ≡ j → ⊥) is
+pub unfilled : {h : Herd} {rs : List Record} {is : List ℕ} (j : ℕ) → Pairs (Gives h) rs is → missingAt h j ≡ true
+    → Each (λ i. i ≡ j → ⊥) is
 unfilled j Pairs.none e = none
 unfilled {h} j (Pairs.more {b = i} x p) e =
     more (λ d. let f : true ≡ false = sym e ∙ ap (missingAt h) (sym d) ∙ gives-filled x in clash cc) (unfilled j p e)
@@ -109,15 +110,24 @@ module _ {cs : Record} {l : List ℕ} {k : Kind} {i : ℕ} {g : Given} (said : R
         some = omega arith;
         each =
             Pairs.more
-            (record { label = l; given = g; says = said; own = refl; has = getD-set-same (replicate slots noSlot) i (record { given = g }) noSlot inside })
+            (record {
+              label = l;
+              given = g;
+              says = said;
+              own = refl;
+              has =
+                  getD-set-same (replicate slots noSlot) i (record { given = g }) noSlot inside;
+            })
             Pairs.none;
         once = Apart.next none Apart.none;
         room = length-set (replicate slots noSlot) i (record { given = g });
         rest = fresh;
       }
     where
-      fresh : (j : ℕ) → Each (λ i. i ≡ j → ⊥) (i ∷ []) → getD (set (replicate slots noSlot) i (record { given = g })) j noSlot ≡ noSlot
-      fresh j (more n none) = getD-set-other (replicate slots noSlot) i j (record { given = g }) noSlot (λ e. n (sym e)) ∙ blank slots j
+      fresh : (j : ℕ) → Each (λ i. i ≡ j → ⊥) (i ∷ [])
+          → getD (set (replicate slots noSlot) i (record { given = g })) j noSlot ≡ noSlot
+      fresh j (more n none) = getD-set-other (replicate slots noSlot) i j (record { given = g }) noSlot (λ e. n (sym e))
+          ∙ blank slots j
 
   module _ (h : Herd) (own : h .label ≡ labelOf l) (kind : h .kind ≡ k) where
     gives-kept : (r : Record) (j : ℕ) → Gives h r j → (j ≡ i → ⊥) → Gives (withInput h i g) r j
@@ -155,10 +165,12 @@ module _ {cs : Record} {l : List ℕ} {k : Kind} {i : ℕ} {g : Given} (said : R
           rest = fresh;
         }
       where
-        fresh : (j : ℕ) → Each (λ i. i ≡ j → ⊥) (p .inputs ++ (i ∷ [])) → getD (set (h .slots) i (record { given = g })) j noSlot ≡ noSlot
+        fresh : (j : ℕ) → Each (λ i. i ≡ j → ⊥) (p .inputs ++ (i ∷ []))
+            → getD (set (h .slots) i (record { given = g })) j noSlot ≡ noSlot
         fresh j n = last (each-back (p .inputs) (i ∷ []) n) ∙ p .rest j (each-front (p .inputs) (i ∷ []) n)
           where
-            last : Each (λ i. i ≡ j → ⊥) (i ∷ []) → getD (set (h .slots) i (record { given = g })) j noSlot ≡ getD (h .slots) j noSlot
+            last : Each (λ i. i ≡ j → ⊥) (i ∷ [])
+                → getD (set (h .slots) i (record { given = g })) j noSlot ≡ getD (h .slots) j noSlot
             last (more m none) = getD-set-other (h .slots) i j (record { given = g }) noSlot (λ d. m (sym d))
 
 -- ---- the records determine the herd
@@ -174,11 +186,15 @@ pub record Agree (h h′ : Herd) (is is′ : List ℕ) : Type 0 where
   pub slots : Each (λ i. getD (h .slots) i noSlot ≡ getD (h′ .slots) i noSlot) is
 
 module _ {h h′ : Herd} where
-  slots-agree : {cs : Record} {i j : ℕ} → Gives h cs i → Gives h′ cs j → (i ≡ j) × (getD (h .slots) i noSlot ≡ getD (h′ .slots) i noSlot)
+  slots-agree : {cs : Record} {i j : ℕ} → Gives h cs i → Gives h′ cs j
+      → (i ≡ j) × (getD (h .slots) i noSlot ≡ getD (h′ .slots) i noSlot)
   slots-agree x y =
       let o = one-given (x .says) (y .says) in
-      let e = o .slot in
-      (e, x .has ∙ ap (λ (g : Given). record { given = g }) (o .given) ∙ sym (y .has) ∙ ap (λ (n : ℕ). getD (h′ .slots) n noSlot) (sym e))
+      let e = o .slot in (
+        e,
+        x .has ∙ ap (λ (g : Given). record { given = g }) (o .given) ∙ sym (y .has)
+            ∙ ap (λ (n : ℕ). getD (h′ .slots) n noSlot) (sym e),
+      )
 
   pub agree : {rs : List Record} {is is′ : List ℕ} → Pairs (Gives h) rs is → Pairs (Gives h′) rs is′ → Agree h h′ is is′
   agree Pairs.none Pairs.none = record { inputs = refl; slots = none }
@@ -187,32 +203,41 @@ module _ {h h′ : Herd} where
       let r = agree p q in
       record { inputs = let a = s .0 in let b = r .inputs in cc; slots = more (s .1) (r .slots) }
 
-  pub heads : {rs : List Record} {is is′ : List ℕ} → 1 ≤ length rs → Pairs (Gives h) rs is → Pairs (Gives h′) rs is′ → (h .label ≡ h′ .label) × (h .kind ≡ h′ .kind)
+  pub heads : {rs : List Record} {is is′ : List ℕ} → 1 ≤ length rs → Pairs (Gives h) rs is → Pairs (Gives h′) rs is′
+      → (h .label ≡ h′ .label) × (h .kind ≡ h′ .kind)
   heads n Pairs.none q = absurd (omega arith)
-  heads n (Pairs.more x p) (Pairs.more y q) = let o = one-given (x .says) (y .says) in (x .own ∙ ap labelOf (o .label) ∙ sym (y .own), o .kind)
+  heads n (Pairs.more x p) (Pairs.more y q) = let o = one-given (x .says) (y .says) in
+      (x .own ∙ ap labelOf (o .label) ∙ sym (y .own), o .kind)
 
   pub one-herd : {rs : List Record} → PartOf rs h → PartOf rs h′ → h ≡ h′
   one-herd p q =
       let a = agree (p .each) (q .each) in
       let e = heads (p .some) (p .each) (q .each) in
-      herd-eq h h′ (e .0) (e .1) (ext-getD noSlot (h .slots) (h′ .slots) (p .room ∙ sym (q .room)) (λ j _. at a j (some-slot j (p .inputs))))
+      herd-eq h h′ (e .0) (e .1)
+      (ext-getD noSlot (h .slots) (h′ .slots) (p .room ∙ sym (q .room)) (λ j _. at a j (some-slot j (p .inputs))))
     where
-      at : Agree h h′ (p .inputs) (q .inputs) → (j : ℕ) → Some (λ i. i ≡ j) (p .inputs) ⊎ Each (λ i. i ≡ j → ⊥) (p .inputs) → getD (h .slots) j noSlot ≡ getD (h′ .slots) j noSlot
+      at : Agree h h′ (p .inputs) (q .inputs) → (j : ℕ)
+          → Some (λ i. i ≡ j) (p .inputs) ⊎ Each (λ i. i ≡ j → ⊥) (p .inputs)
+          → getD (h .slots) j noSlot ≡ getD (h′ .slots) j noSlot
       at a j (inl s) = let m = meet (a .slots) s in rw (m .other) at (m .one)
       at a j (inr n) = p .rest j n ∙ sym (q .rest j (rw (a .inputs) at n))
 
 -- ---- a herd that lacks an input
 
-lacks-none : (rs : List Row) (slots : List Slot) → lacksOne rs slots ≡ false → (j : ℕ) → j < length rs → isMissing (getD slots j noSlot .given) ≡ false
+lacks-none : (rs : List Row) (slots : List Slot) → lacksOne rs slots ≡ false → (j : ℕ) → j < length rs
+    → isMissing (getD slots j noSlot .given) ≡ false
 lacks-none [] slots e j h = absurd (omega arith)
 lacks-none (row ∷ rs) [] e j h = clash cc
 lacks-none (row ∷ rs) (s ∷ slots) e zero h = neither (isMissing (s .given)) (lacksOne rs slots) e .0
-lacks-none (row ∷ rs) (s ∷ slots) e (suc j) h = lacks-none rs slots (neither (isMissing (s .given)) (lacksOne rs slots) e .1) j (omega arith)
+lacks-none (row ∷ rs) (s ∷ slots) e (suc j) h =
+    lacks-none rs slots (neither (isMissing (s .given)) (lacksOne rs slots) e .1) j (omega arith)
 
-none-lacks : (rs : List Row) (slots : List Slot) → length rs ≤ length slots → ((j : ℕ) → j < length rs → isMissing (getD slots j noSlot .given) ≡ false) → lacksOne rs slots ≡ false
+none-lacks : (rs : List Row) (slots : List Slot) → length rs ≤ length slots
+    → ((j : ℕ) → j < length rs → isMissing (getD slots j noSlot .given) ≡ false) → lacksOne rs slots ≡ false
 none-lacks [] slots h f = refl
 none-lacks (row ∷ rs) [] h f = absurd (omega arith)
-none-lacks (row ∷ rs) (s ∷ slots) h f = rw (f 0 (omega arith)) (none-lacks rs slots (omega arith) (λ j b. f (suc j) (omega arith)))
+none-lacks (row ∷ rs) (s ∷ slots) h f =
+    rw (f 0 (omega arith)) (none-lacks rs slots (omega arith) (λ j b. f (suc j) (omega arith)))
 
 -- one of the slots is missing
 pub record Missed (rs : List Row) (slots : List Slot) : Type 0 where
@@ -225,9 +250,11 @@ lacks-one [] slots h e = clash cc
 lacks-one (row ∷ rs) [] h e = absurd (omega arith)
 lacks-one (row ∷ rs) (s ∷ slots) h e = go (isMissing (s .given)) refl e (lacks-one rs slots (omega arith))
   where
-    go : (t : Bool) → isMissing (s .given) ≡ t → (t || lacksOne rs slots) ≡ true → (lacksOne rs slots ≡ true → Missed rs slots) → Missed (row ∷ rs) (s ∷ slots)
+    go : (t : Bool) → isMissing (s .given) ≡ t → (t || lacksOne rs slots) ≡ true
+        → (lacksOne rs slots ≡ true → Missed rs slots) → Missed (row ∷ rs) (s ∷ slots)
     go true m e later = record { slot = 0; inside = omega arith; missing = m }
-    go false m e later = let r = later e in record { slot = suc (r .slot); inside = omega (arith, r .inside); missing = r .missing }
+    go false m e later = let r = later e in
+        record { slot = suc (r .slot); inside = omega (arith, r .inside); missing = r .missing }
 
 module _ {rs : List Record} {h : Herd} (p : PartOf rs h) where
   room : countOf (h .kind) ≤ length (h .slots)

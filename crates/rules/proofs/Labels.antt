@@ -1,4 +1,5 @@
--- A label's text and the label of the reader's record: good where the text is, and one where the texts are one. Assumes nothing.
+-- A label's text and the label of the reader's record: good where the text is, and one where the texts are one. Assumes
+-- nothing.
 use Prim.Native.Nat.{ℕ, _≤_}
 use mathlib.Core.Path.{_≡_, refl, sym, ap, _∙_}
 use mathlib.Core.Bool.{Bool, true, false, not, _&&_}
@@ -22,7 +23,8 @@ text-of s h = take-take (length s) labelMost (s ++ replicate labelMost 0) h ∙ 
 
 room : (s : List ℕ) → length (labelOf s .bytes) ≡ labelMost
 unfolding labelOf
-room s = length-take-le labelMost (s ++ replicate labelMost 0) (omega (arith, length-append s (replicate labelMost 0), length-replicate {A = ℕ} labelMost 0))
+room s = length-take-le labelMost (s ++ replicate labelMost 0)
+    (omega (arith, length-append s (replicate labelMost 0), length-replicate {A = ℕ} labelMost 0))
 
 -- ---- good labels
 
@@ -31,7 +33,12 @@ unfolding byteOk
 byte-good b e =
     let l = both (leb 32 b) (leb b 126 && not (eqb b 34)) e in
     let h = both (leb b 126) (not (eqb b 34)) (l .1) in
-    record { low = leb-true 32 b (l .0); high = leb-true b 126 (h .0); no-quote = eqb-false b 34 (not-true (eqb b 34) (h .1)) }
+    record {
+      low = leb-true 32 b (l .0);
+      high = leb-true b 126 (h .0);
+      no-quote =
+          eqb-false b 34 (not-true (eqb b 34) (h .1));
+    }
 
 good-byte : (b : ℕ) → LabelByte b → byteOk b ≡ true
 unfolding byteOk
@@ -55,7 +62,8 @@ ok-good s e =
 
 pub good-ok : (s : List ℕ) → GoodLabel s → labelOk (labelOf s) ≡ true
 unfolding labelOk labelOf
-good-ok s g = rw (le-leb 1 (length s) (g .some), le-leb (length s) labelMost (g .most)) (ap allOk (text-of s (g .most)) ∙ good-bytes (g .bytes))
+good-ok s g = rw (le-leb 1 (length s) (g .some), le-leb (length s) labelMost (g .most))
+    (ap allOk (text-of s (g .most)) ∙ good-bytes (g .bytes))
 
 -- ---- one label
 

@@ -113,7 +113,8 @@ module _ {A B : Type 0} {R : A → B → Type 0} where
   pairs-append Pairs.none q = q
   pairs-append (Pairs.more r p) q = Pairs.more r (pairs-append p q)
 
-pub pairs-map : {A B : Type 0} {R S : A → B → Type 0} {P : B → Type 0} {l : List A} {m : List B} → ((a : A) (b : B) → R a b → P b → S a b) → Pairs R l m → Each P m → Pairs S l m
+pub pairs-map : {A B : Type 0} {R S : A → B → Type 0} {P : B → Type 0} {l : List A} {m : List B}
+    → ((a : A) (b : B) → R a b → P b → S a b) → Pairs R l m → Each P m → Pairs S l m
 pairs-map f Pairs.none none = Pairs.none
 pairs-map f (Pairs.more r p) (more q e) = Pairs.more (f _ _ r q) (pairs-map f p e)
 
@@ -126,7 +127,8 @@ module _ {A B : Type 0} {R : A → B → Type 0} {P : A → Type 0} {Q : B → T
   some-right f (Pairs.more r p) (here q) = here (f _ _ r q)
   some-right f (Pairs.more r p) (there s) = there (some-right f p s)
 
-pub each-left : {A B : Type 0} {R : A → B → Type 0} {P : A → Type 0} {l : List A} {m : List B} → ((a : A) (b : B) → R a b → P a) → Pairs R l m → Each P l
+pub each-left : {A B : Type 0} {R : A → B → Type 0} {P : A → Type 0} {l : List A} {m : List B}
+    → ((a : A) (b : B) → R a b → P a) → Pairs R l m → Each P l
 each-left f Pairs.none = none
 each-left f (Pairs.more r p) = more (f _ _ r) (each-left f p)
 
@@ -137,6 +139,7 @@ pub record Fellow {A B : Type 0} (R : A → B → Type 0) (Q : B → Type 0) : T
   pub pair : R one of
   pub has : Q of
 
-pub fellow : {A B : Type 0} {R : A → B → Type 0} {Q : B → Type 0} {l : List A} {m : List B} → Pairs R l m → Some Q m → Fellow R Q
+pub fellow : {A B : Type 0} {R : A → B → Type 0} {Q : B → Type 0} {l : List A} {m : List B} → Pairs R l m → Some Q m
+    → Fellow R Q
 fellow (Pairs.more r p) (here q) = record { one = _; of = _; pair = r; has = q }
 fellow (Pairs.more r p) (there s) = fellow p s

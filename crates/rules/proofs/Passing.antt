@@ -46,7 +46,8 @@ record Fine (row : Row) (s : Slot) : Type 0 where
   given : isMissing (s .given) ≡ false
   fitting : fits (row .form) (s .given) ≡ true
 
-passes : (d : Row) (rs : List Row) (slots : List Slot) → length rs ≤ length slots → ((j : ℕ) → j < length rs → Fine (getD rs j d) (getD slots j noSlot)) → Passes rs slots
+passes : (d : Row) (rs : List Row) (slots : List Slot) → length rs ≤ length slots
+    → ((j : ℕ) → j < length rs → Fine (getD rs j d) (getD slots j noSlot)) → Passes rs slots
 passes d [] slots h f = Passes.none
 passes d (row ∷ rs) [] h f = absurd (omega arith)
 passes d (row ∷ rs) (s ∷ slots) h f =
@@ -59,22 +60,27 @@ herd-good {rs} {h} x =
     let l = part-labelled (x .part) in
     record {
       label = ap labelOk (l .is) ∙ good-ok (l .text) (l .good);
-      inputs = passes (lastOf (rowsOf (h .kind))) (rowsOf (h .kind)) (h .slots) (omega (arith, x .part .room, count-most (h .kind))) fine;
+      inputs = passes (lastOf (rowsOf (h .kind))) (rowsOf (h .kind)) (h .slots)
+          (omega (arith, x .part .room, count-most (h .kind))) fine;
     }
   where
     fine : (j : ℕ) → j < countOf (h .kind) → Fine (rowAt (h .kind) j) (getD (h .slots) j noSlot)
     fine j b =
         let f = fellow (x .part .each) (x .all j b) in
-        let slot : getD (h .slots) j noSlot ≡ record { given = f .pair .given } = ap (λ (n : ℕ). getD (h .slots) n noSlot) (sym (f .has)) ∙ f .pair .has in
-        let fit : fits (rowAt (h .kind) (f .of) .form) (f .pair .given) ≡ true = value-fits (reads (f .pair .says) .value) in
+        let slot : getD (h .slots) j noSlot ≡ record { given = f .pair .given } =
+        ap (λ (n : ℕ). getD (h .slots) n noSlot) (sym (f .has)) ∙ f .pair .has in
+        let fit : fits (rowAt (h .kind) (f .of) .form) (f .pair .given) ≡ true =
+        value-fits (reads (f .pair .says) .value) in
         record { given = rw (f .has) at (gives-filled (f .pair)); fitting = rw slot (rw (f .has) at fit) }
 
 -- ---- labels
 
-labels-two : {h : Herd} {hs : List Herd} → Labelled h → Each Labelled hs → Each (λ b. h .label ≡ b → ⊥) (labelsOf hs) → Each (λ later. sameLabel (h .label) (later .label) ≡ false) hs
+labels-two : {h : Herd} {hs : List Herd} → Labelled h → Each Labelled hs → Each (λ b. h .label ≡ b → ⊥) (labelsOf hs)
+    → Each (λ later. sameLabel (h .label) (later .label) ≡ false) hs
 labels-two x none none = none
 labels-two {h} x (more {a = later} y ys) (more n ns) =
-    let two : sameLabel (h .label) (later .label) ≡ false = rw (y .is) (other-herd (y .good) h x (λ e. n (e ∙ sym (y .is)))) in
+    let two : sameLabel (h .label) (later .label) ≡ false =
+    rw (y .is) (other-herd (y .good) h x (λ e. n (e ∙ sym (y .is)))) in
     more two (labels-two x ys ns)
 
 distinct : {hs : List Herd} → Each Labelled hs → Apart (labelsOf hs) → Distinct hs

@@ -36,7 +36,8 @@ broken-thens (cs ∷ rs) = ap (λ (x : Reading). cs then x) (broken-thens rs)
 
 before-read : {rs : List Record} {s left : List ℕ} → Before rs s left → readingOf s ≡ thens rs (readingOf left)
 before-read Before.none = refl
-before-read (Before.more {cs = cs} r b) = reading-front (Front.ended r) ∙ ap (λ (x : Reading). cs then x) (before-read b)
+before-read (Before.more {cs = cs} r b) = reading-front (Front.ended r)
+    ∙ ap (λ (x : Reading). cs then x) (before-read b)
 
 -- what is read behind the records
 pub record Behind (s : List ℕ) (before : List Record) (cs : Record) : Type 0 where
@@ -44,18 +45,24 @@ pub record Behind (s : List ℕ) (before : List Record) (cs : Record) : Type 0 w
   pub is : readingOf s ≡ thens before (cs then rest)
 
 pub record-read : {s : List ℕ} {before : List Record} {cs : Record} → RecordAt s before cs → Behind s before cs
-record-read {before = before} x = record { rest = readingOf (x .past); is = before-read (x .behind) ∙ ap (thens before) (reading-front (x .front)) }
+record-read {before = before} x =
+    record { rest = readingOf (x .past); is = before-read (x .behind) ∙ ap (thens before) (reading-front (x .front)) }
 
 not-at-end : {R : Type 0} (before : List Record) (cs : Record) (rest : Reading) → end ≡ thens before (cs then rest) → R
 not-at-end [] cs rest e = clash cc
 not-at-end (c ∷ before) cs rest e = clash cc
 
-pub read-record : (s : List ℕ) (before : List Record) (cs : Record) (rest : Reading) → readingOf s ≡ thens before (cs then rest) → RecordAt s before cs
-read-record s [] cs rest e = let x = begun s e in record { left = s; past = x .left; behind = Before.none; front = x .stands }
-read-record s (c ∷ before) cs rest e = let x = begun s e in go (x .left) (x .stands) (x .rest) (read-record (x .left) before cs rest (x .rest))
+pub read-record : (s : List ℕ) (before : List Record) (cs : Record) (rest : Reading)
+    → readingOf s ≡ thens before (cs then rest) → RecordAt s before cs
+read-record s [] cs rest e = let x = begun s e in
+    record { left = s; past = x .left; behind = Before.none; front = x .stands }
+read-record s (c ∷ before) cs rest e = let x = begun s e in
+    go (x .left) (x .stands) (x .rest) (read-record (x .left) before cs rest (x .rest))
   where
-    go : {s : List ℕ} (v : List ℕ) → Front c s v → readingOf v ≡ thens before (cs then rest) → RecordAt v before cs → RecordAt s (c ∷ before) cs
-    go v (Front.ended r) q a = record { left = a .left; past = a .past; behind = Before.more r (a .behind); front = a .front }
+    go : {s : List ℕ} (v : List ℕ) → Front c s v → readingOf v ≡ thens before (cs then rest) → RecordAt v before cs
+        → RecordAt s (c ∷ before) cs
+    go v (Front.ended r) q a =
+        record { left = a .left; past = a .past; behind = Before.more r (a .behind); front = a .front }
     go v (Front.last r n) q a = not-at-end before cs rest (sym reading-none ∙ q)
 
 -- ---- readings that are one
@@ -70,7 +77,8 @@ pub data Stops : Reading → Type 0 where
   at-end : Stops end
   at-break : Stops broken
 
-pub split-read : {x : Reading} (r : Reading) (rs a : List Record) (c : Record) → Stops x → thens rs x ≡ thens a (c then r) → Split rs a c
+pub split-read : {x : Reading} (r : Reading) (rs a : List Record) (c : Record) → Stops x
+    → thens rs x ≡ thens a (c then r) → Split rs a c
 split-read r [] [] c at-end e = clash cc
 split-read r [] [] c at-break e = clash cc
 split-read r [] (y ∷ a) c at-end e = clash cc
@@ -100,7 +108,8 @@ end-not-broken (c ∷ rs) [] e = clash cc
 end-not-broken (c ∷ rs) (d ∷ rs′) e = end-not-broken rs rs′ (cc)
 
 -- of two records of a reading, one stands behind the other, or they are one
-pub shorter : (r r′ : Reading) (a b : List Record) (c d : Record) → thens a (c then r) ≡ thens b (d then r′) → length b < length a → Split a b d
+pub shorter : (r r′ : Reading) (a b : List Record) (c d : Record) → thens a (c then r) ≡ thens b (d then r′)
+    → length b < length a → Split a b d
 shorter r r′ [] b c d e h = absurd (omega arith)
 shorter r r′ (x ∷ a) [] c d e h = let q : x ≡ d = cc in record { after = a; is = ap (λ (y : Record). y ∷ a) q }
 shorter r r′ (x ∷ a) (y ∷ b) c d e h =
@@ -109,7 +118,8 @@ shorter r r′ (x ∷ a) (y ∷ b) c d e h =
     let p = s .is in
     record { after = s .after; is = cc }
 
-pub as-long : (r r′ : Reading) (a b : List Record) (c d : Record) → thens a (c then r) ≡ thens b (d then r′) → length b ≡ length a → (a ≡ b) × (c ≡ d)
+pub as-long : (r r′ : Reading) (a b : List Record) (c d : Record) → thens a (c then r) ≡ thens b (d then r′)
+    → length b ≡ length a → (a ≡ b) × (c ≡ d)
 as-long r r′ [] [] c d e h = (refl, cc)
 as-long r r′ [] (y ∷ b) c d e h = absurd (omega arith)
 as-long r r′ (x ∷ a) [] c d e h = absurd (omega arith)
@@ -119,7 +129,8 @@ as-long r r′ (x ∷ a) (y ∷ b) c d e h =
     let p = s .0 in
     (cc, s .1)
 
-pub split-list : (a b : List Record) (c d : Record) (a′ b′ : List Record) → a ++ (c ∷ a′) ≡ b ++ (d ∷ b′) → length b < length a → Split a b d
+pub split-list : (a b : List Record) (c d : Record) (a′ b′ : List Record) → a ++ (c ∷ a′) ≡ b ++ (d ∷ b′)
+    → length b < length a → Split a b d
 split-list [] b c d a′ b′ e h = absurd (omega arith)
 split-list (x ∷ a) [] c d a′ b′ e h = let q : x ≡ d = cc in record { after = a; is = ap (λ (y : Record). y ∷ a) q }
 split-list (x ∷ a) (y ∷ b) c d a′ b′ e h =

@@ -1,4 +1,5 @@
--- The records read so far and the herds that they said: labels and inputs of the ones are those of the others. Assumes nothing.
+-- The records read so far and the herds that they said: labels and inputs of the ones are those of the others. Assumes
+-- nothing.
 use Prim.Native.Nat.{ℕ, suc, _≤_}
 use mathlib.Core.Path.{_≡_, refl, sym, ap, _∙_}
 use mathlib.Core.Logic.{⊎-elim}
@@ -53,13 +54,16 @@ module _ {l : List ℕ} (good : GoodLabel l) where
   pub seen-herd : {b : List Record} {h : Herd} → PartOf b h → Some (λ r. labelText r ≡ l) b → h .label ≡ labelOf l
   seen-herd {h = h} p s = let m = meet (part-records p) s in label-record h (m .of) (m .one) (m .other)
 
-  pub herds-seen : {a : List Record} {hs : List Herd} → Stand PartOf a hs → Some (λ h. h .label ≡ labelOf l) hs → Some (λ r. labelText r ≡ l) a
+  pub herds-seen : {a : List Record} {hs : List Herd} → Stand PartOf a hs → Some (λ h. h .label ≡ labelOf l) hs
+      → Some (λ r. labelText r ≡ l) a
   herds-seen (Stand.more {rest = rest} p s) (here e) = some-front rest (herd-seen p e)
   herds-seen (Stand.more {rs = rs} p s) (there m) = some-back rs (herds-seen s m)
 
-  pub seen-herds : {a : List Record} {hs : List Herd} → Stand PartOf a hs → Some (λ r. labelText r ≡ l) a → Some (λ h. h .label ≡ labelOf l) hs
+  pub seen-herds : {a : List Record} {hs : List Herd} → Stand PartOf a hs → Some (λ r. labelText r ≡ l) a
+      → Some (λ h. h .label ≡ labelOf l) hs
   seen-herds Stand.none s = elim s [ ]
-  seen-herds (Stand.more {rs = rs} p s) m = ⊎-elim (λ x. here (seen-herd p x)) (λ x. there (seen-herds s x)) (some-split rs m)
+  seen-herds (Stand.more {rs = rs} p s) m =
+      ⊎-elim (λ x. here (seen-herd p x)) (λ x. there (seen-herds s x)) (some-split rs m)
 
 -- ---- how many labels
 
@@ -71,7 +75,8 @@ text-is : {h : Herd} (x : Labelled h) → text (h .label) ≡ x .text
 text-is x = ap text (x .is) ∙ text-of (x .text) (x .good .most)
 
 -- labels that are two have two texts
-other-texts : {h : Herd} {hs : List Herd} → Labelled h → Each Labelled hs → Each (λ b. h .label ≡ b → ⊥) (labelsOf hs) → Each (λ b. text (h .label) ≡ b → ⊥) (texts hs)
+other-texts : {h : Herd} {hs : List Herd} → Labelled h → Each Labelled hs → Each (λ b. h .label ≡ b → ⊥) (labelsOf hs)
+    → Each (λ b. text (h .label) ≡ b → ⊥) (texts hs)
 other-texts x none none = none
 other-texts x (more y ys) (more n ns) =
     more (λ e. n (x .is ∙ ap labelOf (sym (text-is x) ∙ e ∙ text-is y) ∙ sym (y .is))) (other-texts x ys ns)
@@ -83,19 +88,29 @@ apart-texts (more x xs) (Apart.next n d) = Apart.next (other-texts x xs n) (apar
 seen-text : {b : List Record} {h : Herd} (p : PartOf b h) → Labelled h → Some (λ r. labelText r ≡ text (h .label)) b
 seen-text p x = rw (text-is x) (herd-seen (x .good) p (x .is))
 
-seen-texts : {a : List Record} {hs : List Herd} → Stand PartOf a hs → Each Labelled hs → Each (λ l. Some (λ r. labelText r ≡ l) a) (texts hs)
+seen-texts : {a : List Record} {hs : List Herd} → Stand PartOf a hs → Each Labelled hs
+    → Each (λ l. Some (λ r. labelText r ≡ l) a) (texts hs)
 seen-texts Stand.none none = none
 seen-texts (Stand.more {rs = rs} {rest = rest} p s) (more x xs) =
     more (some-front rest (seen-text p x)) (each-map (λ l m. some-back rs m) (seen-texts s xs))
 
-pub many-labels : {a : List Record} {hs : List Herd} → Stand PartOf a hs → Each Labelled hs → Apart (labelsOf hs) → length hs ≡ herdsMost → ManyLabels a
+pub many-labels : {a : List Record} {hs : List Herd} → Stand PartOf a hs → Each Labelled hs → Apart (labelsOf hs)
+    → length hs ≡ herdsMost → ManyLabels a
 many-labels {hs = hs} s xs d n =
-    record { labels = texts hs; many = length-map hs (λ h. text (h .label)) ∙ n; apart = apart-texts xs d; each = seen-texts s xs }
+    record {
+      labels = texts hs;
+      many = length-map hs (λ h. text (h .label)) ∙ n;
+      apart = apart-texts xs d;
+      each =
+          seen-texts s xs;
+    }
 
 -- the labels that records have are the texts of their herds' labels
-text-seen : {a : List Record} {hs : List Herd} (l : List ℕ) → Stand PartOf a hs → Some (λ r. labelText r ≡ l) a → Some (λ t. l ≡ t) (texts hs)
+text-seen : {a : List Record} {hs : List Herd} (l : List ℕ) → Stand PartOf a hs → Some (λ r. labelText r ≡ l) a
+    → Some (λ t. l ≡ t) (texts hs)
 text-seen l Stand.none s = elim s [ ]
-text-seen l (Stand.more {rs = rs} {h = h} p s) m = ⊎-elim (λ x. here (own x)) (λ x. there (text-seen l s x)) (some-split rs m)
+text-seen l (Stand.more {rs = rs} {h = h} p s) m =
+    ⊎-elim (λ x. here (own x)) (λ x. there (text-seen l s x)) (some-split rs m)
   where
     own : Some (λ r. labelText r ≡ l) rs → l ≡ text (h .label)
     own x =
@@ -126,7 +141,8 @@ module _ {A : Type 0} where
   still (Without.behind w) n (here e) = here e
   still (Without.behind w) n (there s) = there (still w n s)
 
-  all-still : {a : A} {l m : List A} {ks : List A} → Without a l m → Each (λ b. a ≡ b → ⊥) ks → Each (λ b. Some (λ x. b ≡ x) l) ks → Each (λ b. Some (λ x. b ≡ x) m) ks
+  all-still : {a : A} {l m : List A} {ks : List A} → Without a l m → Each (λ b. a ≡ b → ⊥) ks
+      → Each (λ b. Some (λ x. b ≡ x) l) ks → Each (λ b. Some (λ x. b ≡ x) m) ks
   all-still w none none = none
   all-still w (more n ns) (more s ss) = more (still w n s) (all-still w ns ss)
 
@@ -140,4 +156,9 @@ module _ {A : Type 0} where
 
 pub few-labels : {a : List Record} {hs : List Herd} → Stand PartOf a hs → ManyLabels a → herdsMost ≤ length hs
 few-labels {hs = hs} s m =
-    omega (arith, no-longer (texts hs) (m .apart) (each-map (λ l x. text-seen l s x) (m .each)), m .many, length-map hs (λ h. text (h .label)))
+    omega (
+      arith,
+      no-longer (texts hs) (m .apart) (each-map (λ l x. text-seen l s x) (m .each)),
+      m .many,
+      length-map hs (λ h. text (h .label)),
+    )

@@ -1,5 +1,5 @@
--- The first refusal: a file is refused with a number and a record exactly where that is the first refusal that applies, in 01's order; and a
--- file is accepted exactly where none applies. Assumes nothing.
+-- The first refusal: a file is refused with a number and a record exactly where that is the first refusal that applies,
+-- in 01's order; and a file is accepted exactly where none applies. Assumes nothing.
 use Prim.Native.Nat.{ℕ, suc, _+_, _<_, _≤_}
 use mathlib.Core.Path.{_≡_, refl, sym, ap, subst, _∙_}
 use mathlib.Core.Logic.{_↔_, _⊎_, inl, inr}
@@ -20,10 +20,31 @@ use Rattle.farm.specs.Refusals.{number}
 use Rattle.reader.specs.declared.FileAnswer.{FileAnswer}
 use Rattle.reader.specs.Files.{refused, accepted, fileMost, readOf}
 use Rattle.rules.specs.Rules.{Record, KeepsRules}
-use Rattle.rules.specs.Refusals.{Applies, Lacks, RecordAt, AppliesAt, Sooner, too-long-first, from-the-front, in-that-order, then-missing, first-herd, First}
+use Rattle.rules.specs.Refusals.{
+  Applies,
+  Lacks,
+  RecordAt,
+  AppliesAt,
+  Sooner,
+  too-long-first,
+  from-the-front,
+  in-that-order,
+  then-missing,
+  first-herd,
+  First,
+}
 use Rattle.rules.proofs.Faults.{one-fault, applies-within, NoneBelow}
 use Rattle.rules.proofs.Answers.{Clean, Ran, accepts, breaks, wrong, missing, Answered, too-long, read, answered}
-use Rattle.rules.proofs.Readings.{thens, whole-thens, broken-thens, record-read, read-record, Stops, at-end, at-break}
+use Rattle.rules.proofs.Readings.{
+  thens,
+  whole-thens,
+  broken-thens,
+  record-read,
+  read-record,
+  Stops,
+  at-end,
+  at-break,
+}
 use Rattle.rules.proofs.Readings.{split-read, one-thens, end-not-broken, shorter, as-long, split-list, at-split}
 use Rattle.rules.proofs.Readings.{split-at, none-broken, same-records}
 use Rattle.rules.proofs.Accepts.{accepts-exactly}
@@ -53,7 +74,8 @@ none-before (in-that-order _ h) e z k = omega arith
 none-before (then-missing _) e z k = omega arith
 none-before (first-herd _) e z k = omega arith
 
-among-records : {m n : ℕ} {f g : Fault} → Sooner m f n g → 2 ≤ number f → number g ≤ 11 → (m < n) ⊎ ((m ≡ n) × (number f < number g))
+among-records : {m n : ℕ} {f g : Fault} → Sooner m f n g → 2 ≤ number f → number g ≤ 11
+    → (m < n) ⊎ ((m ≡ n) × (number f < number g))
 among-records (too-long-first _) h k = absurd (omega arith)
 among-records (from-the-front _ _ d) h k = inl d
 among-records (in-that-order _ d) h k = inr (refl, d)
@@ -88,7 +110,8 @@ module _ (s : List ℕ) where
   not-long a b = absurd (omega arith)
 
   -- a file that is accepted
-  nothing-applies : (rs : List Record) → length s ≤ fileMost → readingOf s ≡ thens rs end → Clean rs → Each (λ r. Lacks rs r → ⊥) rs → (m : ℕ) (f : Fault) → AppliesAt s m f → ⊥
+  nothing-applies : (rs : List Record) → length s ≤ fileMost → readingOf s ≡ thens rs end → Clean rs
+      → Each (λ r. Lacks rs r → ⊥) rs → (m : ℕ) (f : Fault) → AppliesAt s m f → ⊥
   nothing-applies rs short w clean whole m f (AppliesAt.too-long h) = not-long short h
   nothing-applies rs short w clean whole m f (AppliesAt.broken b) = none-broken s rs w b
   nothing-applies rs short w clean whole m f (AppliesAt.wrong at a) = none-wrong rs at-end w clean at a
@@ -98,7 +121,8 @@ module _ (s : List ℕ) where
 
   -- one that is too long
   first-long : fileMost < length s → First s 0 FileTooLong
-  first-long h = record { applies = AppliesAt.too-long h; none-sooner = λ m f a d. none-before d refl refl (rank-some (rank a)) }
+  first-long h = record
+      { applies = AppliesAt.too-long h; none-sooner = λ m f a d. none-before d refl refl (rank-some (rank a)) }
 
   -- one that breaks
   module _ (rs : List Record) (short : length s ≤ fileMost) (w : readingOf s ≡ thens rs broken) (clean : Clean rs) where
@@ -108,47 +132,61 @@ module _ (s : List ℕ) where
         let e = one-thens rs rs′ at-break (sym w ∙ breaks-read rs′ s b ∙ broken-thens rs′) in
         go (ap length e) (among-records d (omega arith) (omega arith))
       where
-        go : length rs ≡ length rs′ → (length rs′ + 1 < length rs + 1) ⊎ ((length rs′ + 1 ≡ length rs + 1) × (2 < 2)) → ⊥
+        go : length rs ≡ length rs′ → (length rs′ + 1 < length rs + 1) ⊎ ((length rs′ + 1 ≡ length rs + 1) × (2 < 2))
+            → ⊥
         go e (inl h) = omega arith
         go e (inr (_, h)) = omega arith
     none-sooner-break m f (AppliesAt.wrong at a) d = none-wrong rs at-break w clean at a
     none-sooner-break m f (AppliesAt.missing before cs after file l) d =
-        end-not-broken (before ++ (cs ∷ after)) rs (sym (whole-thens (before ++ (cs ∷ after))) ∙ sym (file-read file) ∙ w)
+        end-not-broken (before ++ (cs ∷ after)) rs
+        (sym (whole-thens (before ++ (cs ∷ after))) ∙ sym (file-read file) ∙ w)
 
     first-break : First s (length rs + 1) RecordBroken
-    first-break = record { applies = AppliesAt.broken (read-breaks rs s (w ∙ sym (broken-thens rs))); none-sooner = none-sooner-break }
+    first-break = record
+        { applies = AppliesAt.broken (read-breaks rs s (w ∙ sym (broken-thens rs))); none-sooner = none-sooner-break }
 
   -- one with a record that is refused
-  module _ (before : List Record) (cs : Record) (rest : Reading) {fault : Fault} (short : length s ≤ fileMost) (w : readingOf s ≡ thens before (cs then rest)) (clean : Clean before)
+  module _ (before : List Record) (cs : Record) (rest : Reading) {fault : Fault} (short : length s ≤ fileMost)
+      (w : readingOf s ≡ thens before (cs then rest)) (clean : Clean before)
       (applies : Applies before cs fault) (below : NoneBelow before cs (number fault)) where
-    wrong-sooner : {before′ : List Record} {cs′ : Record} {f : Fault} → RecordAt s before′ cs′ → Applies before′ cs′ f → Sooner (length before′ + 1) f (length before + 1) fault → ⊥
-    wrong-sooner {before′} {cs′} {f} at a d = go (among-records d (omega (arith, applies-within a .low)) (applies-within applies .high))
+    wrong-sooner : {before′ : List Record} {cs′ : Record} {f : Fault} → RecordAt s before′ cs′ → Applies before′ cs′ f
+        → Sooner (length before′ + 1) f (length before + 1) fault → ⊥
+    wrong-sooner {before′} {cs′} {f} at a d =
+        go (among-records d (omega (arith, applies-within a .low)) (applies-within applies .high))
       where
         same : thens before (cs then rest) ≡ thens before′ (cs′ then record-read at .rest)
         same = sym w ∙ record-read at .is
 
-        go : (length before′ + 1 < length before + 1) ⊎ ((length before′ + 1 ≡ length before + 1) × (number f < number fault)) → ⊥
-        go (inl h) = let p = shorter rest (record-read at .rest) before before′ cs cs′ same (omega arith) in clean before′ cs′ (p .after) (p .is) f a
-        go (inr (e, h)) = let p = as-long rest (record-read at .rest) before before′ cs cs′ same (omega arith) in below f h (rw (p .0, p .1) a)
+        go : (length before′ + 1 < length before + 1)
+            ⊎ ((length before′ + 1 ≡ length before + 1) × (number f < number fault)) → ⊥
+        go (inl h) = let p = shorter rest (record-read at .rest) before before′ cs cs′ same (omega arith) in
+            clean before′ cs′ (p .after) (p .is) f a
+        go (inr (e, h)) = let p = as-long rest (record-read at .rest) before before′ cs cs′ same (omega arith) in
+            below f h (rw (p .0, p .1) a)
 
     none-sooner-wrong : (m : ℕ) (f : Fault) → AppliesAt s m f → Sooner m f (length before + 1) fault → ⊥
     none-sooner-wrong m f (AppliesAt.too-long h) d = not-long short h
     none-sooner-wrong m f (AppliesAt.broken {rs = rs′} b) d =
         let p = split-read rest rs′ before cs at-break (sym (breaks-read rs′ s b ∙ broken-thens rs′) ∙ w) in
-        go (length (p .after)) (ap length (p .is) ∙ length-append before (cs ∷ p .after)) (among-records d (omega arith) (applies-within applies .high))
+        go (length (p .after)) (ap length (p .is) ∙ length-append before (cs ∷ p .after))
+        (among-records d (omega arith) (applies-within applies .high))
       where
-        go : (k : ℕ) → length rs′ ≡ length before + suc k → (length rs′ + 1 < length before + 1) ⊎ ((length rs′ + 1 ≡ length before + 1) × (2 < number fault)) → ⊥
+        go : (k : ℕ) → length rs′ ≡ length before + suc k
+            → (length rs′ + 1 < length before + 1) ⊎ ((length rs′ + 1 ≡ length before + 1) × (2 < number fault)) → ⊥
         go k e (inl h) = omega arith
         go k e (inr (h, _)) = omega arith
     none-sooner-wrong m f (AppliesAt.wrong at a) d = wrong-sooner at a d
     none-sooner-wrong m f (AppliesAt.missing _ _ _ _ _) d = not-after-all d refl (applies-within applies .high)
 
     first-wrong : First s (length before + 1) fault
-    first-wrong = record { applies = AppliesAt.wrong (read-record s before cs rest w) applies; none-sooner = none-sooner-wrong }
+    first-wrong = record
+        { applies = AppliesAt.wrong (read-record s before cs rest w) applies; none-sooner = none-sooner-wrong }
 
   -- one with a herd that lacks an input
-  module _ (before : List Record) (cs : Record) (after : List Record) (short : length s ≤ fileMost) (w : readingOf s ≡ thens (before ++ (cs ∷ after)) end) (clean : Clean (before ++ (cs ∷ after)))
-      (lacking : Lacks (before ++ (cs ∷ after)) cs) (whole : Each (λ r. Lacks (before ++ (cs ∷ after)) r → ⊥) before) where
+  module _ (before : List Record) (cs : Record) (after : List Record) (short : length s ≤ fileMost)
+      (w : readingOf s ≡ thens (before ++ (cs ∷ after)) end) (clean : Clean (before ++ (cs ∷ after)))
+      (lacking : Lacks (before ++ (cs ∷ after)) cs)
+      (whole : Each (λ r. Lacks (before ++ (cs ∷ after)) r → ⊥) before) where
     none-sooner-missing : (m : ℕ) (f : Fault) → AppliesAt s m f → Sooner m f (length before + 1) InputMissing → ⊥
     none-sooner-missing m f (AppliesAt.too-long h) d = not-long short h
     none-sooner-missing m f (AppliesAt.broken b) d = none-broken s (before ++ (cs ∷ after)) w b
@@ -161,7 +199,8 @@ module _ (s : List ℕ) where
     first-missing : First s (length before + 1) InputMissing
     first-missing =
         record {
-          applies = AppliesAt.missing before cs after (read-file (before ++ (cs ∷ after)) s (w ∙ sym (whole-thens (before ++ (cs ∷ after))))) lacking;
+          applies = AppliesAt.missing before cs after
+              (read-file (before ++ (cs ∷ after)) s (w ∙ sym (whole-thens (before ++ (cs ∷ after))))) lacking;
           none-sooner = none-sooner-missing;
         }
 
@@ -195,8 +234,12 @@ by-records m n f g h k = go (ltb m n) (ltb n m) refl refl
     in-one e = pick′ (ltb (number f) (number g)) (ltb (number g) (number f)) refl refl
       where
         pick′ : (t u : Bool) → ltb (number f) (number g) ≡ t → ltb (number g) (number f) ≡ u → Order m f n g
-        pick′ true u et eu = sooner (subst (λ (i : ℕ). Sooner m f i g) e (in-that-order {fault = f} {other = g} (omega arith) (ltb-true (number f) (number g) et)))
-        pick′ false true et eu = later (subst (λ (i : ℕ). Sooner i g m f) e (in-that-order {fault = g} {other = f} (omega arith) (ltb-true (number g) (number f) eu)))
+        pick′ true u et eu =
+            sooner (subst (λ (i : ℕ). Sooner m f i g) e
+            (in-that-order {fault = f} {other = g} (omega arith) (ltb-true (number f) (number g) et)))
+        pick′ false true et eu =
+            later (subst (λ (i : ℕ). Sooner i g m f) e
+            (in-that-order {fault = g} {other = f} (omega arith) (ltb-true (number g) (number f) eu)))
         pick′ false false et eu =
             let a = ltb-false (number f) (number g) et in
             let b = ltb-false (number g) (number f) eu in
@@ -265,9 +308,14 @@ pub record Taken (s : List ℕ) : Type 0 where
 
 -- a file keeps the rules exactly where no refusal applies to it
 pub taken-exactly : (s : List ℕ) → Taken s ↔ ((m : ℕ) (other : Fault) → AppliesAt s m other → ⊥)
-taken-exactly s = (λ t. clear (outcome (answered s)) (accepts-exactly s (t .farm) .1 (t .keeps)), λ none. keep none (readOf s) refl (outcome (answered s)))
+taken-exactly s = (
+  λ t. clear (outcome (answered s)) (accepts-exactly s (t .farm) .1 (t .keeps)),
+  λ none.
+      keep none (readOf s) refl (outcome (answered s)),
+)
   where
-    clear : {x : FileAnswer} {f : Farm} → Outcome s x → x ≡ accepted f → (m : ℕ) (other : Fault) → AppliesAt s m other → ⊥
+    clear : {x : FileAnswer} {f : Farm} → Outcome s x → x ≡ accepted f → (m : ℕ) (other : Fault) → AppliesAt s m other
+        → ⊥
     clear (takes none) e = none
     clear (gives _) e = let c = ap (λ (a : FileAnswer). a .checked) e in clash cc
 

@@ -46,7 +46,8 @@ true-standard s e = same-eq (lowered s) (bytes "standard") e
 -- no number is `standard`: a digit is no letter
 digit-first : {b : ℕ} (t : List ℕ) → Digit b → isStandard (b ∷ t) ≡ false
 unfolding isStandard lowered lower sameBytes
-digit-first {b} t d = rw (lowered, lower, lt-ltb b 65 (omega (arith, d .high)), sameBytes, ne-eqb b 115 (λ e. omega (arith, d .high)))
+digit-first {b} t d =
+    rw (lowered, lower, lt-ltb b 65 (omega (arith, d .high)), sameBytes, ne-eqb b 115 (λ e. omega (arith, d .high)))
 
 whole-first : {w : List ℕ} (t : List ℕ) → Whole w → isStandard (w ++ t) ≡ false
 whole-first t Whole.nought = digit-first t (record { low = omega arith; high = omega arith })
@@ -128,7 +129,8 @@ value-said {s = s} (ValueIs.name {names = names} {place = j} x) =
 
 -- ---- and back
 
-number-of : {s : List ℕ} {d m : ℕ} {g : Given} (F : Form) → ((v : ℕ) → IsNumber s d v → v ≤ m → ValueIs F s (Value v)) → numberRead (numberOf s d m) ≡ Is g → ValueIs F s g
+number-of : {s : List ℕ} {d m : ℕ} {g : Given} (F : Form) → ((v : ℕ) → IsNumber s d v → v ≤ m → ValueIs F s (Value v))
+    → numberRead (numberOf s d m) ≡ Is g → ValueIs F s g
 number-of {s} {d} {m} {g} F make e = go (numberOf s d m) refl e
   where
     go : (r : Number) → numberOf s d m ≡ r → numberRead r ≡ Is g → ValueIs F s g
@@ -186,7 +188,8 @@ unfolding valueOf findName
 said-value (forms.Number d m) s e = number-of (forms.Number d m) (λ v. ValueIs.number) e
 said-value {g} (forms.OrStandard d m) s e = go (isStandard s) refl e
   where
-    go : (t : Bool) → isStandard s ≡ t → pick t (Is Standard) (numberRead (numberOf s d m)) ≡ Is g → ValueIs (forms.OrStandard d m) s g
+    go : (t : Bool) → isStandard s ≡ t → pick t (Is Standard) (numberRead (numberOf s d m)) ≡ Is g
+        → ValueIs (forms.OrStandard d m) s g
     go true h e =
         let x : ValueIs (forms.OrStandard d m) s Standard = ValueIs.standard (true-standard s h) in
         let z : Standard ≡ g = cc in
@@ -203,7 +206,8 @@ said-value {g} (forms.OneOf names) s e = go (findName names s) refl e
     go : (r : Found) → findName names s ≡ r → nameRead r ≡ Is g → ValueIs (forms.OneOf names) s g
     go (At j) q e =
         let n = find-text-at (namesOf names) s j q in
-        let x : ValueIs (forms.OneOf names) s (Value j) = ValueIs.name (record { inside = n .inside; name = n .name }) in
+        let x : ValueIs (forms.OneOf names) s (Value j) =
+        ValueIs.name (record { inside = n .inside; name = n .name }) in
         let z : Value j ≡ g = cc in
         rw z at x
     go Nowhere q e = clash cc
@@ -232,12 +236,14 @@ unfolding valueOf signedRead
 said-forbidden (forms.Number d m) s e = never-forbidden (numberOf s d m) e
 said-forbidden (forms.OrStandard d m) s e = go (isStandard s) e
   where
-    go : (t : Bool) → pick t (Is Standard) (numberRead (numberOf s d m)) ≡ Forbidden → Forbids (forms.OrStandard d m) × IsStandard s
+    go : (t : Bool) → pick t (Is Standard) (numberRead (numberOf s d m)) ≡ Forbidden
+        → Forbids (forms.OrStandard d m) × IsStandard s
     go true e = clash cc
     go false e = never-forbidden (numberOf s d m) e
 said-forbidden (forms.NoStandard d m) s e = go (isStandard s) refl e
   where
-    go : (t : Bool) → isStandard s ≡ t → pick t Forbidden (numberRead (numberOf s d m)) ≡ Forbidden → Forbids (forms.NoStandard d m) × IsStandard s
+    go : (t : Bool) → isStandard s ≡ t → pick t Forbidden (numberRead (numberOf s d m)) ≡ Forbidden
+        → Forbids (forms.NoStandard d m) × IsStandard s
     go true h e = (forbids, true-standard s h)
     go false h e = never-forbidden (numberOf s d m) e
 said-forbidden (forms.Signed m) s e = go (hasMinus s) e

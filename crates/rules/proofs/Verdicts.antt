@@ -1,5 +1,5 @@
--- A file that is being read: the records before this one said herds, and which of 3 to 11 is given for this one is the first that applies.
--- Assumes nothing.
+-- A file that is being read: the records before this one said herds, and which of 3 to 11 is given for this one is the
+-- first that applies. Assumes nothing.
 use Prim.Native.Nat.{ℕ, _+_, _<_, _≤_}
 use mathlib.Core.Path.{_≡_, refl, sym, ap, subst, _∙_}
 use mathlib.Core.Logic.{_⊎_, inl, inr, ⊎-elim}
@@ -32,48 +32,112 @@ use Rattle.progress.specs.Farms.{lackingWith}
 use Rattle.reader.specs.Files.{Progress, refused, nothingRead, closed, recordTests, taken}
 use Rattle.rules.specs.Lists.{Some, Last, Apart}
 use Rattle.rules.specs.Rules.{herdsMost, Record, RecordSays, Gives, PartOf, Stand, farmOf}
-use Rattle.rules.specs.Refusals.{labelText, NamesInput, SameLabel, ManyLabels, Applies, earlier-label, no-room-for-herd, other-kind, given-already}
-use Rattle.rules.proofs.Lists.{each-append, meet, some-front, some-back, some-map, some-split, some-none, HasLast, has-last, last-append, last-none, last-one, last-some, last-each, some-left, some-right}
+use Rattle.rules.specs.Refusals.{
+  labelText,
+  NamesInput,
+  SameLabel,
+  ManyLabels,
+  Applies,
+  earlier-label,
+  no-room-for-herd,
+  other-kind,
+  given-already,
+}
+use Rattle.rules.proofs.Lists.{
+  each-append,
+  meet,
+  some-front,
+  some-back,
+  some-map,
+  some-split,
+  some-none,
+  HasLast,
+  has-last,
+  last-append,
+  last-none,
+  last-one,
+  last-some,
+  last-each,
+  some-left,
+  some-right,
+}
 use Rattle.rules.proofs.Labels.{not-none}
 use Rattle.rules.proofs.Faults.{NoneBelow, none-next}
 use Rattle.rules.proofs.Entries.{one-kind, one-slot, Reads, reads, Alone, tells, wrong, alone}
 use Rattle.rules.proofs.Herds.{kind-one, kind-two, some-slot, missingAt, unfilled, part-new, part-more}
-use Rattle.rules.proofs.Farms.{herdTests, tookTo, record-tests, record-took, herds-of, at, closed-farm, closed-lacking, Labelled, part-labelled, stand-labelled, own-herd, not-own, earlier-none, earlier-some, stand-last, apart-herds}
-use Rattle.rules.proofs.Records.{OfHerd, of-herd, part-records, record-label, label-record, herds-seen, seen-herds, seen-herd, many-labels, few-labels}
+use Rattle.rules.proofs.Farms.{
+  herdTests,
+  tookTo,
+  record-tests,
+  record-took,
+  herds-of,
+  at,
+  closed-farm,
+  closed-lacking,
+  Labelled,
+  part-labelled,
+  stand-labelled,
+  own-herd,
+  not-own,
+  earlier-none,
+  earlier-some,
+  stand-last,
+  apart-herds,
+}
+use Rattle.rules.proofs.Records.{
+  OfHerd,
+  of-herd,
+  part-records,
+  record-label,
+  label-record,
+  herds-seen,
+  seen-herds,
+  seen-herd,
+  many-labels,
+  few-labels,
+}
 
 -- ---- where the first herd that lacks an input begins, 0 where none does
 
 pub data Lack : List Record → List Herd → ℕ → Type 0 where
   nowhere : {rs : List Record} {hs : List Herd} → Each (λ h. lacks h ≡ false) hs → Lack rs hs 0
-  first-at : {a b c : List Record} {hs hs′ : List Herd} {h : Herd} → Stand PartOf a hs → Each (λ x. lacks x ≡ false) hs → PartOf b h → lacks h ≡ true → Stand PartOf c hs′
+  first-at : {a b c : List Record} {hs hs′ : List Herd} {h : Herd} → Stand PartOf a hs → Each (λ x. lacks x ≡ false) hs
+      → PartOf b h → lacks h ≡ true → Stand PartOf c hs′
       → Lack (a ++ (b ++ c)) (hs ++ (h ∷ hs′)) (length a + 1)
 
-pub lack-last : {a b : List Record} {hs : List Herd} {h : Herd} {k : ℕ} → Stand PartOf a hs → PartOf b h → Lack a hs k → Lack (a ++ b) (hs ++ (h ∷ [])) (lackingWith k h (length a + 1))
+pub lack-last : {a b : List Record} {hs : List Herd} {h : Herd} {k : ℕ} → Stand PartOf a hs → PartOf b h → Lack a hs k
+    → Lack (a ++ b) (hs ++ (h ∷ [])) (lackingWith k h (length a + 1))
 lack-last {a} {b} {hs} {h} s p (nowhere ns) = go (lacks h) refl
   where
     go : (t : Bool) → lacks h ≡ t → Lack (a ++ b) (hs ++ (h ∷ [])) (pick t (length a + 1) 0)
-    go true e = let x : Lack (a ++ (b ++ [])) (hs ++ (h ∷ [])) (length a + 1) = first-at s ns p e Stand.none in rw append-nil at x
+    go true e = let x : Lack (a ++ (b ++ [])) (hs ++ (h ∷ [])) (length a + 1) = first-at s ns p e Stand.none in
+        rw append-nil at x
     go false e = nowhere (each-append ns (more e none))
 lack-last {b = b} {h = h} s p (first-at {a = a} {b = b′} {c = c} {hs = hs} {hs′ = hs′} {h = h′} s′ ns p′ e s″) =
-    let x : Lack (a ++ (b′ ++ (c ++ b))) (hs ++ (h′ ∷ (hs′ ++ (h ∷ [])))) (length a + 1) = first-at s′ ns p′ e (stand-last s″ p) in
+    let x : Lack (a ++ (b′ ++ (c ++ b))) (hs ++ (h′ ∷ (hs′ ++ (h ∷ [])))) (length a + 1) =
+    first-at s′ ns p′ e (stand-last s″ p) in
     simp (append-assoc, ne-eqb (length a + 1) 0 (λ z. omega arith)) x
 
 -- ---- the records before this one, and how far the file is read with them
 
 pub data Inv : List Record → Progress → Type 0 where
   start : Inv [] nothingRead
-  going : {a b : List Record} {hs : List Herd} {h : Herd} {k : ℕ} → Stand PartOf a hs → PartOf b h → Each (λ x. x .label ≡ h .label → ⊥) hs → Apart (labelsOf hs) → length hs < herdsMost
+  going : {a b : List Record} {hs : List Herd} {h : Herd} {k : ℕ} → Stand PartOf a hs → PartOf b h
+      → Each (λ x. x .label ≡ h .label → ⊥) hs → Apart (labelsOf hs) → length hs < herdsMost
       → Lack a hs k → Inv (a ++ b) (at hs h (length a + 1) k)
 
 -- what is to be shown of a record: it is refused, by the first that applies, or none applies and reading goes on
 pub data Verdict (before : List Record) (cs : Record) (n : ℕ) (p : Progress) : Type 0 where
-  refuses : {fault : Fault} → Applies before cs fault → NoneBelow before cs (number fault) → ((z : FileAnswer) → first (recordTests n p (partsOf cs)) z ≡ refused n fault)
+  refuses : {fault : Fault} → Applies before cs fault → NoneBelow before cs (number fault)
+      → ((z : FileAnswer) → first (recordTests n p (partsOf cs)) z ≡ refused n fault)
       → Verdict before cs n p
-  goes-on : NoneBelow before cs 12 → ((z : FileAnswer) → first (recordTests n p (partsOf cs)) z ≡ z) → Inv (before ++ (cs ∷ [])) (taken n p (partsOf cs)) → Verdict before cs n p
+  goes-on : NoneBelow before cs 12 → ((z : FileAnswer) → first (recordTests n p (partsOf cs)) z ≡ z)
+      → Inv (before ++ (cs ∷ [])) (taken n p (partsOf cs)) → Verdict before cs n p
 
 -- ---- the first record of a file
 
-module _ {cs : Record} {l : List ℕ} {kind : Kind} {i : ℕ} {g : Given} (said : RecordSays cs l kind i g) (below : NoneBelow [] cs 8) where
+module _ {cs : Record} {l : List ℕ} {kind : Kind} {i : ℕ} {g : Given} (said : RecordSays cs l kind i g)
+    (below : NoneBelow [] cs 8) where
   no-labels : ManyLabels [] → ⊥
   no-labels m = go (m .labels) (m .many) (m .each)
     where
@@ -102,7 +166,8 @@ module _ {cs : Record} {l : List ℕ} {kind : Kind} {i : ℕ} {g : Given} (said 
       (none-next 11 (none-next 10 (none-next 9 (none-next 8 below not-8) not-9) not-10) not-11)
       (λ z. record-tests said 1 nothingRead z ∙ rw new)
       (subst (λ (q : Progress). Inv (cs ∷ []) q) (sym (record-took said 1 nothingRead ∙ took))
-      (going {a = []} {b = cs ∷ []} {hs = []} {h = newHerd (labelOf l) kind i g} Stand.none (part-new said) none Apart.none (omega arith) (nowhere none)))
+      (going {a = []} {b = cs ∷ []} {hs = []} {h = newHerd (labelOf l) kind i g} Stand.none (part-new said) none
+      Apart.none (omega arith) (nowhere none)))
 
 -- ---- a later one
 
@@ -110,8 +175,10 @@ module _ {cs : Record} {l : List ℕ} {kind : Kind} {i : ℕ} {g : Given} (said 
 abbrev Later : List Record → List Record → List Herd → Herd → ℕ → Record → Type 0
 Later a b hs h k cs = Verdict (a ++ b) cs (length (a ++ b) + 1) (at hs h (length a + 1) k)
 
-module _ {a b : List Record} {hs : List Herd} {h : Herd} {k : ℕ} (st : Stand PartOf a hs) (pt : PartOf b h) (new : Each (λ x. x .label ≡ h .label → ⊥) hs) (two : Apart (labelsOf hs))
-    (room : length hs < herdsMost) (lk : Lack a hs k) {cs : Record} {l : List ℕ} {kind : Kind} {i : ℕ} {g : Given} (said : RecordSays cs l kind i g) (below : NoneBelow (a ++ b) cs 8) where
+module _ {a b : List Record} {hs : List Herd} {h : Herd} {k : ℕ} (st : Stand PartOf a hs) (pt : PartOf b h)
+    (new : Each (λ x. x .label ≡ h .label → ⊥) hs) (two : Apart (labelsOf hs))
+    (room : length hs < herdsMost) (lk : Lack a hs k) {cs : Record} {l : List ℕ} {kind : Kind} {i : ℕ} {g : Given}
+    (said : RecordSays cs l kind i g) (below : NoneBelow (a ++ b) cs 8) where
   rd : Reads cs l kind i g
   rd = reads said
 
@@ -119,12 +186,16 @@ module _ {a b : List Record} {hs : List Herd} {h : Herd} {k : ℕ} (st : Stand P
   labelled = stand-labelled st
 
   -- 3 to 7 are passed, and the record is taken as what it says
-  tests : (z : FileAnswer) → first (recordTests (length (a ++ b) + 1) (at hs h (length a + 1) k) (partsOf cs)) z ≡ first (herdTests (length (a ++ b) + 1) (at hs h (length a + 1) k) (labelOf l) kind i) z
+  tests : (z : FileAnswer)
+      → first (recordTests (length (a ++ b) + 1) (at hs h (length a + 1) k) (partsOf cs)) z
+      ≡ first (herdTests (length (a ++ b) + 1) (at hs h (length a + 1) k) (labelOf l) kind i) z
   tests = record-tests said (length (a ++ b) + 1) (at hs h (length a + 1) k)
 
-  goes-to : (q : Progress) → tookTo (length (a ++ b) + 1) (at hs h (length a + 1) k) (labelOf l) kind i g ≡ q → Inv ((a ++ b) ++ (cs ∷ [])) q
+  goes-to : (q : Progress) → tookTo (length (a ++ b) + 1) (at hs h (length a + 1) k) (labelOf l) kind i g ≡ q
+      → Inv ((a ++ b) ++ (cs ∷ [])) q
       → Inv ((a ++ b) ++ (cs ∷ [])) (taken (length (a ++ b) + 1) (at hs h (length a + 1) k) (partsOf cs))
-  goes-to q e on = subst (Inv ((a ++ b) ++ (cs ∷ []))) (sym (record-took said (length (a ++ b) + 1) (at hs h (length a + 1) k) ∙ e)) on
+  goes-to q e on = subst (Inv ((a ++ b) ++ (cs ∷ [])))
+      (sym (record-took said (length (a ++ b) + 1) (at hs h (length a + 1) k) ∙ e)) on
 
   -- the record just before, which is of the herd being read
   before-it : HasLast b
@@ -157,14 +228,19 @@ module _ {a b : List Record} {hs : List Herd} {h : Herd} {k : ℕ} (st : Stand P
     module _ (one : h .kind ≡ kind) where
       own-10 : Applies (a ++ b) cs OtherKind → ⊥
       own-10 (other-kind {own = own′} {i = j} last′ _ names names′ n) =
-          let at-last : NamesInput (before-it .of) own′ j = subst (λ (x : Record). NamesInput x own′ j) (last-one last′ just-before) names in
+          let at-last : NamesInput (before-it .of) own′ j =
+          subst (λ (x : Record). NamesInput x own′ j) (last-one last′ just-before) names in
           n (one-kind at-last (its-herd .names) ∙ one ∙ one-kind (rd .names) names′)
 
       is-11 : hasInput h i ≡ true → Applies (a ++ b) cs GivenAlready
       is-11 e = go (some-slot i (pt .inputs))
         where
           of-it : (r : Record) (j : ℕ) → Gives h r j → j ≡ i → SameLabel r cs × NamesInput r kind i
-          of-it r j x d = (record-label (rd .good) h r (of-herd r j x) own ∙ sym (rd .label), rw (one, d) at (reads (x .says) .names))
+          of-it r j x d = (
+            record-label (rd .good) h r (of-herd r j x) own
+                ∙ sym (rd .label),
+            rw (one, d) at (reads (x .says) .names),
+          )
 
           go : Some (λ j. j ≡ i) (pt .inputs) ⊎ Each (λ j. j ≡ i → ⊥) (pt .inputs) → Applies (a ++ b) cs GivenAlready
           go (inl s) = given-already (rd .names) (some-back a (some-left of-it (pt .each) s))
@@ -196,7 +272,8 @@ module _ {a b : List Record} {hs : List Herd} {h : Herd} {k : ℕ} (st : Stand P
         inputs one ek true eh =
             refuses (is-11 one eh) (none-next 10 own-below (own-10 one)) (λ z. tests z ∙ rw (e, ek, eh))
         inputs one ek false eh =
-            let on : Inv (a ++ (b ++ (cs ∷ []))) (at hs (withInput h i g) (length a + 1) k) = going st (part-more said h own one pt eh) new two room lk in
+            let on : Inv (a ++ (b ++ (cs ∷ []))) (at hs (withInput h i g) (length a + 1) k) =
+            going st (part-more said h own one pt eh) new two room lk in
             goes-on (none-next 11 (none-next 10 own-below (own-10 one)) (own-11 eh)) (λ z. tests z ∙ rw (e, ek, eh))
             (goes-to (at hs (withInput h i g) (length a + 1) k) (rw e) (rw append-assoc on))
 
@@ -217,8 +294,10 @@ module _ {a b : List Record} {hs : List Herd} {h : Herd} {k : ℕ} (st : Stand P
 
     is-8 : earlierLabel hs (labelOf l) ≡ true → Applies (a ++ b) cs EarlierLabel
     is-8 e =
-        earlier-label (some-front b (some-map (λ r y. y ∙ sym (rd .label)) (herds-seen (rd .good) st (earlier-some (rd .good) hs labelled e))))
-        (λ r last′ s. other (label-record (rd .good) h (before-it .of) its-herd (ap labelText (last-one just-before last′) ∙ s ∙ rd .label)))
+        earlier-label (some-front b
+        (some-map (λ r y. y ∙ sym (rd .label)) (herds-seen (rd .good) st (earlier-some (rd .good) hs labelled e))))
+        (λ r last′ s. other (label-record (rd .good) h (before-it .of) its-herd
+        (ap labelText (last-one just-before last′) ∙ s ∙ rd .label)))
 
     module _ (none-has : earlierLabel hs (labelOf l) ≡ false) where
       unseen : Some (λ r. SameLabel r cs) (a ++ b) → ⊥
@@ -230,7 +309,8 @@ module _ {a b : List Record} {hs : List Herd} {h : Herd} {k : ℕ} (st : Stand P
       is-9 : herdsMost ≤ length (hs ++ (h ∷ [])) → Applies (a ++ b) cs NoRoomForHerd
       is-9 full =
           no-room-for-herd unseen
-          (many-labels (stand-last st pt) (each-append labelled (more (part-labelled pt) none)) (apart-herds hs h two new) (omega (arith, length-append hs (h ∷ []))))
+          (many-labels (stand-last st pt) (each-append labelled (more (part-labelled pt) none))
+          (apart-herds hs h two new) (omega (arith, length-append hs (h ∷ []))))
 
       new-9 : length (hs ++ (h ∷ [])) < herdsMost → Applies (a ++ b) cs NoRoomForHerd → ⊥
       new-9 few (no-room-for-herd _ m) = omega (arith, few-labels (stand-last st pt) m)
@@ -245,12 +325,25 @@ module _ {a b : List Record} {hs : List Herd} {h : Herd} {k : ℕ} (st : Stand P
     begins : Progress
     begins = at (hs ++ (h ∷ [])) (newHerd (labelOf l) kind i g) (length (a ++ b) + 1) (lackingWith k h (length a + 1))
 
-    is-begun : sameLabel (h .label) (labelOf l) ≡ false → tookTo (length (a ++ b) + 1) (at hs h (length a + 1) k) (labelOf l) kind i g ≡ begins
+    is-begun : sameLabel (h .label) (labelOf l) ≡ false
+        → tookTo (length (a ++ b) + 1) (at hs h (length a + 1) k) (labelOf l) kind i g ≡ begins
     unfolding begins
     is-begun e =
         rw e
-        (ap (λ (x : Farm). record { farm = x; herd = newHerd (labelOf l) kind i g; first = length (a ++ b) + 1; lacking = closed (at hs h (length a + 1) k) .lacking }) (closed-farm hs h (length a) k room)
-        ∙ ap (λ (x : ℕ). record { farm = farmOf (hs ++ (h ∷ [])); herd = newHerd (labelOf l) kind i g; first = length (a ++ b) + 1; lacking = x }) (closed-lacking hs h (length a) k room))
+        (ap (λ (x : Farm). record {
+          farm = x;
+          herd = newHerd (labelOf l) kind i g;
+          first = length (a ++ b) + 1;
+          lacking =
+              closed (at hs h (length a + 1) k) .lacking;
+        }) (closed-farm hs h (length a) k room)
+        ∙ ap (λ (x : ℕ). record {
+          farm = farmOf (hs ++ (h ∷ []));
+          herd = newHerd (labelOf l) kind i g;
+          first =
+              length (a ++ b) + 1;
+          lacking = x;
+        }) (closed-lacking hs h (length a) k room))
 
     is-count : closed (at hs h (length a + 1) k) .farm .count ≡ length (hs ++ (h ∷ []))
     is-count = ap (λ (x : Farm). x .count) (closed-farm hs h (length a) k room)
@@ -259,15 +352,20 @@ module _ {a b : List Record} {hs : List Herd} {h : Herd} {k : ℕ} (st : Stand P
     unfolding begins newHerd withInput
     other-herd-on e = known (earlierLabel hs (labelOf l)) refl
       where
-        full : (t : Bool) → earlierLabel hs (labelOf l) ≡ false → leb herdsMost (length (hs ++ (h ∷ []))) ≡ t → Later a b hs h k cs
+        full : (t : Bool) → earlierLabel hs (labelOf l) ≡ false → leb herdsMost (length (hs ++ (h ∷ []))) ≡ t
+            → Later a b hs h k cs
         full true el ef =
-            refuses (is-9 el (leb-true herdsMost (length (hs ++ (h ∷ []))) ef)) (none-next 8 below (new-8 el)) (λ z. tests z ∙ rw (e, herds-of hs, el, ap (leb herdsMost) is-count ∙ ef))
+            refuses (is-9 el (leb-true herdsMost (length (hs ++ (h ∷ []))) ef)) (none-next 8 below (new-8 el))
+            (λ z. tests z ∙ rw (e, herds-of hs, el, ap (leb herdsMost) is-count ∙ ef))
         full false el ef =
             let few = leb-false herdsMost (length (hs ++ (h ∷ []))) ef in
-            goes-on (none-next 11 (none-next 10 (none-next 9 (none-next 8 below (new-8 el)) (new-9 el few)) (new-10 el)) (new-11 el))
+            goes-on (none-next 11 (none-next 10 (none-next 9 (none-next 8 below (new-8 el)) (new-9 el few)) (new-10 el))
+            (new-11 el))
             (λ z. tests z ∙ rw (e, herds-of hs, el, ap (leb herdsMost) is-count ∙ ef))
             (goes-to begins (is-begun e)
-            (going (stand-last st pt) (part-new said) (each-append (earlier-none (rd .good) hs labelled el) (more other none)) (apart-herds hs h two new) few (lack-last st pt lk)))
+            (going (stand-last st pt) (part-new said)
+            (each-append (earlier-none (rd .good) hs labelled el) (more other none)) (apart-herds hs h two new) few
+            (lack-last st pt lk)))
 
         known : (t : Bool) → earlierLabel hs (labelOf l) ≡ t → Later a b hs h k cs
         known true el = refuses (is-8 el) below (λ z. tests z ∙ rw (e, herds-of hs, el))
@@ -282,11 +380,13 @@ module _ {a b : List Record} {hs : List Herd} {h : Herd} {k : ℕ} (st : Stand P
 
 -- ---- any record
 
-pub verdict : {before : List Record} {p : Progress} → Inv before p → (cs : Record) → Verdict before cs (length before + 1) p
+pub verdict : {before : List Record} {p : Progress} → Inv before p → (cs : Record)
+    → Verdict before cs (length before + 1) p
 unfolding recordTests
 verdict {before} {p} inv cs = go inv (alone before cs)
   where
-    go : {before : List Record} {p : Progress} → Inv before p → Alone before cs → Verdict before cs (length before + 1) p
+    go : {before : List Record} {p : Progress} → Inv before p → Alone before cs
+        → Verdict before cs (length before + 1) p
     go {before} inv (wrong x below e) = refuses x below (λ z. e (length before + 1) _)
     go start (tells said below) = at-start said below
     go (going st pt new two room lk) (tells said below) = later st pt new two room lk said below

@@ -1,5 +1,5 @@
--- What can be said of the entries of a list: that one has a property, that it is the last, that no two are one, and that two lists
--- agree entry by entry. To be believed.
+-- What can be said of the entries of a list: that one has a property, that it is the last, that no two are one, and
+-- that two lists agree entry by entry. To be believed.
 use mathlib.Core.Path.{_≡_}
 use mathlib.Core.List.{List, [], _∷_}
 use Rattle.base.specs.Each.{Each}

@@ -1,5 +1,5 @@
--- 01, Refusal numbers: when each refusal applies, said of a file's records and not of how they are read, and which is the first.
--- proofs/Refuses.antt shows that the reader gives exactly that one. To be believed.
+-- 01, Refusal numbers: when each refusal applies, said of a file's records and not of how they are read, and which is
+-- the first. proofs/Refuses.antt shows that the reader gives exactly that one. To be believed.
 use Prim.Native.Nat.{ℕ, _+_, _<_}
 use mathlib.Core.Path.{_≡_}
 use mathlib.Core.List.{List, [], _∷_, _++_}
@@ -12,7 +12,20 @@ use Rattle.inputs.specs.declared.Form.the-variants.{NoStandard}
 use Rattle.inputs.specs.Inputs.{countOf, formOf}
 use Rattle.farm.specs.declared.Given.{Given}
 use Rattle.farm.specs.declared.Fault.{Fault}
-use Rattle.farm.specs.declared.Fault.the-variants.{FileTooLong, RecordBroken, NotFourFields, BadLabel, NotInTheList, StandardForbidden, BadValue, EarlierLabel, NoRoomForHerd, OtherKind, GivenAlready, InputMissing}
+use Rattle.farm.specs.declared.Fault.the-variants.{
+  FileTooLong,
+  RecordBroken,
+  NotFourFields,
+  BadLabel,
+  NotInTheList,
+  StandardForbidden,
+  BadValue,
+  EarlierLabel,
+  NoRoomForHerd,
+  OtherKind,
+  GivenAlready,
+  InputMissing,
+}
 use Rattle.farm.specs.Refusals.{number}
 use Rattle.rules.specs.Lists.{Some, Apart, Last}
 use Rattle.rules.specs.Rules.{Record, GoodLabel, Names, IsStandard, ValueIs, herdsMost, fileMost}
@@ -50,13 +63,18 @@ pub data Applies (before : List Record) (cs : Record) : Fault → Type 0 where
   not-four-fields : (length cs ≡ 4 → ⊥) → Applies before cs NotFourFields
   bad-label : (GoodLabel (labelText cs) → ⊥) → Applies before cs BadLabel
   not-in-the-list : ((kind : Kind) (slot : ℕ) → NamesInput cs kind slot → ⊥) → Applies before cs NotInTheList
-  standard-forbidden : {kind : Kind} {slot : ℕ} → NamesInput cs kind slot → Forbids (formOf kind slot) → IsStandard (valueIn cs) → Applies before cs StandardForbidden
-  bad-value : {kind : Kind} {slot : ℕ} → NamesInput cs kind slot → ((given : Given) → ValueIs (formOf kind slot) (valueIn cs) given → ⊥) → Applies before cs BadValue
-  earlier-label : Some (λ r. SameLabel r cs) before → ((r : Record) → Last before r → SameLabel r cs → ⊥) → Applies before cs EarlierLabel
+  standard-forbidden : {kind : Kind} {slot : ℕ} → NamesInput cs kind slot → Forbids (formOf kind slot)
+      → IsStandard (valueIn cs) → Applies before cs StandardForbidden
+  bad-value : {kind : Kind} {slot : ℕ} → NamesInput cs kind slot
+      → ((given : Given) → ValueIs (formOf kind slot) (valueIn cs) given → ⊥) → Applies before cs BadValue
+  earlier-label : Some (λ r. SameLabel r cs) before → ((r : Record) → Last before r → SameLabel r cs → ⊥)
+      → Applies before cs EarlierLabel
   no-room-for-herd : (Some (λ r. SameLabel r cs) before → ⊥) → ManyLabels before → Applies before cs NoRoomForHerd
-  other-kind : {r : Record} {own kind : Kind} {i slot : ℕ} → Last before r → SameLabel r cs → NamesInput r own i → NamesInput cs kind slot → (own ≡ kind → ⊥)
+  other-kind : {r : Record} {own kind : Kind} {i slot : ℕ} → Last before r → SameLabel r cs → NamesInput r own i
+      → NamesInput cs kind slot → (own ≡ kind → ⊥)
       → Applies before cs OtherKind
-  given-already : {kind : Kind} {slot : ℕ} → NamesInput cs kind slot → Some (λ r. SameLabel r cs × NamesInput r kind slot) before → Applies before cs GivenAlready
+  given-already : {kind : Kind} {slot : ℕ} → NamesInput cs kind slot
+      → Some (λ r. SameLabel r cs × NamesInput r kind slot) before → Applies before cs GivenAlready
 
 -- ---- 12
 
@@ -82,15 +100,20 @@ pub record RecordAt (s : List ℕ) (before : List Record) (cs : Record) : Type 0
 pub data AppliesAt (s : List ℕ) : ℕ → Fault → Type 0 where
   too-long : fileMost < length s → AppliesAt s 0 FileTooLong
   broken : {rs : List Record} → Breaks rs s → AppliesAt s (length rs + 1) RecordBroken
-  wrong : {before : List Record} {cs : Record} {fault : Fault} → RecordAt s before cs → Applies before cs fault → AppliesAt s (length before + 1) fault
-  missing : (before : List Record) (cs : Record) (after : List Record) → FileOf (before ++ (cs ∷ after)) s → Lacks (before ++ (cs ∷ after)) cs
+  wrong : {before : List Record} {cs : Record} {fault : Fault} → RecordAt s before cs → Applies before cs fault
+      → AppliesAt s (length before + 1) fault
+  missing : (before : List Record) (cs : Record) (after : List Record) → FileOf (before ++ (cs ∷ after)) s
+      → Lacks (before ++ (cs ∷ after)) cs
       → AppliesAt s (length before + 1) InputMissing
 
--- "1 comes before all; then records from the front, in each 2 to 11 in that order; then 12", which tells the first record of the first such herd
+-- "1 comes before all; then records from the front, in each 2 to 11 in that order; then 12", which tells the first
+-- record of the first such herd
 pub data Sooner : ℕ → Fault → ℕ → Fault → Type 0 where
   too-long-first : {m n : ℕ} {fault : Fault} → number FileTooLong < number fault → Sooner m FileTooLong n fault
-  from-the-front : {m n : ℕ} {fault other : Fault} → number fault < number InputMissing → number other < number InputMissing → m < n → Sooner m fault n other
-  in-that-order : {n : ℕ} {fault other : Fault} → number other < number InputMissing → number fault < number other → Sooner n fault n other
+  from-the-front : {m n : ℕ} {fault other : Fault} → number fault < number InputMissing
+      → number other < number InputMissing → m < n → Sooner m fault n other
+  in-that-order : {n : ℕ} {fault other : Fault} → number other < number InputMissing → number fault < number other
+      → Sooner n fault n other
   then-missing : {m n : ℕ} {fault : Fault} → number fault < number InputMissing → Sooner m fault n InputMissing
   first-herd : {m n : ℕ} → m < n → Sooner m InputMissing n InputMissing
 

@@ -1,7 +1,7 @@
--- 01, The farm file, as statements about a file's records: what a value may be, what one record says, which records are a herd's, and which
--- farm they say. Which records a file has is the grammar of csv. Nothing here goes through a file; proofs/Accepts.antt shows that the
--- reader accepts exactly the files that keep these rules, each as the farm that its records say. To be believed; the limits stand here a second
--- time on purpose, apart from those that the code goes by.
+-- 01, The farm file, as statements about a file's records: what a value may be, what one record says, which records are
+-- a herd's, and which farm they say. Which records a file has is the grammar of csv. Nothing here goes through a file;
+-- proofs/Accepts.antt shows that the reader accepts exactly the files that keep these rules, each as the farm that its
+-- records say. To be believed; the limits stand here a second time on purpose, apart from those that the code goes by.
 use Prim.Native.Nat.{ℕ, _-_, _<_, _≤_}
 use mathlib.Core.Path.{_≡_}
 use mathlib.Core.List.{List, [], _∷_, _++_}
@@ -82,23 +82,29 @@ pub data IsSigned : List ℕ → ℤ → Type 0 where
 -- what a text says as the value of an input of this form: a number with no more decimals and no larger than it allows,
 -- one that may be below zero and is no further from it, `standard` where it may stand, or a name of its list
 pub data ValueIs : Form → List ℕ → Given → Type 0 where
-  number : {text : List ℕ} {decimals most v : ℕ} → IsNumber text decimals v → v ≤ most → ValueIs (Number decimals most) text (Value v)
-  or-standard : {text : List ℕ} {decimals most v : ℕ} → IsNumber text decimals v → v ≤ most → ValueIs (OrStandard decimals most) text (Value v)
-  no-standard : {text : List ℕ} {decimals most v : ℕ} → IsNumber text decimals v → v ≤ most → ValueIs (NoStandard decimals most) text (Value v)
+  number : {text : List ℕ} {decimals most v : ℕ} → IsNumber text decimals v → v ≤ most
+      → ValueIs (Number decimals most) text (Value v)
+  or-standard : {text : List ℕ} {decimals most v : ℕ} → IsNumber text decimals v → v ≤ most
+      → ValueIs (OrStandard decimals most) text (Value v)
+  no-standard : {text : List ℕ} {decimals most v : ℕ} → IsNumber text decimals v → v ≤ most
+      → ValueIs (NoStandard decimals most) text (Value v)
   standard : {text : List ℕ} {decimals most : ℕ} → IsStandard text → ValueIs (OrStandard decimals most) text Standard
-  signed : {text : List ℕ} {most : ℕ} {v : ℤ} → IsSigned text v → natAbs v ≤ most → ValueIs (ASigned most) text (Signed v)
-  name : {text : List ℕ} {names : NameList} {place : ℕ} → IsName names text place → ValueIs (OneOf names) text (Value place)
+  signed : {text : List ℕ} {most : ℕ} {v : ℤ} → IsSigned text v → natAbs v ≤ most
+      → ValueIs (ASigned most) text (Signed v)
+  name : {text : List ℕ} {names : NameList} {place : ℕ} → IsName names text place
+      → ValueIs (OneOf names) text (Value place)
 
--- a record says that the herd of this label has this value for this input: "Each record has four fields: herd label, module path, input
--- name, value"
+-- a record says that the herd of this label has this value for this input: "Each record has four fields: herd label,
+-- module path, input name, value"
 pub data RecordSays : Record → List ℕ → Kind → ℕ → Given → Type 0 where
-  says : {label path name value : List ℕ} {kind : Kind} {slot : ℕ} {given : Given} → GoodLabel label → Names path name kind slot → ValueIs (formOf kind slot) value given
+  says : {label path name value : List ℕ} {kind : Kind} {slot : ℕ} {given : Given} → GoodLabel label
+      → Names path name kind slot → ValueIs (formOf kind slot) value given
       → RecordSays (label ∷ path ∷ name ∷ value ∷ []) label kind slot given
 
 -- ---- a herd
 
--- a record gives the herd this input: it has the herd's label, the input is one of the herd's kind, and the herd's slot for it has the value
--- that the record says
+-- a record gives the herd this input: it has the herd's label, the input is one of the herd's kind, and the herd's slot
+-- for it has the value that the record says
 pub record Gives (h : Herd) (cs : Record) (slot : ℕ) : Type 0 where
   pub label : List ℕ
   pub given : Given
@@ -106,7 +112,8 @@ pub record Gives (h : Herd) (cs : Record) (slot : ℕ) : Type 0 where
   pub own : h .label ≡ labelOf label
   pub has : getD (h .slots) slot noSlot ≡ record { given = given }
 
--- records of one herd, in any order: one at least, each gives the herd an input, no two the same; a slot for which none stands says nothing
+-- records of one herd, in any order: one at least, each gives the herd an input, no two the same; a slot for which none
+-- stands says nothing
 pub record PartOf (rs : List Record) (h : Herd) : Type 0 where
   pub inputs : List ℕ
   pub some : 1 ≤ length rs

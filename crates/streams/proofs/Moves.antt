@@ -18,7 +18,7 @@ use Rattle.streams.specs.declared.Moved.the-variants.{Bytes, Nothing, Ag
 use Rattle.streams.specs.declared.Outcome.{Outcome}
 use Rattle.streams.specs.declared.Outcome.the-variants.{Whole, Broken}
 use Rattle.streams.specs.declared.Step.{Step}
-use Rattle.streams.specs.declared.Step.the-variants.{On, Wait, Stop}
+use Rattle.streams.specs.declared.Step.the-variants.{On, Stop}
 use Rattle.streams.specs.Steps.{faultOf, movedOf, onwardOf, afterCall, afterRead, afterWrite}
 use Rattle.streams.specs.Within.{Counted, Within, All, Going}
 
@@ -42,12 +42,14 @@ answer-counted size (pos n) e h = go (eqb n 0) refl
 answer-counted size (negsuc n) e h = fault-counted size e
 
 -- as a call hands it on, by its bits
-pub moved-counted : (size : ℕ) (z e : ℤ) {r : Moved} → mag z < 2 ^ 63 → io.Moved size z → r ≡ movedOf (toZ w64 (ofZ w64 z)) e → Counted size r
+pub moved-counted : (size : ℕ) (z e : ℤ) {r : Moved} → mag z < 2 ^ 63 → io.Moved size z
+    → r ≡ movedOf (toZ w64 (ofZ w64 z)) e → Counted size r
 moved-counted size z e h k q = rw (q, toZ-ofZ (record { sfits = h })) (answer-counted size z e k)
 
 -- ---- a step
 
-module _ (Ends : Outcome → Type 0) (done size : ℕ) (inside : done ≤ size) (full : Ends (Whole size)) (broken : Ends Broken) where
+module _ (Ends : Outcome → Type 0) (done size : ℕ) (inside : done ≤ size) (full : Ends (Whole size))
+    (broken : Ends Broken) where
   onward-going : (n : ℕ) → 0 < n → n ≤ size - done → Going Ends done size (onwardOf done size n)
   onward-going n h k = rw (le-ltb size (done + n) (omega arith)) (go (eqb (done + n) size))
     where
@@ -55,17 +57,20 @@ module _ (Ends : Outcome → Type 0) (done size : ℕ) (inside : done ≤ size) 
       go true = Going.stop full
       go false = Going.on {n = done + n} (omega arith) (omega arith)
 
-  call-going : {none : Outcome} {m : Moved} → Ends none → Counted (size - done) m → Going Ends done size (afterCall done size none m)
+  call-going : {none : Outcome} {m : Moved} → Ends none → Counted (size - done) m
+      → Going Ends done size (afterCall done size none m)
   call-going w (Counted.bytes {n} h k) = onward-going n h k
   call-going w Counted.nothing = Going.stop w
   call-going w Counted.again = Going.wait
   call-going w Counted.failed = Going.stop broken
 
 -- of the rest of the slice
-module _ {done size rest : ℕ} {m : Moved} {r : Step} (inside : done ≤ size) (given : Counted rest m) (e : rest ≡ size - done) where
+module _ {done size rest : ℕ} {m : Moved} {r : Step} (inside : done ≤ size) (given : Counted rest m)
+    (e : rest ≡ size - done) where
   pub read-goes : r ≡ afterRead done size m → Going (Within size) done size r
   read-goes q =
-      rw q (call-going (Within size) done size inside (Within.whole (omega arith)) Within.broken (Within.whole inside) (rw e at given))
+      rw q (call-going (Within size) done size inside (Within.whole (omega arith)) Within.broken (Within.whole inside)
+      (rw e at given))
 
   pub write-goes : 0 < size → r ≡ afterWrite done size m → Going (All size) done size r
   write-goes some q =

@@ -41,7 +41,8 @@ not-below (pos n) h = tt
 not-below (negsuc n) h = clash cc
 
 module _ (z : ℤ) (fits : SFits w64 z) where
-  pub answer-below : (e : ℤ) {r : Moved} → SFits w32 e → ltZ (toZ w64 (ofZ w64 z)) (pos 0) ≡ true → r ≡ faultOf (toZ w32 (ofZ w32 e)) → r ≡ movedOf z e
+  pub answer-below : (e : ℤ) {r : Moved} → SFits w32 e → ltZ (toZ w64 (ofZ w64 z)) (pos 0) ≡ true
+      → r ≡ faultOf (toZ w32 (ofZ w32 e)) → r ≡ movedOf z e
   answer-below e f h q = (rw (toZ-ofZ f) at q) ∙ below-of z e (rw (toZ-ofZ fits) at h)
 
   module _ (h : ltZ (toZ w64 (ofZ w64 z)) (pos 0) ≡ false) where

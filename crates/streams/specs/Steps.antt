@@ -21,7 +21,8 @@ movedOf (negsuc n) error = faultOf error
 
 -- n bytes more than `done`, of `size`
 abbrev pub onwardOf : ℕ → ℕ → ℕ → Step
-onwardOf done size n = pick (ltb size (done + n)) (Stop Broken) (if done + n is size then Stop (Whole size) else On (done + n))
+onwardOf done size n =
+    pick (ltb size (done + n)) (Stop Broken) (if done + n is size then Stop (Whole size) else On (done + n))
 
 -- after a call that was to move the bytes from `done` on, of `size`; `none` is what it means that it moved none
 abbrev pub afterCall : ℕ → ℕ → Outcome → Moved → Step

@@ -1,5 +1,6 @@
-// Standard input read to its end, and a text written to standard output: whole, or it is said that it failed. What a call of the system
-// gave, and what to do after it, are decided by functions that are proved to be the definitions of specs/Steps.antt.
+// Standard input read to its end, and a text written to standard output: whole, or it is said that it failed. What a
+// call of the system gave, and what to do after it, are decided by functions that are proved to be the definitions of
+// specs/Steps.antt.
 use libc::STDIN_FILENO;
 use libc::STDOUT_FILENO;
 ghost use Prim.Native.Nat.{_<_, _≤_};
@@ -8,7 +9,8 @@ ghost use lib.ListN.{length};
 ghost use Rattle.streams.specs.Steps.{faultOf, movedOf, onwardOf, afterCall, afterRead, afterWrite};
 ghost use Rattle.streams.specs.Within.{Counted, Within, All, Going};
 
-// What one read or write gave: so many bytes; none, which is the end of an input; a signal or a stream that was not ready; or an error.
+// What one read or write gave: so many bytes; none, which is the end of an input; a signal or a stream that was not
+// ready; or an error.
 pub enum Moved {
     Bytes(usize),
     Nothing,

@@ -2,11 +2,35 @@
 -- Assumes nothing.
 use Prim.Native.Nat.{ℕ, zero, suc, _+_, _*_, _%_, _^_, _≤_, _<_}
 use mathlib.Core.Path.{_≡_, refl}
-use native.Mathlib.Nat.{mul-le-mul-left, mul-le-mul-right, pow-le-pow-left, add-le-add, div-add-mod', mod-lt, le-refl, le-trans, le-div-iff-mul-le, div-mul-le-self}
+use native.Mathlib.Nat.{
+  mul-le-mul-left,
+  mul-le-mul-right,
+  pow-le-pow-left,
+  add-le-add,
+  div-add-mod',
+  mod-lt,
+  le-refl,
+  le-trans,
+  le-div-iff-mul-le,
+  div-mul-le-self,
+}
 use native.Mathlib.Omega.{arith}
 use lib.Dec.{lit<}
 use borrow.Author.Tests.{le-leb}
-use Rattle.tables.specs.Growth.{expNum, expDen, lastTerm, «k_grazing_b», growthNum, growthDen, nearest, kAt, withinDay, kOf, mostK, NearestK}
+use Rattle.tables.specs.Growth.{
+  expNum,
+  expDen,
+  lastTerm,
+  «k_grazing_b»,
+  growthNum,
+  growthDen,
+  nearest,
+  kAt,
+  withinDay,
+  kOf,
+  mostK,
+  NearestK,
+}
 use Rattle.tables.proofs.Entries.{withinDay-le}
 
 pub growthDen-above : 0 < growthDen
@@ -29,7 +53,8 @@ module _ (n d : ℕ) (above : 0 < d) where
 
   rises : {m : ℕ} → m ≤ n → nearest m d ≤ nearest n d
   unfolding nearest
-  rises {m} h = le-div-iff-mul-le {k = 2 * d} (omega arith) .1 (le-trans (div-mul-le-self (2 * m + d) (2 * d)) (omega arith))
+  rises {m} h = le-div-iff-mul-le {k = 2 * d} (omega arith) .1
+      (le-trans (div-mul-le-self (2 * m + d) (2 * d)) (omega arith))
 
 exp-rises : {y z : ℕ} (b n : ℕ) → y ≤ z → expNum y b n ≤ expNum z b n
 unfolding expNum
@@ -38,7 +63,8 @@ exp-rises b (suc n) h = add-le-add (mul-le-mul-right (b * suc n) (exp-rises b n 
 
 kAt-rises : {t u : ℕ} → t ≤ u → kAt t ≤ kAt u
 unfolding kAt growthNum
-kAt-rises h = rises _ growthDen growthDen-above (mul-le-mul-left _ (exp-rises 100000 lastTerm (mul-le-mul-left «k_grazing_b» h)))
+kAt-rises h = rises _ growthDen growthDen-above
+    (mul-le-mul-left _ (exp-rises 100000 lastTerm (mul-le-mul-left «k_grazing_b» h)))
 
 -- k at 24 hours
 k-all-day : kAt 240 ≡ mostK

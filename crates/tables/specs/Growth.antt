@@ -1,6 +1,6 @@
--- 2.87, k_grazing = exp(k_grazing_b * grazing_hours): how much more an animal's housing emits on a day with so many hours on pasture.
--- 01, Steps and cuts: exp is its series, terms 0 to 20, and k that number in billionths, rounded to nearest.
--- The coefficient k_grazing_a, 0.9989, which 2.87 prints too, stands in no formula there, and none here.
+-- 2.87, k_grazing = exp(k_grazing_b * grazing_hours): how much more an animal's housing emits on a day with so many
+-- hours on pasture. 01, Steps and cuts: exp is its series, terms 0 to 20, and k that number in billionths, rounded to
+-- nearest. The coefficient k_grazing_a, 0.9989, which 2.87 prints too, stands in no formula there, and none here.
 use Prim.Native.Nat.{ℕ, zero, suc, _+_, _*_, _/_, _^_, _≤_}
 use lib.Dec.{leb}
 use Rattle.base.specs.Pick.{pick}

@@ -1,5 +1,6 @@
--- 2.84 and 2.2, Technical Parameters: the nitrogen that an animal of each category, and a dairy cow, excretes in a year, in grams,
--- and the soluble share of it. A category is known by its place in its list, which is in 01's order, counted from 0.
+-- 2.84 and 2.2, Technical Parameters: the nitrogen that an animal of each category, and a dairy cow, excretes in a
+-- year, in grams, and the soluble share of it. A category is known by its place in its list, which is in 01's order,
+-- counted from 0.
 use Prim.Native.Nat.{ℕ, _*_}
 use Prim.Native.String.{String}
 use mathlib.Core.List.{List, [], _∷_, map}

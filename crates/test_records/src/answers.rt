@@ -1,5 +1,5 @@
-// What the calls answer to a record that is handed in. The writing calls get a buffer that no listing fits, so that a good record's answer
-// is 13.
+// What the calls answer to a record that is handed in. The writing calls get a buffer that no listing fits, so that a
+// good record's answer is 13.
 use farm::Farm;
 use farm::Herd;
 use outputs::names;

@@ -1,5 +1,5 @@
-// A line of the script, 96 bytes with its end: the kind of case, two changes of a record, the number of herds, and a remark, as in
-// `F V 00 010001 L 00 000000 000002 a first herd out of range, a second with a bad label`.
+// A line of the script, 96 bytes with its end: the kind of case, two changes of a record, the number of herds, and a
+// remark, as in `F V 00 010001 L 00 000000 000002 a first herd out of range, a second with a bad label`.
 use streams::Outcome;
 ghost use Prim.Native.Nat.{_≤_};
 
@@ -14,7 +14,8 @@ pub const SECOND: usize = 14;
 
 pub const NUMBER: usize = 26;
 
-// A change of a record: of the label L the length or B a byte, of a slot V to a value, S to `standard` or M to nothing; - is none.
+// A change of a record: of the label L the length or B a byte, of a slot V to a value, S to `standard` or M to nothing;
+// - is none.
 pub struct Change {
     pub what: u8,
     pub place: usize,

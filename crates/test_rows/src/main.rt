@@ -102,7 +102,8 @@ fn read_herds(end: u8) {
     tell::number(answer.farm.count as u64);
 }
 
-// 10. 65,536 bytes are read, here as one field in place of four, and 65,537 are refusal 1; herd 64 is taken, herd 65 is refusal 9.
+// 10. 65,536 bytes are read, here as one field in place of four, and 65,537 are refusal 1; herd 64 is taken, herd 65 is
+// refusal 9.
 fn limits() {
     let file = [b'a'; FILE_MOST + 1];
     printing::print_figures(base::part_of(&file, 0, FILE_MOST));

@@ -1,5 +1,5 @@
-// A farm file on standard input; its listing, or its refusal, on standard output. What goes wrong is a line on standard error, a refusal too:
-// by it ./urvendlo knows how the run ended.
+// A farm file on standard input; its listing, or its refusal, on standard output. What goes wrong is a line on standard
+// error, a refusal too: by it ./urvendlo knows how the run ended.
 use printing::ending;
 use printing::input;
 use streams::Outcome;

@@ -119,7 +119,8 @@ abbrev herdLeast : Herd → String → ℕ
 herdLeast h n = 18 + length (moduleOf Pigs n) + length (bytes n) + amountLeast (figure n (herdFigures h)) + 5
 
 herd-long : (i : ℕ) → 1756 ≤ length (listingOf (herd i))
-unfolding labelOf labelField hasComma herdLines typedOf pigsOf housingAt scrubberAt housingFloorAt housingAirAt figuresOf
+unfolding labelOf labelField hasComma herdLines typedOf pigsOf housingAt scrubberAt housingFloorAt housingAirAt
+    figuresOf
 herd-long i =
     le-trans (leb→le 1756 (sumOf (herdLeast (herd i)) (linesOf Pigs)) tt)
     (each-fills (herdLine label Pigs (herdFigures (herd i))) (herdLeast (herd i)) fills (linesOf Pigs))
@@ -145,7 +146,8 @@ abbrev totalLeast : String → ℕ
 totalLeast n = length (bytes totalPath) + length (bytes n) + amountLeast (total n longTotals) + 5
 
 totals-long : 639 ≤ length (totalsListing longTotals)
-unfolding labelField hasComma totalsListing totalsOf byNumber farmTotal typedOf pigsOf housingAt scrubberAt housingFloorAt housingAirAt figuresOf
+unfolding labelField hasComma totalsListing totalsOf byNumber farmTotal typedOf pigsOf housingAt scrubberAt
+    housingFloorAt housingAirAt figuresOf
 totals-long =
     le-trans (leb→le 639 (sumOf totalLeast totalTexts) tt)
     (each-fills (totalLine longTotals) totalLeast fills totalTexts)

@@ -1,7 +1,8 @@
--- A farm's listing put together herd by herd: what is still to be written, and what the totals are then. Assumes nothing.
+-- A farm's listing put together herd by herd: what is still to be written, and what the totals are then. Assumes
+-- nothing.
 use Prim.Native.Nat.{ℕ, _+_, _≤_, _<_}
-use mathlib.Core.Path.{_≡_, refl, sym, ap, subst, _∙_}
-use mathlib.Core.List.{List, [], _∷_, _++_, append-assoc, append-nil}
+use mathlib.Core.Path.{_≡_, sym, ap, subst, _∙_}
+use mathlib.Core.List.{List, [], _++_, append-assoc, append-nil}
 use native.Mathlib.Omega.{arith}
 use lib.ListN.{length, getD, drop, length-append}
 use Rattle.base.specs.Wrote.{Wrote}
@@ -47,7 +48,8 @@ module _ (f : Farm) (accepted : checkFarm f ≡ Accepted) (old : List ℕ) (room
         let w = inv .written in
         omega (arith, ap length e, length-append a b, w .adds-up, w .same, farm-fits f accepted)
 
-    module _ (long : length (f .herds) ≡ 64) (b : i < f .count) (d : Herd) (t : Inputs) (et : t ≡ typedOf (getD (f .herds) i d)) where
+    module _ (long : length (f .herds) ≡ 64) (b : i < f .count) (d : Herd) (t : Inputs)
+        (et : t ≡ typedOf (getD (f .herds) i d)) where
       pub sound : Sound t
       sound = next-sound f accepted i sum (inv .adding) long b d t et
 

@@ -9,6 +9,7 @@ use Rattle.farm.specs.declared.Fault.{Fault}
 use Rattle.farm.specs.Refusals.{number}
 use Rattle.whole.specs.Lines.{refusalLine}
 
-pub refusal-is : (fault : Fault) (n r : ℕ) → n ≡ number fault → bytes "refused," ++ wholeOf n ++ (44 ∷ []) ++ wholeOf r ++ (13 ∷ 10 ∷ []) ≡ refusalLine fault r
+pub refusal-is : (fault : Fault) (n r : ℕ) → n ≡ number fault
+    → bytes "refused," ++ wholeOf n ++ (44 ∷ []) ++ wholeOf r ++ (13 ∷ 10 ∷ []) ≡ refusalLine fault r
 unfolding refusalLine
 refusal-is fault n r e = rw e

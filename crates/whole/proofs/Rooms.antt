@@ -3,12 +3,12 @@
 use Prim.Native.Nat.{ℕ, _+_, _*_, _≤_}
 use mathlib.Core.Path.{_≡_, refl}
 use mathlib.Core.Bool.{Bool, true, false, _&&_}
-use mathlib.Core.List.{List, [], _∷_, _++_, map}
+use mathlib.Core.List.{List, [], map}
 use native.Mathlib.Nat.{min-le-left}
 use native.Mathlib.Omega.{arith}
 use borrow.Author.Tests.{ltb-true, ltb-false, leb-true}
 use lib.Dec.{leb, ltb, leb→le}
-use lib.ListN.{length, getD, take, length-append, length-take, length-map}
+use lib.ListN.{length, getD, length-append, length-take, length-map}
 use lib.IntN.{ℤ, pos, natAbs, _+ℤ_}
 use Rattle.base.specs.Each.{Each, none, more}
 use Rattle.base.proofs.Clash.{clash}
@@ -32,7 +32,6 @@ use Rattle.checks.proofs.Accepts.{accepted-herd, farm-count, farm-each}
 use Rattle.typed.specs.Typed.{typedAs, typedOf}
 use Rattle.typed.proofs.Sound.{typed-sound}
 use Rattle.outputs.specs.declared.Figures.{Figures}
-use Rattle.outputs.specs.declared.Totals.{Totals}
 use Rattle.outputs.specs.Names.{totals, addends}
 use Rattle.outputs.specs.Grams.{at, farmTotal, totalsOf, To}
 use Rattle.outputs.proofs.ByNumber.{by-number-at, by-number-past}

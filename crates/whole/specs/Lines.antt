@@ -1,5 +1,5 @@
--- What a farm is answered with, byte by byte (01, The listing: "prints each herd, then the totals, or `refused,NUMBER,RECORD` and CRLF").
--- To be believed.
+-- What a farm is answered with, byte by byte (01, The listing: "prints each herd, then the totals, or
+-- `refused,NUMBER,RECORD` and CRLF"). To be believed.
 use Prim.Native.Nat.{ℕ}
 use mathlib.Core.List.{List, _++_}
 use Rattle.base.specs.Text.{bytes}

@@ -1,5 +1,5 @@
-// The calls that answer a whole file into a lent buffer: its listing, and what each command prints. A file of any bytes is answered. Where the
-// buffer may be too short, the answer is first put together in one of their own.
+// The calls that answer a whole file into a lent buffer: its listing, and what each command prints. A file of any bytes
+// is answered. Where the buffer may be too short, the answer is first put together in one of their own.
 use listing::Written;
 use whole::Answer;
 use why_lines::Wording;
@@ -28,10 +28,11 @@ pub fn file_listing(s: &[u8], out: &mut [u8]) -> Written
     }
 }
 
-// An answer whose bytes stand in `written`, handed on: the bytes from the front of the buffer on; nothing, and a length of 0, where it is
-// shorter.
+// An answer whose bytes stand in `written`, handed on: the bytes from the front of the buffer on; nothing, and a length
+// of 0, where it is shorter.
 fn hand_on(out: &mut [u8], written: &[u8], answer: Answer) -> Answer
-    ensures { λ r. ⌜ Put (part (now (written .entry)) 0 (answer .length)) (now (out .entry)) (now (out .exit)) (r .length) × (r .checked ≡ answer .checked) ⌝ }
+    ensures { λ r. ⌜ Put (part (now (written .entry)) 0 (answer .length)) (now (out .entry)) (now (out .exit))
+        (r .length) × (r .checked ≡ answer .checked) ⌝ }
 {
     let checked = answer.checked;
     let bytes = base::part_of(written, 0, answer.length);
@@ -42,7 +43,8 @@ fn hand_on(out: &mut [u8], written: &[u8], answer: Answer) -> Answer
     Answer { checked, length }
 }
 
-// What the program prints for a file, how long it is, and how reading ended; where the buffer is shorter, nothing is put, and the length is 0.
+// What the program prints for a file, how long it is, and how reading ended; where the buffer is shorter, nothing is
+// put, and the length is 0.
 pub fn put_answer(s: &[u8], out: &mut [u8]) -> Answer
     ensures { λ r. ⌜ PutAnswer farmListing (now (s .entry)) (now (out .entry)) (now (out .exit)) r ⌝ }
 {

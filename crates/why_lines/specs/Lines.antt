@@ -3,7 +3,7 @@
 -- with the chosen share too. CRLF after each; other herds have none. To be believed.
 use Prim.Native.Nat.{ℕ, _/_, _%_}
 use Prim.Native.String.{String}
-use mathlib.Core.List.{List, [], _∷_, _++_}
+use mathlib.Core.List.{List, [], _++_}
 use Rattle.base.specs.Text.{bytes}
 use Rattle.decimal.specs.Writing.{wholeOf}
 use Rattle.farm.specs.declared.Herd.{Herd}

@@ -16,8 +16,10 @@ ghost use Rattle.decimal.specs.Writing.{wholeOf};
 ghost use Rattle.farm.specs.declared.Checked.the-variants.{Accepted};
 ghost use Rattle.farm.specs.Labels.{text};
 ghost use Rattle.checks.specs.Checks.{checkFarm};
-ghost use Rattle.why_lines.specs.Lines.{tenthsOf, reasonField, numbersOf, whyRecord, because, daysWords, sharesWords, whySentence, whyText, toldText, farmWhy};
-ghost use Rattle.why_lines.specs.Rooms.{longestWhole, longestTenths, longestReason, longestNumbers, longestBecause, longestDays, longestShares, longestLine, whyRoom};
+ghost use Rattle.why_lines.specs.Lines.{tenthsOf, reasonField, numbersOf, whyRecord, because, daysWords};
+ghost use Rattle.why_lines.specs.Lines.{sharesWords, whySentence, whyText, toldText, farmWhy};
+ghost use Rattle.why_lines.specs.Rooms.{longestWhole, longestTenths, longestReason, longestNumbers};
+ghost use Rattle.why_lines.specs.Rooms.{longestBecause, longestDays, longestShares, longestLine, whyRoom};
 
 // A reason's record, or its sentence.
 pub enum Wording {
@@ -77,7 +79,8 @@ fn put_reason(out: &mut [u8], at: usize, reason: Reason) -> usize
 // A reason in words.
 fn put_because(out: &mut [u8], at: usize, reason: Reason) -> usize
     requires { ⌜ at + longestBecause ≤ length (now out) ⌝ }
-    ensures { λ r. ⌜ Wrote (now (out .entry)) at (bytes (because reason)) (now (out .exit)) r × (r ≤ at + longestBecause) ⌝ }
+    ensures { λ r. ⌜ Wrote (now (out .entry)) at (bytes (because reason)) (now (out .exit)) r
+        × (r ≤ at + longestBecause) ⌝ }
 {
     match reason {
         Reason::NoSuchDays => base::put(
@@ -98,7 +101,8 @@ fn put_because(out: &mut [u8], at: usize, reason: Reason) -> usize
 // The days and the share: the last two fields.
 fn put_numbers(out: &mut [u8], at: usize, days: u64, share: u64) -> usize
     requires { ⌜ at + longestNumbers ≤ length (now out) ⌝ }
-    ensures { λ r. ⌜ Wrote (now (out .entry)) at (numbersOf days share) (now (out .exit)) r × (r ≤ at + longestNumbers) ⌝ }
+    ensures { λ r. ⌜ Wrote (now (out .entry)) at (numbersOf days share) (now (out .exit)) r
+        × (r ≤ at + longestNumbers) ⌝ }
 {
     let a = put_number(out, at, days);
     let b = base::put_byte(out, a, b',');
@@ -108,7 +112,8 @@ fn put_numbers(out: &mut [u8], at: usize, days: u64, share: u64) -> usize
 
 fn put_record(out: &mut [u8], at: usize, label: Label, w: Why) -> usize
     requires { ⌜ at + longestLine ≤ length (now out) ⌝ }
-    ensures { λ r. ⌜ Wrote (now (out .entry)) at (whyRecord (text label) w) (now (out .exit)) r × (r ≤ at + longestLine) ⌝ }
+    ensures { λ r. ⌜ Wrote (now (out .entry)) at (whyRecord (text label) w) (now (out .exit)) r
+        × (r ≤ at + longestLine) ⌝ }
 {
     let reason = w.reason;
     let a = labels::put_label(out, at, label);
@@ -140,7 +145,8 @@ fn put_shares(out: &mut [u8], at: usize, w: Why) -> usize
 
 fn put_sentence(out: &mut [u8], at: usize, label: Label, w: Why) -> usize
     requires { ⌜ at + longestLine ≤ length (now out) ⌝ }
-    ensures { λ r. ⌜ Wrote (now (out .entry)) at (whySentence (text label) w) (now (out .exit)) r × (r ≤ at + longestLine) ⌝ }
+    ensures { λ r. ⌜ Wrote (now (out .entry)) at (whySentence (text label) w) (now (out .exit)) r
+        × (r ≤ at + longestLine) ⌝ }
 {
     let a = labels::put_label(out, at, label);
     let b = put_days(out, a, w.days);
@@ -149,7 +155,8 @@ fn put_sentence(out: &mut [u8], at: usize, label: Label, w: Why) -> usize
 
 fn put_why(out: &mut [u8], at: usize, label: Label, w: Why, wording: Wording) -> usize
     requires { ⌜ at + longestLine ≤ length (now out) ⌝ }
-    ensures { λ r. ⌜ Wrote (now (out .entry)) at (whyText wording (text label) w) (now (out .exit)) r × (r ≤ at + longestLine) ⌝ }
+    ensures { λ r. ⌜ Wrote (now (out .entry)) at (whyText wording (text label) w) (now (out .exit)) r
+        × (r ≤ at + longestLine) ⌝ }
 {
     match wording {
         Wording::Record => put_record(out, at, label, w),
@@ -160,7 +167,8 @@ fn put_why(out: &mut [u8], at: usize, label: Label, w: Why, wording: Wording) ->
 // Nothing of a herd without a yard.
 fn put_told(out: &mut [u8], at: usize, label: Label, told: Told, wording: Wording) -> usize
     requires { ⌜ at + longestLine ≤ length (now out) ⌝ }
-    ensures { λ r. ⌜ Wrote (now (out .entry)) at (toldText wording (text label) told) (now (out .exit)) r × (r ≤ at + longestLine) ⌝ }
+    ensures { λ r. ⌜ Wrote (now (out .entry)) at (toldText wording (text label) told) (now (out .exit)) r
+        × (r ≤ at + longestLine) ⌝ }
 {
     match told {
         Told::Because(w) => put_why(out, at, label, w, wording),

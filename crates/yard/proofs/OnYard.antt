@@ -18,7 +18,17 @@ use Rattle.amounts.proofs.Amounts.{modest-share}
 use Rattle.kinds.specs.declared.Outdoor.{Outdoor}
 use Rattle.kinds.specs.Free.{«c_free_factor»}
 use Rattle.kinds.specs.Sound.{SoundOutdoor}
-use Rattle.yard.specs.Yard.{«er_yard», «c_floor_properties_exercise_yard», yardTime, rateFloorFree, «ef_nh3_nyard», intoYard, nh3OnYard, throughYard, onYard}
+use Rattle.yard.specs.Yard.{
+  «er_yard»,
+  «c_floor_properties_exercise_yard»,
+  yardTime,
+  rateFloorFree,
+  «ef_nh3_nyard»,
+  intoYard,
+  nh3OnYard,
+  throughYard,
+  onYard,
+}
 use Rattle.yard.proofs.Times.{yard-time-le}
 
 module _ (o : Outdoor) (s : SoundOutdoor o) where
@@ -37,7 +47,11 @@ module _ (o : Outdoor) (s : SoundOutdoor o) where
     pub under-yard-ceiling : «er_yard» * floor * left ≤ tenThousandths * percent * percent
         → UpTo (tenThousandths * percent * percent) («ef_nh3_nyard» o) («er_yard» * floor * left)
     under-yard-ceiling h =
-        record { is = rw (found, le-ltb (tenThousandths * percent * percent) («er_yard» * floor * left) h) refl; most = h }
+        record {
+          is = rw (found, le-ltb (tenThousandths * percent * percent) («er_yard» * floor * left) h) refl;
+          most =
+              h;
+        }
 
     pub at-yard-ceiling : tenThousandths * percent * percent < «er_yard» * floor * left
         → UpTo (tenThousandths * percent * percent) («ef_nh3_nyard» o) (tenThousandths * percent * percent)

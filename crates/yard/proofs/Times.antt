@@ -16,7 +16,14 @@ use Rattle.kinds.specs.declared.ExerciseYard.{ExerciseYard}
 use Rattle.kinds.specs.declared.ExerciseYard.the-variants.{NotAvailable, NotSupplied, Partly, Exclusively}
 use Rattle.kinds.specs.declared.Outdoor.{Outdoor}
 use Rattle.kinds.specs.Sound.{SoundOutdoor}
-use Rattle.yard.specs.Yard.{«days_with_grazing_and_yard», «share_available_roughage_is_partly_supplied_in_the_exercise_yard», «share_excretion», shareLowered, «share_excretion_with_grazing», yardTime}
+use Rattle.yard.specs.Yard.{
+  «days_with_grazing_and_yard»,
+  «share_available_roughage_is_partly_supplied_in_the_exercise_yard»,
+  «share_excretion»,
+  shareLowered,
+  «share_excretion_with_grazing»,
+  yardTime,
+}
 use Rattle.yard.specs.Bounds.{Both}
 
 -- ---- days with both

@@ -1,6 +1,6 @@
 -- 2.34 in plain words: no more TAN than N comes onto the yard; where no yard is available nothing comes onto it,
 -- whatever the yard days; and 01's wording of the share on days with both comes to the same. Assumes nothing.
-use mathlib.Core.Path.{_≡_, refl, ap, _∙_}
+use mathlib.Core.Path.{_≡_, refl, ap}
 use mathlib.Core.Bool.{Bool, true, false, _&&_, and-false}
 use Prim.Native.Nat.{ℕ, _+_, _-_, _*_, _≤_}
 use native.Mathlib.Nat.{le-refl, mul-zero, zero-mul}

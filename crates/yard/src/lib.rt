@@ -1,5 +1,5 @@
-// 2.33 and 2.34, and of dairy cows 2.18 and 2.19: days with both, the yard's share of what is excreted, and what happens
-// on the yard.
+// 2.33 and 2.34, and of dairy cows 2.18 and 2.19: days with both, the yard's share of what is excreted, and what
+// happens on the yard.
 //
 // The trap: grazing days and yard days may overlap. Both counts stay as they are, and a day with both has a share of
 // its own. A program that tests ranges of days which overlap one after the other, cuts the yard days at what grazing
@@ -20,7 +20,9 @@ ghost use Rattle.amounts.specs.Units.{tenths, percent, tenThousandths, year};
 ghost use Rattle.amounts.specs.Arithmetic.{cutting};
 ghost use Rattle.amounts.specs.Bounds.{Modest, PortionOf, PortionsOf, UpTo};
 ghost use Rattle.kinds.specs.Sound.{SoundOutdoor};
-ghost use Rattle.yard.specs.Yard.{«share_excretion», shareLowered, «share_excretion_with_grazing», «red_floor_properties», «c_floor_properties_exercise_yard», «ef_nh3_nyard», yardTime, onYard, noYard, ofYard};
+ghost use Rattle.yard.specs.Yard.{«share_excretion», shareLowered, «share_excretion_with_grazing»};
+ghost use Rattle.yard.specs.Yard.{«red_floor_properties», «c_floor_properties_exercise_yard», «ef_nh3_nyard»};
+ghost use Rattle.yard.specs.Yard.{yardTime, onYard, noYard, ofYard};
 ghost use Rattle.yard.specs.Bounds.{Both};
 
 pub struct Yard {

@@ -1,5 +1,5 @@
--- `bench_repeat::repeat_listing` is safe and ends. The buffer keeps its length; the measure is the number of turns left.
--- Assumes nothing.
+-- `bench_repeat::repeat_listing` is safe and ends. The buffer keeps its length; the measure is the number of turns
+-- left. Assumes nothing.
 use mathlib.Core.Path.{_≡_}
 use lib.ListN.{length}
 use borrow.Author.Needs.{needs}

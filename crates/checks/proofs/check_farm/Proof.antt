@@ -1,4 +1,5 @@
--- The loop keeps that the tests of the herds from i on, after the first i labels, give what the whole check gives. Assumes nothing.
+-- The loop keeps that the tests of the herds from i on, after the first i labels, give what the whole check gives.
+-- Assumes nothing.
 use Prim.Native.Nat.{_-_, _≤_}
 use mathlib.Core.Path.{_≡_}
 use lib.ListN.{length, take, drop}
@@ -14,7 +15,9 @@ use Rattle.checks.proofs.check_farm.Statement.{statement}
 use Rattle.checks.proofs.check_farm.Tie as tie
 
 abbrev Inv-loop : tie.InvT-loop
-Inv-loop farm count labels₀ i₀ labels i = (i ≤ count) × (length (farm .herds) ≡ herdsMost) × (length (labels .of) ≡ herdsMost) × (first (herdsTests (take i (labels .of)) (drop i (herdsOf farm))) Accepted ≡ checkFarm farm)
+Inv-loop farm count labels₀ i₀ labels i =
+    (i ≤ count) × (length (farm .herds) ≡ herdsMost) × (length (labels .of) ≡ herdsMost)
+    × (first (herdsTests (take i (labels .of)) (drop i (herdsOf farm))) Accepted ≡ checkFarm farm)
 
 abbrev μ-loop : tie.MeasureT-loop
 μ-loop farm count labels₀ i₀ labels i = count - i

@@ -10,7 +10,8 @@ use Rattle.checks.proofs.earlier_label.Statement.{statement}
 use Rattle.checks.proofs.earlier_label.Tie as tie
 
 abbrev Inv-loop : tie.InvT-loop
-Inv-loop upto l labels i₀ i = (i ≤ upto) × (hasLabel (drop i (take upto (labels .of))) l ≡ hasLabel (take upto (labels .of)) l)
+Inv-loop upto l labels i₀ i =
+    (i ≤ upto) × (hasLabel (drop i (take upto (labels .of))) l ≡ hasLabel (take upto (labels .of)) l)
 
 abbrev μ-loop : tie.MeasureT-loop
 μ-loop upto l labels i₀ i = upto - i

@@ -14,7 +14,9 @@ use Rattle.checks.proofs.has_unfit.Statement.{statement}
 use Rattle.checks.proofs.has_unfit.Tie as tie
 
 abbrev Inv-loop : tie.InvT-loop
-Inv-loop h kind count i₀ i = (i ≤ count) × (count ≤ slots) × (kind ≡ h .kind) × (unfitOne (drop i (rowsOf (h .kind))) (drop i (h .slots)) ≡ unfit h)
+Inv-loop h kind count i₀ i =
+    (i ≤ count) × (count ≤ slots) × (kind ≡ h .kind)
+    × (unfitOne (drop i (rowsOf (h .kind))) (drop i (h .slots)) ≡ unfit h)
 
 abbrev μ-loop : tie.MeasureT-loop
 μ-loop h kind count i₀ i = count - i

@@ -14,7 +14,8 @@ use Rattle.checks.proofs.lacks_input.Statement.{statement}
 use Rattle.checks.proofs.lacks_input.Tie as tie
 
 abbrev Inv-loop : tie.InvT-loop
-Inv-loop h count i₀ i = (i ≤ count) × (count ≤ slots) × (lacksOne (drop i (rowsOf (h .kind))) (drop i (h .slots)) ≡ lacks h)
+Inv-loop h count i₀ i =
+    (i ≤ count) × (count ≤ slots) × (lacksOne (drop i (rowsOf (h .kind))) (drop i (h .slots)) ≡ lacks h)
 
 abbrev μ-loop : tie.MeasureT-loop
 μ-loop h count i₀ i = count - i

@@ -1,5 +1,5 @@
--- `csv::plain_stop` meets its contract. The invariant: the scan from i on stops where the whole does; the measure is what is left of the file.
--- Assumes nothing.
+-- `csv::plain_stop` meets its contract. The invariant: the scan from i on stops where the whole does; the measure is
+-- what is left of the file. Assumes nothing.
 use Prim.Native.Nat.{_-_}
 use mathlib.Core.Logic.{⊎-elim}
 use mathlib.Core.Path.{_≡_}

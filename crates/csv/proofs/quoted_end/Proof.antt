@@ -1,5 +1,5 @@
--- `csv::quoted_end` meets its contract. The invariant: the scan from i on finds what is sought; the measure is what is left of the file.
--- Assumes nothing.
+-- `csv::quoted_end` meets its contract. The invariant: the scan from i on finds what is sought; the measure is what is
+-- left of the file. Assumes nothing.
 use Prim.Native.Nat.{_-_}
 use mathlib.Core.Path.{_≡_}
 use lib.ListN.{length, drop}

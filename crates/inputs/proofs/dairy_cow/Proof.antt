@@ -1,4 +1,5 @@
--- `inputs::dairy_cow` meets its contract: every row but that of TAN has the name and the form of the one of other cattle. Assumes nothing.
+-- `inputs::dairy_cow` meets its contract: every row but that of TAN has the name and the form of the one of other
+-- cattle. Assumes nothing.
 use borrow.Author.Needs.{needs}
 use Rattle.inputs.specs.declared.Kind.the-variants.{DairyCow}
 use Rattle.inputs.proofs.Arms.{numbered-at, as-other-cattle}

@@ -1,4 +1,5 @@
--- `inputs::find_within` meets its contract: the loop looks at the slots from `slot` on. The measure is how many are left. Assumes nothing.
+-- `inputs::find_within` meets its contract: the loop looks at the slots from `slot` on. The measure is how many are
+-- left. Assumes nothing.
 use Prim.Native.Nat.{_-_}
 use mathlib.Core.Path.{_≡_}
 use borrow.Author.Needs.{needs}
@@ -10,7 +11,8 @@ use Rattle.inputs.proofs.find_within.Statement.{statement}
 use Rattle.inputs.proofs.find_within.Tie as tie
 
 abbrev Inv-loop : tie.InvT-loop
-Inv-loop kind from to name slot₀ slot = findSlots kind (to - slot) slot (At name) ≡ findWithin (Of kind from to) (At name)
+Inv-loop kind from to name slot₀ slot =
+    findSlots kind (to - slot) slot (At name) ≡ findWithin (Of kind from to) (At name)
 
 abbrev μ-loop : tie.MeasureT-loop
 μ-loop kind from to name slot₀ slot = to - slot

@@ -1,4 +1,5 @@
--- `inputs::module_at` meets its contract: the inputs of each module stand in the stretch that its arm has. Assumes nothing.
+-- `inputs::module_at` meets its contract: the inputs of each module stand in the stretch that its arm has. Assumes
+-- nothing.
 use borrow.Author.Needs.{needs}
 use Rattle.inputs.proofs.Arms.{module-at, stretches, module-none}
 use Rattle.inputs.proofs.module_at.Statement.{statement}

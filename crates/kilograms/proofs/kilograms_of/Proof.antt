@@ -1,4 +1,5 @@
--- `kilograms::kilograms_of` meets its contract: the array that was lent has the kilograms of all figures. Assumes nothing.
+-- `kilograms::kilograms_of` meets its contract: the array that was lent has the kilograms of all figures. Assumes
+-- nothing.
 use borrow.Author.Needs.{needs}
 use mathlib.Core.Path.{ap}
 use mathlib.Core.List.{List}

@@ -1,4 +1,5 @@
--- `kilograms::total_kilograms_of` meets its contract: the array that was lent has the kilograms of all totals. Assumes nothing.
+-- `kilograms::total_kilograms_of` meets its contract: the array that was lent has the kilograms of all totals. Assumes
+-- nothing.
 use borrow.Author.Needs.{needs}
 use mathlib.Core.Path.{ap}
 use mathlib.Core.List.{List}

@@ -1,5 +1,5 @@
--- `listing::hand_over` meets its contract: refusal 13 where the part is longer than the buffer, else the part from the front. Assumes
--- nothing.
+-- `listing::hand_over` meets its contract: refusal 13 where the part is longer than the buffer, else the part from the
+-- front. Assumes nothing.
 use Rattle.listing.proofs.Answers.{refused, written}
 use borrow.Author.Needs.{needs}
 use Rattle.listing.proofs.hand_over.Statement.{statement}
@@ -18,7 +18,8 @@ same-length : tie.Need-same-length
 same-length c = search needs
 
 returns-2 : tie.Need-returns-2
-returns-2 c = let d = c .before .before in written (d .before .before .before .part-of .ensures) (d .put .ensures) (search needs)
+returns-2 c = let d = c .before .before in
+    written (d .before .before .before .part-of .ensures) (d .put .ensures) (search needs)
 
 pub hand-over-spec : {M : Type 1} → statement M
 hand-over-spec = tie.close (tie.spec part-of-requires returns put-requires same-length returns-2)

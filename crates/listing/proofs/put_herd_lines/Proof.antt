@@ -1,5 +1,5 @@
--- `listing::put_herd_lines` meets its contract: what is lent is the owner of the herd's lines, the table of middles and the kind's lines. Assumes
--- nothing.
+-- `listing::put_herd_lines` meets its contract: what is lent is the owner of the herd's lines, the table of middles and
+-- the kind's lines. Assumes nothing.
 use Prim.Native.Nat.{_+_, _≤_}
 use mathlib.Core.Path.{_≡_, ap, _∙_}
 use mathlib.Core.List.{map}
@@ -32,7 +32,8 @@ begin p = owner-put p .before .before .before
 abbrev kind-of : tie.After-list-of → Kind
 kind-of n = begin (n .before) .args .kind
 
-owner-is : (p : tie.After-part-of) → let a = begin p .args in now (p .part-of .result) ≡ ownerOf (text (a .label)) (bytes (pathOf (a .kind)))
+owner-is : (p : tie.After-part-of) → let a = begin p .args in
+    now (p .part-of .result) ≡ ownerOf (text (a .label)) (bytes (pathOf (a .kind)))
 owner-is p = p .part-of .ensures ∙ part-is (owner-put p .put-owner .ensures .0) (search needs)
 
 owner-short : (p : tie.After-part-of) → length (now (p .part-of .result)) ≤ longestOwner
@@ -42,7 +43,9 @@ grams-long : (s : tie.Start) → length (s .args .f .grams) ≡ length rows
 grams-long s = search needs
 
 -- the kind's lines in their table
-run : (n : tie.After-list-of) → let k = n .list-of .result in Run (joined listed) (map number (linesOf (kind-of n))) (getD (starts 0 listed) k 0) (getD (starts 0 listed) (k + 1) 0)
+run : (n : tie.After-list-of) → let k = n .list-of .result in
+    Run (joined listed) (map number (linesOf (kind-of n))) (getD (starts 0 listed) k 0)
+    (getD (starts 0 listed) (k + 1) 0)
 run n = lines-run (kind-of n) (n .list-of .ensures .0) (n .list-of .ensures .1)
 
 slice-aggregate-put-owner : tie.Need-slice-aggregate-put-owner

@@ -1,4 +1,5 @@
--- `listing::put_total_lines` meets its contract: what is lent is the table of the totals' middles and their lines. Assumes nothing.
+-- `listing::put_total_lines` meets its contract: what is lent is the table of the totals' middles and their lines.
+-- Assumes nothing.
 use Rattle.base.proofs.Writes.{said}
 use Rattle.listing.proofs.AsListed.{totals-known, totals-are}
 use borrow.Author.Needs.{needs}

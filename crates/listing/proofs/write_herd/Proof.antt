@@ -1,4 +1,5 @@
--- `listing::write_herd` meets its contract: straight into a buffer that every listing fits, else into one of its own first. Assumes nothing.
+-- `listing::write_herd` meets its contract: straight into a buffer that every listing fits, else into one of its own
+-- first. Assumes nothing.
 use mathlib.Core.Path.{refl}
 use Rattle.listing.proofs.Answers.{written, handed}
 use borrow.Author.Needs.{needs}

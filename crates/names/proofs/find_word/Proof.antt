@@ -1,6 +1,6 @@
--- `names::find_word` meets its contract: the loop compares the words from `at` on, of which `place` were passed, each of at most 255 bytes. The
--- measure is how many lengths are left. Assumes nothing.
-use Prim.Native.Nat.{_+_, _*_, _-_, _≤_}
+-- `names::find_word` meets its contract: the loop compares the words from `at` on, of which `place` were passed, each
+-- of at most 255 bytes. The measure is how many lengths are left. Assumes nothing.
+use Prim.Native.Nat.{_*_, _-_, _≤_}
 use mathlib.Core.Path.{_≡_}
 use lib.ListN.{length, drop}
 use borrow.Author.Needs.{needs}
@@ -13,7 +13,8 @@ use Rattle.names.proofs.find_word.Tie as tie
 abbrev Inv-loop : tie.InvT-loop
 Inv-loop text words lengths at₀ place₀ at place =
     (at ≤ 256 * place)
-    × (firstFrom (sameBytes text) place (wordsOf (drop at words) (drop place lengths)) ≡ firstFrom (sameBytes text) 0 (wordsOf words lengths))
+    × (firstFrom (sameBytes text) place (wordsOf (drop at words) (drop place lengths))
+    ≡ firstFrom (sameBytes text) 0 (wordsOf words lengths))
 
 abbrev μ-loop : tie.MeasureT-loop
 μ-loop text words lengths at₀ place₀ at place = length lengths - place

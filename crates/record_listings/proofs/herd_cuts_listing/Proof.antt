@@ -1,5 +1,5 @@
--- `record_listings::herd_cuts_listing` meets its contract: what the record's checks refuse, then what the records' writer says.
--- Assumes nothing.
+-- `record_listings::herd_cuts_listing` meets its contract: what the record's checks refuse, then what the records'
+-- writer says. Assumes nothing.
 use Rattle.contracts.proofs.RecordSteps.{cuts-steps}
 use borrow.Author.Needs.{needs}
 use Rattle.record_listings.proofs.herd_cuts_listing.Statement.{statement}

@@ -1,5 +1,5 @@
--- `record_listings::herd_listing` meets its contract: what the record's checks refuse, then what the listing's writer says.
--- Assumes nothing.
+-- `record_listings::herd_listing` meets its contract: what the record's checks refuse, then what the listing's writer
+-- says. Assumes nothing.
 use Rattle.contracts.proofs.RecordSteps.{herd-steps}
 use borrow.Author.Needs.{needs}
 use Rattle.record_listings.proofs.herd_listing.Statement.{statement}

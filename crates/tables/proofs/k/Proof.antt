@@ -14,7 +14,8 @@ use Rattle.tables.proofs.within_day.Reads as within-day-reads
 
 -- the table, as the code has it in its second local
 abbrev table : tie.After-within-day → List ℕ
-table c = lts.m2 (within-day-reads.Asked, within-day-reads.Learnt) reads.Pre reads.Post (c .before .args) (c .before .blocks) .1 .1 .0
+table c = lts.m2 (within-day-reads.Asked, within-day-reads.Learnt) reads.Pre reads.Post (c .before .args)
+    (c .before .blocks) .1 .1 .0
 
 -- the one computed test
 all-right : (c : tie.After-within-day) → T (table-right (table c))

@@ -1,5 +1,5 @@
--- `test_buffers::marks` is safe and ends. No more are counted than bytes passed; the measure is what is left of the buffer.
--- Assumes nothing.
+-- `test_buffers::marks` is safe and ends. No more are counted than bytes passed; the measure is what is left of the
+-- buffer. Assumes nothing.
 use Prim.Native.Nat.{_-_, _≤_}
 use lib.ListN.{length}
 use borrow.Author.Needs.{needs}

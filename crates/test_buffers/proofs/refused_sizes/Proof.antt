@@ -1,5 +1,5 @@
--- `test_buffers::refused_sizes` is safe and ends. No more are counted than sizes passed; the measure is the number of sizes left.
--- Assumes nothing.
+-- `test_buffers::refused_sizes` is safe and ends. No more are counted than sizes passed; the measure is the number of
+-- sizes left. Assumes nothing.
 use Prim.Native.Nat.{_-_, _≤_}
 use borrow.Author.Needs.{needs}
 use Rattle.test_buffers.proofs.refused_sizes.Statement.{statement}

@@ -49,7 +49,8 @@ returns : tie.Need-returns
 returns c =
     let free = c .signed-at .result in
     let f : SFits w64 free = search needs in
-    is-pigs (c .before .before .before .before .before .before .before .before .before .before .before .before .args .h) _ _ _ _ _ _ _ (back free) _ _ _ _
+    is-pigs (c .before .before .before .before .before .before .before .before .before .before .before .before .args .h)
+    _ _ _ _ _ _ _ (back free) _ _ _ _
     (c .before .before .before .before .before .before .before .before .before .before .before .number-at .ensures)
     (c .before .before .before .before .before .before .before .before .before .before .number-at2 .ensures)
     (c .before .before .before .before .before .before .before .before .before .number-at3 .ensures)

@@ -39,7 +39,8 @@ returns-2 c =
     let w = c .before .before in
     let k = w .before .before .before in
     let p = k .before .before .before .before in
-    whole-handed _ _ _ _ (search needs) (p .put-file2 .ensures) _ (search (needs, k .before .n .given)) _ _ _ (w .hand-over .ensures)
+    whole-handed _ _ _ _ (search needs) (p .put-file2 .ensures) _ (search (needs, k .before .n .given)) _ _ _
+    (w .hand-over .ensures)
 
 returns-3 : tie.Need-returns-3
 returns-3 c =

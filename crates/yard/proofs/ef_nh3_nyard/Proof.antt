@@ -1,5 +1,5 @@
--- `yard::ef_nh3_nyard` meets its contract: the floor is at most 100 percent and what the free factor leaves at most 200,
--- so the products fit; the ceiling by its test. Assumes nothing.
+-- `yard::ef_nh3_nyard` meets its contract: the floor is at most 100 percent and what the free factor leaves at most
+-- 200, so the products fit; the ceiling by its test. Assumes nothing.
 use borrow.Author.Needs.{needs}
 use Rattle.kinds.proofs.Leaves.{free-asked, free-found}
 use Rattle.yard.proofs.OnYard.{yard-rate-steps}

@@ -1,6 +1,6 @@
--- `csv::ReaderPlace::next` meets its contract. The invariant: the fields from `at` on, after those in f, give what is sought, and there are
--- no more fields than bytes were passed; the measure is what is left of the file.
--- Assumes nothing.
+-- `csv::ReaderPlace::next` meets its contract. The invariant: the fields from `at` on, after those in f, give what is
+-- sought, and there are no more fields than bytes were passed; the measure is what is left of the file. Assumes
+-- nothing.
 use Prim.Native.Nat.{_≤_, _-_}
 use lib.ListN.{length}
 use Rattle.csv.specs.Places.{stepOf}

@@ -1,6 +1,5 @@
 -- `cut_lines::lines::put_line` meets its contract, by its calls, one after the other; where the divisor is 0 nothing is
 -- to be written. Assumes nothing.
-use native.Mathlib.Omega.{arith}
 use Rattle.base.proofs.Writes.{said, joined}
 use Rattle.cut_lines.proofs.LineByLine.{line-is, no-line}
 use borrow.Author.Needs.{needs}

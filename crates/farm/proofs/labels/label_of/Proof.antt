@@ -1,4 +1,5 @@
--- `farm::labels::label_of` meets its contract: the bytes that fit, stored over zeros, are the text with zeros behind it, cut there. Assumes nothing.
+-- `farm::labels::label_of` meets its contract: the bytes that fit, stored over zeros, are the text with zeros behind
+-- it, cut there. Assumes nothing.
 use borrow.Author.Needs.{needs}
 use Rattle.farm.proofs.LabelSteps.{label-of-steps}
 use Rattle.farm.proofs.labels.label_of.Statement.{statement}

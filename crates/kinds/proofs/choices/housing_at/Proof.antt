@@ -1,7 +1,13 @@
 -- `kinds::choices::housing_at` meets its contract, by its tests. Assumes nothing.
 use mathlib.Core.List.{[], _∷_}
 use native.Mathlib.Omega.{arith}
-use Rattle.kinds.specs.declared.HousingType.the-variants.{SlurryConventional, SlurryLabel, SlurryLabelOpen, DeepLitter, Outdoor}
+use Rattle.kinds.specs.declared.HousingType.the-variants.{
+  SlurryConventional,
+  SlurryLabel,
+  SlurryLabelOpen,
+  DeepLitter,
+  Outdoor,
+}
 use Rattle.kinds.specs.Choices.{housingAt}
 use Rattle.kinds.proofs.Last.{is-last}
 use borrow.Author.Needs.{needs}

@@ -69,7 +69,8 @@ returns-3 c =
     let d = c .before .before in
     let b = d .before .before .before .before in
     let a = b .before .before .before .before .before in
-    in-three _ _ _ _ _ (a .put-block .ensures) (search needs) _ _ _ _ (b .put-block3 .ensures) (d .put-block4 .ensures) (search needs) (search needs)
+    in-three _ _ _ _ _ (a .put-block .ensures) (search needs) _ _ _ _ (b .put-block3 .ensures) (d .put-block4 .ensures)
+    (search needs) (search needs)
 
 pub put-text-spec : {M : Type 1} → statement M
 put-text-spec =

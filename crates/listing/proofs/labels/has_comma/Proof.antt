@@ -1,5 +1,5 @@
--- `listing::labels::has_comma` meets its contract: what is still to be searched has a comma exactly where the whole has.
--- Assumes nothing.
+-- `listing::labels::has_comma` meets its contract: what is still to be searched has a comma exactly where the whole
+-- has. Assumes nothing.
 use Prim.Native.Nat.{_≤_, _-_}
 use mathlib.Core.Path.{_≡_}
 use lib.ListN.{length, drop}

@@ -1,5 +1,5 @@
--- `listing::labels::put_label` meets its contract: a quote, the label and a quote where there is a comma, else the label.
--- Assumes nothing.
+-- `listing::labels::put_label` meets its contract: a quote, the label and a quote where there is a comma, else the
+-- label. Assumes nothing.
 use Prim.Native.Nat.{_≤_}
 use mathlib.Core.Path.{_≡_, ap, _∙_}
 use native.Mathlib.Omega.{arith}

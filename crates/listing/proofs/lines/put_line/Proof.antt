@@ -1,7 +1,7 @@
--- `listing::lines::put_line` meets its contract, by its calls, one after the other. A callee sees a signed argument as what is read back of
--- its bits. Assumes nothing.
+-- `listing::lines::put_line` meets its contract, by its calls, one after the other. A callee sees a signed argument as
+-- what is read back of its bits. Assumes nothing.
 use Prim.Native.Nat.{_+_}
-use mathlib.Core.Path.{_≡_, ap, _∙_}
+use mathlib.Core.Path.{_≡_, ap}
 use native.Mathlib.Omega.{arith}
 use denote.Ref.{now}
 use lib.ListN.{length}

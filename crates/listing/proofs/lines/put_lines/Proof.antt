@@ -1,6 +1,6 @@
 -- `listing::lines::put_lines` meets its contract: what is still to be written is the lines of the numbers that are
 -- left. Assumes nothing.
-use Prim.Native.Nat.{_+_, _-_, _≤_}
+use Prim.Native.Nat.{_-_, _≤_}
 use native.Mathlib.Omega.{arith}
 use denote.Ref.{now}
 use lib.ListN.{length, getD, drop, length-take, length-drop}
@@ -16,7 +16,8 @@ use Rattle.listing.proofs.lines.put_lines.Tie as tie
 abbrev Inv-loop : tie.InvT-loop
 Inv-loop out₀ at owner middles starts grams lines next₀ k₀ out next k =
     (k ≤ length lines)
-    × ToCome out₀ at (numbered owner middles starts grams lines) out (numbered owner middles starts grams (drop k lines)) next
+    × ToCome out₀ at (numbered owner middles starts grams lines) out
+    (numbered owner middles starts grams (drop k lines)) next
 
 abbrev μ-loop : tie.MeasureT-loop
 μ-loop out₀ at owner middles starts grams lines next₀ k₀ out next k = length lines - k
@@ -34,7 +35,8 @@ shared-slice-read-n c = search needs
 abbrev begin : tie.At-loop Inv-loop μ-loop → tie.Start Inv-loop μ-loop
 begin l = l .before .before .before .before .before .before
 
-here : (c : tie.In-loop Inv-loop μ-loop) → let a = begin (c .before) .args in Stands (now (a .middles)) (now (a .starts)) (now (a .grams)) (getD (now (a .lines)) (c .before .loop .k) 0)
+here : (c : tie.In-loop Inv-loop μ-loop) → let a = begin (c .before) .args in
+    Stands (now (a .middles)) (now (a .starts)) (now (a .grams)) (getD (now (a .lines)) (c .before .loop .k) 0)
 here c = stands (begin (c .before) .pre .0) _ (c .loop-test .taken)
 
 mul-from : tie.Need-mul-from Inv-loop μ-loop

@@ -29,7 +29,11 @@ slice-aggregate-put c = search needs
 
 put-requires : tie.Need-put-requires
 put-requires c κs =
-    omega (arith, short (c .before .before .before .before .before .before .before .before .before .before .before .before .before .before .before))
+    omega (
+      arith,
+      short (c .before .before .before .before .before .before .before .before .before .before .before
+          .before .before .before .before),
+    )
 
 same-length : tie.Need-same-length
 same-length c = search needs

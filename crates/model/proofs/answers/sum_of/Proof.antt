@@ -1,6 +1,5 @@
--- The loop keeps that the sum so far, and the figures of the herds from i on, add up to those of the whole farm, and that the sum so far is at
--- most i times what one herd has.
--- Assumes nothing.
+-- The loop keeps that the sum so far, and the figures of the herds from i on, add up to those of the whole farm, and
+-- that the sum so far is at most i times what one herd has. Assumes nothing.
 use Prim.Native.Nat.{_-_}
 use mathlib.Core.Path.{_≡_}
 use lib.ListN.{length}
@@ -39,11 +38,14 @@ figures-requires : tie.Need-figures-requires Inv-loop μ-loop
 figures-requires c κs = search (needs, adding-steps, length-mapped)
 
 -- what the figures of the herd at i come to
-turn : (c : tie.After-figures Inv-loop μ-loop) → Turned (c .before .before .before .before .before .before .args .t1) (c .before .before .before .before .loop .i) (c .before .before .before .before .loop .sum) (c .figures .result)
+turn : (c : tie.After-figures Inv-loop μ-loop)
+    → Turned (c .before .before .before .before .before .before .args .t1) (c .before .before .before .before .loop .i)
+    (c .before .before .before .before .loop .sum) (c .figures .result)
 turn c =
     let t = c .before .before .before in
     let s = t .before .before .before in
-    turned (s .args .t1) (s .pre) (t .before .loop .i) (t .before .loop .sum) (t .before .loop .inv) (long s) (t .loop-test .taken)
+    turned (s .args .t1) (s .pre) (t .before .loop .i) (t .before .loop .sum) (t .before .loop .inv) (long s)
+    (t .loop-test .taken)
     _ _ (c .before .typed-of .ensures) (c .figures .result) (c .figures .ensures)
 
 plus-requires : tie.Need-plus-requires Inv-loop μ-loop

@@ -18,23 +18,50 @@ by-number-spec =
     (λ c. fits (c .before .before .before .before .before .before .before .before .before .pre) 8)
     (λ c. fits (c .before .before .before .before .before .before .before .before .before .before .pre) 9)
     (λ c. fits (c .before .before .before .before .before .before .before .before .before .before .before .pre) 10)
-    (λ c. fits (c .before .before .before .before .before .before .before .before .before .before .before .before .pre) 11)
-    (λ c. fits (c .before .before .before .before .before .before .before .before .before .before .before .before .before .pre) 12)
-    (λ c. fits (c .before .before .before .before .before .before .before .before .before .before .before .before .before .before .pre) 13)
-    (λ c. fits (c .before .before .before .before .before .before .before .before .before .before .before .before .before .before .before .pre) 15)
-    (λ c. fits (c .before .before .before .before .before .before .before .before .before .before .before .before .before .before .before .before .pre) 16)
-    (λ c. fits (c .before .before .before .before .before .before .before .before .before .before .before .before .before .before .before .before .before .pre) 17)
-    (λ c. fits (c .before .before .before .before .before .before .before .before .before .before .before .before .before .before .before .before .before .before .pre) 18)
-    (λ c. fits (c .before .before .before .before .before .before .before .before .before .before .before .before .before .before .before .before .before .before .before .pre) 19)
-    (λ c. fits (c .before .before .before .before .before .before .before .before .before .before .before .before .before .before .before .before .before .before .before .before .pre) 20)
-    (λ c. fits (c .before .before .before .before .before .before .before .before .before .before .before .before .before .before .before .before .before .before .before .before .before .pre) 21)
-    (λ c. fits (c .before .before .before .before .before .before .before .before .before .before .before .before .before .before .before .before .before .before .before .before .before .before .pre) 22)
-    (λ c. fits (c .before .before .before .before .before .before .before .before .before .before .before .before .before .before .before .before .before .before .before .before .before .before .before .pre) 23)
-    (λ c. fits (c .before .before .before .before .before .before .before .before .before .before .before .before .before .before .before .before .before .before .before .before .before .before .before .before .pre) 24)
-    (λ c. fits (c .before .before .before .before .before .before .before .before .before .before .before .before .before .before .before .before .before .before .before .before .before .before .before .before .before .pre) 25)
-    (λ c. fits (c .before .before .before .before .before .before .before .before .before .before .before .before .before .before .before .before .before .before .before .before .before .before .before .before .before .before .pre) 26)
-    (λ c. fits (c .before .before .before .before .before .before .before .before .before .before .before .before .before .before .before .before .before .before .before .before .before .before .before .before .before .before .before .pre) 27)
-    (λ c. fits (c .before .before .before .before .before .before .before .before .before .before .before .before .before .before .before .before .before .before .before .before .before .before .before .before .before .before .before .before .pre) 28)
-    (λ c. fits (c .before .before .before .before .before .before .before .before .before .before .before .before .before .before .before .before .before .before .before .before .before .before .before .before .before .before .before .before .before .pre) 29)
-    (λ c. fits (c .before .before .before .before .before .before .before .before .before .before .before .before .before .before .before .before .before .before .before .before .before .before .before .before .before .before .before .before .before .before .pre) 30)
-    (λ c. kept _ (c .before .before .before .before .before .before .before .before .before .before .before .before .before .before .before .before .before .before .before .before .before .before .before .before .before .before .before .before .before .before .before .pre)))
+    (λ c. fits (c .before .before .before .before .before .before .before .before .before .before .before .before .pre)
+    11)
+    (λ c. fits (c .before .before .before .before .before .before .before .before .before .before .before .before
+    .before .pre) 12)
+    (λ c. fits (c .before .before .before .before .before .before .before .before .before .before .before .before
+    .before .before .pre) 13)
+    (λ c. fits (c .before .before .before .before .before .before .before .before .before .before .before .before
+    .before .before .before .pre) 15)
+    (λ c. fits (c .before .before .before .before .before .before .before .before .before .before .before .before
+    .before .before .before .before .pre) 16)
+    (λ c. fits (c .before .before .before .before .before .before .before .before .before .before .before .before
+    .before .before .before .before .before .pre) 17)
+    (λ c. fits (c .before .before .before .before .before .before .before .before .before .before .before .before
+    .before .before .before .before .before .before .pre) 18)
+    (λ c. fits (c .before .before .before .before .before .before .before .before .before .before .before .before
+    .before .before .before .before .before .before .before .pre) 19)
+    (λ c. fits (c .before .before .before .before .before .before .before .before .before .before .before .before
+    .before .before .before .before .before .before .before .before .pre) 20)
+    (λ c. fits (c .before .before .before .before .before .before .before .before .before .before .before .before
+    .before .before .before .before .before .before .before .before .before .pre) 21)
+    (λ c. fits (c .before .before .before .before .before .before .before .before .before .before .before .before
+    .before .before .before .before .before .before .before .before .before .before .pre) 22)
+    (λ c. fits (c .before .before .before .before .before .before .before .before .before .before .before .before
+    .before .before .before .before .before .before .before .before .before .before .before .pre) 23)
+    (λ c. fits (c .before .before .before .before .before .before .before .before .before .before .before .before
+    .before .before .before .before .before .before .before .before .before .before .before .before .pre) 24)
+    (λ c. fits (c .before .before .before .before .before .before .before .before .before .before .before .before
+    .before .before .before .before .before .before .before .before .before .before .before .before .before .pre)
+    25)
+    (λ c. fits (c .before .before .before .before .before .before .before .before .before .before .before .before
+    .before .before .before .before .before .before .before .before .before .before .before .before .before .before
+    .pre) 26)
+    (λ c. fits (c .before .before .before .before .before .before .before .before .before .before .before .before
+    .before .before .before .before .before .before .before .before .before .before .before .before .before .before
+    .before .pre) 27)
+    (λ c. fits (c .before .before .before .before .before .before .before .before .before .before .before .before
+    .before .before .before .before .before .before .before .before .before .before .before .before .before .before
+    .before .before .pre) 28)
+    (λ c. fits (c .before .before .before .before .before .before .before .before .before .before .before .before
+    .before .before .before .before .before .before .before .before .before .before .before .before .before .before
+    .before .before .before .pre) 29)
+    (λ c. fits (c .before .before .before .before .before .before .before .before .before .before .before .before
+    .before .before .before .before .before .before .before .before .before .before .before .before .before .before
+    .before .before .before .before .pre) 30)
+    (λ c. kept _ (c .before .before .before .before .before .before .before .before .before .before .before .before
+    .before .before .before .before .before .before .before .before .before .before .before .before .before .before
+    .before .before .before .before .before .pre)))

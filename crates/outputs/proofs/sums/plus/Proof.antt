@@ -12,7 +12,9 @@ use Rattle.outputs.proofs.sums.plus.Statement.{statement}
 use Rattle.outputs.proofs.sums.plus.Tie as tie
 
 abbrev Inv-loop : tie.InvT-loop
-Inv-loop a b sum₀ i₀ sum i = (i ≤ length rows) × (length (sum .grams) ≡ length rows) × Filled (λ n. at (a .grams) n +ℤ at (b .grams) n) i (sum .grams)
+Inv-loop a b sum₀ i₀ sum i =
+    (i ≤ length rows) × (length (sum .grams) ≡ length rows)
+    × Filled (λ n. at (a .grams) n +ℤ at (b .grams) n) i (sum .grams)
 
 abbrev μ-loop : tie.MeasureT-loop
 μ-loop a b sum₀ i₀ sum i = length rows - i
@@ -49,8 +51,12 @@ loop-less c = search needs
 
 loop-again : tie.Need-loop-again Inv-loop μ-loop
 loop-again c =
-    let l = c .before .before .before .before in
-    (search needs, search needs, fill-one _ (l .loop .inv .2) (search needs) (plus-is (l .before .pre .0) (l .before .pre .1) _ _ (c .plus .ensures)))
+    let l = c .before .before .before .before in (
+      search needs,
+      search needs,
+      fill-one _ (l .loop .inv .2) (search needs)
+          (plus-is (l .before .pre .0) (l .before .pre .1) _ _ (c .plus .ensures)),
+    )
 
 returns : tie.Need-returns Inv-loop μ-loop
 returns c = let l = c .before .loop in fill-all _ (length rows) (l .inv .2) (search needs) (l .inv .1)

@@ -1,4 +1,5 @@
--- `outputs::sums::total` meets its contract: the sum so far and the addends that are left make the total. Assumes nothing.
+-- `outputs::sums::total` meets its contract: the sum so far and the addends that are left make the total. Assumes
+-- nothing.
 use Prim.Native.Nat.{_-_}
 use mir.Syntax.{w64}
 use mir.Val.{toZ}
@@ -45,7 +46,8 @@ element-copy-out-g : tie.Need-element-copy-out-g Inv-loop μ-loop
 element-copy-out-g c = known (c .before .loop .inv) (c .loop-test .taken)
 
 plus-requires : tie.Need-plus-requires Inv-loop μ-loop
-plus-requires c κs = let l = c .before in one-fits _ (l .before .before .pre .0) _ _ _ _ (l .before .loop .inv) (l .loop-test .taken)
+plus-requires c κs = let l = c .before in
+    one-fits _ (l .before .before .pre .0) _ _ _ _ (l .before .loop .inv) (l .loop-test .taken)
 
 add-k : tie.Need-add-k Inv-loop μ-loop
 add-k c = search needs
@@ -54,7 +56,8 @@ loop-less : tie.Need-loop-less Inv-loop μ-loop
 loop-less c = search needs
 
 loop-again : tie.Need-loop-again Inv-loop μ-loop
-loop-again c = let l = c .before .before in one-more _ (l .before .before .pre .0) _ _ _ _ (l .before .loop .inv) (l .loop-test .taken) _ (c .plus .ensures)
+loop-again c = let l = c .before .before in
+    one-more _ (l .before .before .pre .0) _ _ _ _ (l .before .loop .inv) (l .loop-test .taken) _ (c .plus .ensures)
 
 returns : tie.Need-returns Inv-loop μ-loop
 returns c = all-added _ (c .before .before .pre .0) _ _ _ _ (c .before .loop .inv) (c .loop-test .left)

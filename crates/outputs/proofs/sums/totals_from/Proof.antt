@@ -11,7 +11,8 @@ use Rattle.outputs.proofs.sums.totals_from.Statement.{statement}
 use Rattle.outputs.proofs.sums.totals_from.Tie as tie
 
 abbrev Inv-loop : tie.InvT-loop
-Inv-loop f r₀ t₀ r t = (t ≤ length totals) × (length (r .grams) ≡ length totals) × Filled (totalAt (f .grams)) t (r .grams)
+Inv-loop f r₀ t₀ r t =
+    (t ≤ length totals) × (length (r .grams) ≡ length totals) × Filled (totalAt (f .grams)) t (r .grams)
 
 abbrev μ-loop : tie.MeasureT-loop
 μ-loop f r₀ t₀ r t = length totals - t
@@ -36,8 +37,11 @@ loop-less c = search needs
 
 loop-again : tie.Need-loop-again Inv-loop μ-loop
 loop-again c =
-    let l = c .before .before .loop in
-    (search needs, search needs, fill-one _ (l .inv .2) (search needs) (kept (c .total .result) (c .total .ok) ∙ c .total .ensures))
+    let l = c .before .before .loop in (
+      search needs,
+      search needs,
+      fill-one _ (l .inv .2) (search needs) (kept (c .total .result) (c .total .ok) ∙ c .total .ensures),
+    )
 
 returns : tie.Need-returns Inv-loop μ-loop
 returns c = let l = c .before .loop in fill-all _ (length totals) (l .inv .2) (search needs) (l .inv .1)

@@ -22,4 +22,5 @@ returns c = search (needs, is-grazing-free, free-found)
 
 pub grazing-with-free-spec : {M : Type 1} → statement M
 grazing-with-free-spec =
-    tie.close (tie.spec er-housing-requires c-free-factor-requires mul-portion-to-twice portion-to-twice-requires returns)
+    tie.close (tie.spec er-housing-requires c-free-factor-requires mul-portion-to-twice portion-to-twice-requires
+    returns)

@@ -13,7 +13,11 @@ use Rattle.printing.proofs.tell.kilograms.Statement.{statement}
 use Rattle.printing.proofs.tell.kilograms.Tie as tie
 
 short : (s : tie.Start) → length (kilogramsOf (toZ w64 (ofZ w64 (s .args .grams)))) ≤ 21
-short s = omega (arith, kilograms-short (s .args .grams) (s .fits .grams), ap (λ z. length (kilogramsOf z)) (toZ-ofZ (s .fits .grams)))
+short s = omega (
+  arith,
+  kilograms-short (s .args .grams) (s .fits .grams),
+  ap (λ z. length (kilogramsOf z)) (toZ-ofZ (s .fits .grams)),
+)
 
 slice-aggregate-put-kilograms : tie.Need-slice-aggregate-put-kilograms
 slice-aggregate-put-kilograms c = search needs

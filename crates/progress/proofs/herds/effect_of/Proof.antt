@@ -1,4 +1,5 @@
--- `progress::herds::effect_of` meets its contract: what the record says, and whether its label is the herd's own, decide the answer. Assumes nothing.
+-- `progress::herds::effect_of` meets its contract: what the record says, and whether its label is the herd's own,
+-- decide the answer. Assumes nothing.
 use borrow.Author.Needs.{needs}
 use Rattle.progress.proofs.HerdSteps.{effect-steps}
 use Rattle.progress.proofs.herds.effect_of.Statement.{statement}

@@ -1,4 +1,5 @@
--- `progress::places::read_at` meets its contract: what a record gives always has a slot, so what it does to the herd may be asked. Assumes nothing.
+-- `progress::places::read_at` meets its contract: what a record gives always has a slot, so what it does to the herd
+-- may be asked. Assumes nothing.
 use borrow.Author.Needs.{needs}
 use Rattle.records.proofs.RecordReads.{entry-gives-slot}
 use Rattle.progress.proofs.PlaceSteps.{place-steps}

@@ -1,5 +1,5 @@
--- `reader::files::read_records` meets its contract: the loop goes from one place that is reached to the next. The measure is the bytes left.
--- Assumes nothing.
+-- `reader::files::read_records` meets its contract: the loop goes from one place that is reached to the next. The
+-- measure is the bytes left. Assumes nothing.
 use Prim.Native.Nat.{_-_}
 use lib.ListN.{length}
 use borrow.Author.Needs.{needs}

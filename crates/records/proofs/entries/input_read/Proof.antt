@@ -1,4 +1,5 @@
--- `records::entries::input_read` meets its contract: each answer is the first of 5 to 7 that applies, by what the searches found in the record's fields. Assumes nothing.
+-- `records::entries::input_read` meets its contract: each answer is the first of 5 to 7 that applies, by what the
+-- searches found in the record's fields. Assumes nothing.
 use borrow.Author.Needs.{needs}
 use Rattle.records.proofs.EntrySteps.{input-steps}
 use Rattle.records.proofs.entries.input_read.Statement.{statement}

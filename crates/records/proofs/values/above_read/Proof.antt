@@ -1,4 +1,5 @@
--- `records::values::above_read` meets its contract: what the number's reading answers, said as a value. Assumes nothing.
+-- `records::values::above_read` meets its contract: what the number's reading answers, said as a value. Assumes
+-- nothing.
 use borrow.Author.Needs.{needs}
 use Rattle.records.proofs.ValueSteps.{signed-steps}
 use Rattle.records.proofs.values.above_read.Statement.{statement}

@@ -1,4 +1,5 @@
--- `records::values::below_read` meets its contract: what the number's reading answers, less than 0, said as a value. Assumes nothing.
+-- `records::values::below_read` meets its contract: what the number's reading answers, less than 0, said as a value.
+-- Assumes nothing.
 use borrow.Author.Needs.{needs}
 use Rattle.records.proofs.ValueSteps.{signed-steps}
 use Rattle.records.proofs.values.below_read.Statement.{statement}

@@ -1,4 +1,5 @@
--- `records::values::is_standard` meets its contract: a text is `standard` where it is that word in any letter case, by the word's bytes. Assumes nothing.
+-- `records::values::is_standard` meets its contract: a text is `standard` where it is that word in any letter case, by
+-- the word's bytes. Assumes nothing.
 use borrow.Author.Needs.{needs}
 use Rattle.records.specs.Values.{isStandard}
 use Rattle.records.proofs.values.is_standard.Statement.{statement}

@@ -1,4 +1,5 @@
--- `records::values::name_read` meets its contract: what the search for the name answers, said as a value; no list has more names than a byte has values, so a place fits. Assumes nothing.
+-- `records::values::name_read` meets its contract: what the search for the name answers, said as a value; no list has
+-- more names than a byte has values, so a place fits. Assumes nothing.
 use Prim.Native.Nat.{_<_}
 use native.Mathlib.Omega.{arith}
 use borrow.Author.Needs.{needs}

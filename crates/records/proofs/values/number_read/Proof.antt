@@ -1,4 +1,5 @@
--- `records::values::number_read` meets its contract: what the number's reading answers, said as a value. Assumes nothing.
+-- `records::values::number_read` meets its contract: what the number's reading answers, said as a value. Assumes
+-- nothing.
 use borrow.Author.Needs.{needs}
 use Rattle.records.proofs.ValueSteps.{value-steps}
 use Rattle.records.proofs.values.number_read.Statement.{statement}

@@ -1,4 +1,5 @@
--- `records::values::value_of` meets its contract: form by form, the tests of the definition in its order. Assumes nothing.
+-- `records::values::value_of` meets its contract: form by form, the tests of the definition in its order. Assumes
+-- nothing.
 use borrow.Author.Needs.{needs}
 use Rattle.records.proofs.ValueSteps.{value-steps}
 use Rattle.records.proofs.values.value_of.Statement.{statement}

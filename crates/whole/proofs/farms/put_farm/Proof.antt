@@ -1,4 +1,5 @@
--- A farm's listing put together: what is still to be written is the listings of the herds from i on, and then the totals. Assumes nothing.
+-- A farm's listing put together: what is still to be written is the listings of the herds from i on, and then the
+-- totals. Assumes nothing.
 use Prim.Native.Nat.{_-_}
 use mathlib.Core.Path.{_≡_}
 use lib.ListN.{length}
@@ -49,7 +50,8 @@ plus-requires c κs =
     let g = c .before .before .before .before in
     let l = g .before .before .before in
     let s = l .before .before .before .before in
-    asks _ (s .pre .0) _ (s .pre .1) _ _ _ _ (l .before .loop .inv) (long s) (l .loop-test .taken) _ _ (g .before .typed-of .ensures) _ (g .figures .ensures)
+    asks _ (s .pre .0) _ (s .pre .1) _ _ _ _ (l .before .loop .inv) (long s) (l .loop-test .taken) _ _
+    (g .before .typed-of .ensures) _ (g .figures .ensures)
 
 add-i : tie.Need-add-i Inv-loop μ-loop
 add-i c = search needs

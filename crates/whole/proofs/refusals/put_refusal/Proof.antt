@@ -1,5 +1,5 @@
--- `whole::refusals::put_refusal` meets its contract, by its calls, one after the other; each number has at most 20 digits, so the buffer has room.
--- Assumes nothing.
+-- `whole::refusals::put_refusal` meets its contract, by its calls, one after the other; each number has at most 20
+-- digits, so the buffer has room. Assumes nothing.
 use native.Mathlib.Omega.{arith}
 use Rattle.base.proofs.Writes.{said, joined}
 use Rattle.decimal.proofs.Kilograms.{whole-text}
@@ -53,7 +53,8 @@ returns c =
     let a = m .before .before .before .before in
     let s = a .before .before .before .before in (
       said (refusal-is (s .args .fault) (m .number-of .result) (s .args .«record») (m .number-of .ensures))
-          (joined (joined (joined (joined (a .put .ensures) (w .put-whole .ensures)) (b .put-byte .ensures)) (d .put-whole2 .ensures)) (e .put2 .ensures)),
+          (joined (joined (joined (joined (a .put .ensures) (w .put-whole .ensures)) (b .put-byte .ensures))
+          (d .put-whole2 .ensures)) (e .put2 .ensures)),
       omega (arith, whole-text (m .number-of .result) (search needs), whole-text (s .args .«record») (search needs)),
     )
 
