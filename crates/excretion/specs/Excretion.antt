@@ -23,7 +23,7 @@ tanFraction share (Number fraction) = fraction
 abbrev pub roughageFraction : Roughage → ℕ
 roughageFraction r = tanFraction «share_Nsol» (r .«tan_fraction»)
 
--- other cattle have no `standard` (2.22)
+-- for other cattle 01 reads no `standard`, though 2.22 has standards
 abbrev pub cattleFraction : Cattle → ℕ
 cattleFraction c = tanFraction dairyShare (c .«tan_fraction»)
 

@@ -1,5 +1,5 @@
--- 01, Refusal numbers. The one definition that gives the number and the record of each answer; the promises of crate
--- `calls` speak through it. To be believed.
+-- 01, Refusal numbers. The one definition that gives the number and the record of each answer; the promises speak
+-- through it. To be believed.
 use Prim.Native.Nat.{ℕ}
 use Rattle.farm.specs.declared.Fault.{Fault}
 use Rattle.farm.specs.declared.Fault.the-variants.{

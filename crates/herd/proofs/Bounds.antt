@@ -54,7 +54,7 @@ yard-to m h = omega arith
 housing-to : {n tan nh3 : ℕ} → Modest n tan → nh3 ≤ tan → SectionTo most housing (throughHousing cutting n tan nh3)
 housing-to m h = omega arith
 
--- of two kinds the housing is left out, and the door lets through a rest of what is excreted
+-- of cattle the housing is left out, and the door lets through a rest of what is excreted
 door-to : (n tan n′ tan′ : ℕ) → Modest n tan → n′ ≤ n → tan′ ≤ tan
     → SectionTo most housing (throughDoor cutting n′ tan′)
 door-to n tan n′ tan′ m hn ht = omega arith

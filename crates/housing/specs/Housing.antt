@@ -93,7 +93,7 @@ module _ (A : Arithmetic) where
   abbrev pub inHousing : Roughage → Amount → Amount → HousingIn A
   inHousing r n tan = throughHousing n tan (nh3InHousing r tan)
 
-  -- 01 leaves the housing of cattle and pigs out: only the flow through the door
+  -- 01 leaves the housing of cattle out, and 02, W9, that of dairy cows: only the flow through the door
   abbrev pub throughDoor : Amount → Amount → HousingIn A
   throughDoor n tan =
       record {

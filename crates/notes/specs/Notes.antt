@@ -54,7 +54,7 @@ roughageNotes r =
     (offShare «share_Nsol» (r .«tan_fraction»))
     (freeEntered (r .«free_correction_factor»)) false (aboveCeiling r)
 
--- 2.2; other cattle have no standards
+-- 2.2 (02, W9); 01 has no such note on other cattle, though 2.22 has
 abbrev pub cattleOffStandard : CattleKind → ℕ → Bool
 cattleOffStandard OtherCattle grams = false
 cattleOffStandard DairyCow grams = offStandard dairyStandard (Number grams)

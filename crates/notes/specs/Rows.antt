@@ -272,7 +272,7 @@ ofDairyCows =
 
 abbrev ofOthers : List Row
 ofOthers =
-    -- other cattle have no standard
+    -- other cattle, whose standards 01 leaves out
     cattle 10 0 0 (outdoors 0 NotAvailable Solid (pos 0) 0 0) gets []
     ∷ cattle 10 (200 kg) 10000 (outdoors 0 NotAvailable Solid (pos 0) 0 0) gets []
     -- nor a housing of which more than the flow is known, and the yard's ceiling is no note

@@ -79,7 +79,7 @@ fn roughage_notes(r: Roughage) -> Notes
     }
 }
 
-// 2.2; other cattle have no standards.
+// 2.2 (02, W9); 01 has no such note on other cattle.
 fn cattle_n_off_standard(kind: CattleKind, grams: u64) -> bool
     requires { ⌜ grams ≤ mostGrams ⌝ }
     ensures { λ r. ⌜ r ≡ cattleOffStandard kind grams ⌝ }

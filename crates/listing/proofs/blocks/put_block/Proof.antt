@@ -1,3 +1,4 @@
+-- `listing::blocks::put_block` meets its contract: a block is the bytes that stand at its place. Assumes nothing.
 use Rattle.base.proofs.Writes.{said}
 use Rattle.listing.proofs.Overlaps.{block-is}
 use borrow.Author.Needs.{needs}

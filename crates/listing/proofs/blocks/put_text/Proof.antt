@@ -1,3 +1,4 @@
+-- `listing::blocks::put_text` meets its contract: a text is at most three blocks, which may overlap. Assumes nothing.
 use Rattle.listing.proofs.Overlaps.{block-steps, in-three}
 use borrow.Author.Needs.{needs}
 use Rattle.listing.proofs.blocks.put_text.Statement.{statement}
