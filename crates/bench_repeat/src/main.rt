@@ -6,16 +6,16 @@ use farm::Checked;
 use farm::Farm;
 use farm::Fault;
 use farm::Given;
-use farm::faults;
 use libc::STDIN_FILENO;
 use libc::STDOUT_FILENO;
-use whole::farms;
+use views::View;
+use written::Written;
 ghost use mathlib.Core.Path.{_≡_};
 ghost use Prim.Native.Nat.{_≤_};
 ghost use lib.ListN.{length};
 ghost use Rattle.farm.specs.declared.Checked.the-variants.{Accepted};
 ghost use Rattle.checks.specs.Checks.{checkFarm};
-ghost use Rattle.whole.specs.Rooms.{farmRoom};
+ghost use Rattle.listing_room.specs.Bounds.{farmRoom};
 
 // The mode and how often.
 const HEAD: usize = 9;
@@ -71,7 +71,7 @@ fn mixed(sum: u64, x: u64) -> u64 {
 }
 
 fn refusal_sum(sum: u64, fault: Fault, record: usize) -> u64 {
-    mixed(mixed(sum, faults::number_of(fault)), record as u64)
+    mixed(mixed(sum, fault_numbers::number_of(fault)), record as u64)
 }
 
 fn given_number(given: Given) -> u64 {
@@ -123,14 +123,16 @@ fn read_sum(sum: u64, turn: u64, file: &[u8]) -> u64 {
 }
 
 fn whole_sum(sum: u64, turn: u64, file: &[u8], out: &mut [u8]) -> u64 {
-    let answer = calls::put_answer(file, out);
-    text_sum(sum, turn, out, answer.length)
+    match calls::file_view(View::Figures, file, out) {
+        Written::Length(n) => text_sum(sum, turn, out, n),
+        Written::Refused(fault, record) => refusal_sum(sum, fault, record),
+    }
 }
 
 fn listing_sum(sum: u64, turn: u64, farm: Farm, out: &mut [u8]) -> u64
     requires { ⌜ (checkFarm farm ≡ Accepted) × (farmRoom ≤ length (now out)) ⌝ }
 {
-    let n = farms::put_farm(out, farm);
+    let n = figure_lines::put_farm(out, farm);
     text_sum(sum, turn, out, n)
 }
 
@@ -179,8 +181,12 @@ fn listed(times: u64, file: &[u8], out: &mut [u8]) -> u64
     }
 }
 
+fn room() -> [u8; calls::VIEW_ROOM] {
+    [0u8; calls::VIEW_ROOM]
+}
+
 fn repeated(mode: Mode, times: u64, file: &[u8]) -> u64 {
-    let mut out = [0u8; calls::ANSWER_ROOM];
+    let mut out = room();
     match mode {
         Mode::Whole => repeat_whole(times, file, &mut out),
         Mode::Reading => repeat_reading(times, file),

@@ -1,4 +1,2 @@
 pub mod Calendar
-pub mod Texts
 pub mod Following
-pub mod Reading

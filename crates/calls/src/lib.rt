@@ -1,29 +1,99 @@
 // What users of the library call, and nothing else. Nothing is asked of a caller beforehand: a file of any bytes and a
-// record of any content get their figures or exactly one refusal. What the calls are to do stands in crate `contracts`,
-// the demands in crate `promises`.
+// record of any content get what is asked for, or exactly one refusal, and where a call refuses, 13 too, the lent
+// buffer is as it was. What the calls are to do stands in crate `contracts`, the demands in crate `promises`.
+use farm::Checked;
+use reader::FileAnswer;
+use reasons::ReasonAnswer;
+use views::View;
+use written::Written;
+ghost use mathlib.Core.Path.{_≡_};
+ghost use Rattle.reader.specs.Files.{readOf};
+ghost use Rattle.contracts.specs.Listings.{Called, fileHerdCall, fileTotalsCall, fileCall};
+ghost use Rattle.contracts.specs.Reasons.{fileReason};
 
 // from a record
 pub use record_calls::farm_totals;
 pub use record_calls::herd_figures;
 pub use record_calls::herd_reason;
-pub use record_listings::herd_cuts_listing;
-pub use record_listings::herd_listing;
-pub use record_listings::totals_listing;
+pub use record_calls::herd_view;
+pub use record_calls::totals_listing;
 
-// from a file
-pub use file_calls::file_herd_reason;
-pub use file_calls::read_farm;
-pub use file_listings::file_herd_cuts_listing;
-pub use file_listings::file_herd_listing;
-pub use file_listings::file_totals_listing;
-pub use whole_calls::file_listing;
+// Room for any view of any file.
+pub const VIEW_ROOM: usize = views::FARM_ROOM;
 
-// what the commands print for a file, and room for it
-pub use whole_calls::ANSWER_ROOM;
-pub use whole_calls::CUTS_ROOM;
-pub use whole_calls::NOTES_ROOM;
-pub use whole_calls::WHY_ROOM;
-pub use whole_calls::put_answer;
-pub use whole_calls::put_cuts;
-pub use whole_calls::put_notes;
-pub use whole_calls::put_why;
+// The farm that a file says, or the refusal and a farm of no herds.
+pub fn read_farm(s: &[u8]) -> FileAnswer
+    ensures { λ r. ⌜ r ≡ readOf (now (s .entry)) ⌝ }
+{
+    farm_file::read(s)
+}
+
+// Why the yard of a herd of a file has its share on days with both, by the herd's number, counted from 0; past the last
+// there is no herd.
+pub fn file_herd_reason(s: &[u8], number: usize) -> ReasonAnswer
+    ensures { λ r. ⌜ r ≡ fileReason (now (s .entry)) number ⌝ }
+{
+    let answer = farm_file::read(s);
+    let checked = answer.checked;
+    match checked {
+        Checked::Accepted => {
+            let farm = answer.farm;
+            if number < farm.count {
+                let h = farm.herds[number];
+                return herd_reason(h);
+            }
+            ReasonAnswer::NoHerd
+        }
+        Checked::Refused(fault, record) => ReasonAnswer::Refused(fault, record),
+    }
+}
+
+// What the view lists of a herd of a file, by the herd's number, counted from 0; past the last nothing.
+pub fn file_herd_view(view: View, s: &[u8], number: usize, out: &mut [u8]) -> Written
+    ensures { λ r. ⌜ Called (fileHerdCall view (now (s .entry)) number) (now (out .entry)) (now (out .exit)) r ⌝ }
+{
+    let answer = farm_file::read(s);
+    let checked = answer.checked;
+    match checked {
+        Checked::Accepted => {
+            let farm = answer.farm;
+            if farm.count <= number {
+                return Written::Length(0);
+            }
+            let h = farm.herds[number];
+            herd_view(view, h, out)
+        }
+        Checked::Refused(fault, record) => Written::Refused(fault, record),
+    }
+}
+
+// The totals' listing of a file.
+pub fn file_totals_listing(s: &[u8], out: &mut [u8]) -> Written
+    ensures { λ r. ⌜ Called (fileTotalsCall (now (s .entry))) (now (out .entry)) (now (out .exit)) r ⌝ }
+{
+    let answer = farm_file::read(s);
+    let checked = answer.checked;
+    match checked {
+        Checked::Accepted => totals_listing(answer.farm, out),
+        Checked::Refused(fault, record) => Written::Refused(fault, record),
+    }
+}
+
+fn room() -> [u8; VIEW_ROOM] {
+    [0u8; VIEW_ROOM]
+}
+
+// What the view lists of a whole file: herd after herd, and behind the figures the totals. Where the buffer may be too
+// short, it is first put together in one of its own.
+pub fn file_view(view: View, s: &[u8], out: &mut [u8]) -> Written
+    ensures { λ r. ⌜ Called (fileCall view (now (s .entry))) (now (out .entry)) (now (out .exit)) r ⌝ }
+{
+    if VIEW_ROOM <= out.len() {
+        return views::files::put_file(s, out, view);
+    }
+    let mut scratch = room();
+    match views::files::put_file(s, &mut scratch, view) {
+        Written::Length(n) => written::hand_over(out, &scratch, n),
+        Written::Refused(fault, record) => Written::Refused(fault, record),
+    }
+}

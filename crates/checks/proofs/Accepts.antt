@@ -22,23 +22,12 @@ use Rattle.farm.specs.declared.Checked.the-variants.{Accepted, Refused}
 use Rattle.farm.specs.Labels.{labelOk, sameLabel}
 use Rattle.farm.specs.Herds.{isMissing}
 use Rattle.farm.specs.Refusals.{Says, accepts, says, HerdSays, FarmSays}
-use Rattle.checks.specs.Checks.{
-  fits,
-  lacksOne,
-  unfitOne,
-  lacks,
-  unfit,
-  hasLabel,
-  inputTests,
-  herdTests,
-  herdsTests,
-  checkHerd,
-  herdsOf,
-  farmTests,
-  checkFarm,
-}
+use Rattle.fits.specs.Fits.{fits, unfitOne, unfit}
+use Rattle.herd_tests.specs.Tests.{lacksOne, lacks, hasLabel}
+use Rattle.checks.specs.Checks.{inputTests, herdTests, herdsTests, checkHerd, herdsOf, farmTests, checkFarm}
 use Rattle.checks.specs.Accepts.{Passes, GoodHerd, Distinct, GoodFarm}
-use Rattle.checks.proofs.Tests.{neither, Refusing, refusing, Quiet, quiet-passes, accepted-quiet}
+use Rattle.checks.proofs.Tests.{neither}
+use Rattle.checks.proofs.Tests.{Refusing, refusing, Quiet, quiet-passes, accepted-quiet}
 use Rattle.checks.proofs.HerdSteps.{herd-refusing}
 
 -- ---- tests that fail

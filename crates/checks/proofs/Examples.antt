@@ -13,7 +13,9 @@ use Rattle.farm.specs.declared.Herd.{Herd}
 use Rattle.farm.specs.declared.Fault.the-variants.{BadValue}
 use Rattle.farm.specs.declared.Checked.the-variants.{Accepted, Refused}
 use Rattle.farm.specs.Labels.{labelOf, byteOk, labelOk}
-use Rattle.checks.specs.Checks.{checkHerd, lacks, unfit}
+use Rattle.herd_tests.specs.Tests.{lacks}
+use Rattle.fits.specs.Fits.{unfit}
+use Rattle.checks.specs.Checks.{checkHerd}
 
 -- 10 head without a yard, with these for N and TAN
 abbrev cattle : Kind → Given → Given → Herd

@@ -1,7 +1,7 @@
 -- The steps of the checks of a herd and of a farm, each in the form that a place of the code wants. Assumes nothing.
 use Prim.Native.Nat.{ℕ, _+_, _≤_, _<_}
 use mathlib.Core.Path.{_≡_, sym, ap, _∙_}
-use mathlib.Core.Bool.{Bool, true, false, not, _||_}
+use mathlib.Core.Bool.{Bool, true, false, not}
 use mathlib.Core.List.{List, [], _∷_, _++_}
 use native.Mathlib.Omega.{arith}
 use lib.ListN.{length, getD, take, drop, set}
@@ -19,29 +19,9 @@ use Rattle.farm.specs.declared.Fault.{Fault}
 use Rattle.farm.specs.declared.Fault.the-variants.{NoRoomForHerd}
 use Rattle.farm.specs.declared.Checked.{Checked}
 use Rattle.farm.specs.declared.Checked.the-variants.{Accepted, Refused}
-use Rattle.farm.specs.Labels.{sameLabel}
-use Rattle.checks.specs.Checks.{hasLabel, herdTests, herdsTests, herdsOf, checkFarm}
+use Rattle.checks.specs.Checks.{herdTests, herdsTests, herdsOf, checkFarm}
 use Rattle.farm.proofs.Left.{taken-at, taken-end, taken-stored}
 use Rattle.checks.proofs.Tests.{first-append, Refusing, refusing, quiet-passes, accepted-quiet, refused-first}
-
--- ---- i of the labels were other ones
-
-module _ (ls : List Label) (n : ℕ) (l : Label) (i : ℕ) (X : Bool) (inv : hasLabel (drop i (take n ls)) l ≡ X) where
-  module _ (long : length ls ≡ herdsMost) (room : n ≤ herdsMost) (b : i < n) (d : Label) (r : Bool)
-      (e : r ≡ sameLabel (getD ls i d) l) where
-    next : (r || hasLabel (drop (i + 1) (take n ls)) l) ≡ X
-    next = let j : i < length ls = omega arith in rw e (rw (taken-at n ls i d b j) at inv)
-
-    pub label-found : r ≡ true → true ≡ X
-    label-found t = sym (rw t) ∙ next
-
-    pub label-not-here : r ≡ false → hasLabel (drop (i + 1) (take n ls)) l ≡ X
-    label-not-here t = sym (rw t) ∙ next
-
-  pub label-new : n ≤ i → false ≡ X
-  label-new b = rw (taken-end n ls i b) at inv
-
-pub ruleset earlier-steps = (label-found, label-not-here, label-new)
 
 -- ---- a herd: the tests in their order
 

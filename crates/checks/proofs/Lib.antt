@@ -1,5 +1,3 @@
-pub mod LabelsSoFar
-pub mod SlotSteps
 pub mod Tests
 pub mod HerdSteps
 pub mod Accepts

@@ -27,17 +27,10 @@ use Rattle.farm.specs.Limits.{herdsMost}
 use Rattle.farm.specs.Labels.{labelOk}
 use Rattle.farm.specs.Herds.{noHerd}
 use Rattle.farm.proofs.Left.{left-at}
-use Rattle.checks.specs.Checks.{
-  lacks,
-  unfit,
-  hasLabel,
-  labelsOf,
-  herdTests,
-  herdsTests,
-  checkHerd,
-  herdsOf,
-  checkFarm,
-}
+use Rattle.herd_tests.specs.Tests.{lacks, hasLabel, labelsOf}
+use Rattle.fits.specs.Fits.{unfit}
+use Rattle.first_refusal.proofs.Order.{Order, by-turn, one-of-first}
+use Rattle.checks.specs.Checks.{herdTests, herdsTests, checkHerd, herdsOf, checkFarm}
 use Rattle.checks.specs.Refusals.{
   Applies,
   Handed,
@@ -228,7 +221,10 @@ module _ (x : Handed) (only : (n : ℕ) (fault : Fault) → AppliesAt x n fault 
   by-herds (all-quiet clean) = fine (λ n f a. let h = only n f a in clean n f (h .0) (h .0) (h .1))
   by-herds (given {i = i} b turn a clean below) =
       refusal
-      (record { place = i; applies = of-herd b a; none-sooner = λ m g o s. none-sooner o s turn clean below })
+      (record {
+        place = i;
+        is-first = record { applies = of-herd b a; none-sooner = λ m g o s. none-sooner o s turn clean below };
+      })
 
 only-herds : {h : Herd} (n : ℕ) (fault : Fault) → AppliesAt (herd h) n fault → OfHerd (h ∷ []) n fault
 only-herds n fault (of-herd b a) = (b, a)
@@ -251,47 +247,23 @@ record-gets (farm f) = go (ltb herdsMost (f .count)) refl
         → RecordGets (farm f) (pick t (Refused NoRoomForHerd 0) (first (herdsTests [] (herdsOf f)) Accepted))
     go true e =
         let many = ltb-true herdsMost (f .count) e in
-        refusal (record { place = 0; applies = no-room many; none-sooner = λ m other a s. none-before-9 a s })
+        refusal (record {
+          place = 0;
+          is-first = record { applies = no-room many; none-sooner = λ m other a s. none-before-9 a s };
+        })
     go false e = by-herds (farm f) (only-farms (ltb-false herdsMost (f .count) e)) (results (herdsOf f))
 
 -- ---- there is one first refusal
 
-data Order (m : ℕ) (f : Fault) (n : ℕ) (g : Fault) : Type 0 where
-  sooner : Sooner m f n g → Order m f n g
-  later : Sooner n g m f → Order m f n g
-  same : f ≡ g → Order m f n g
-
-in-order : (m n : ℕ) {f g : Fault} → Turned f → Turned g → Order m f n g
-in-order m n {f} {g} a b = by-place (ltb m n) (ltb n m) refl refl
-  where
-    by-turn : m ≡ n → (t u : Bool) → ltb (a .turn) (b .turn) ≡ t → ltb (b .turn) (a .turn) ≡ u → Order m f n g
-    by-turn e true u p q =
-        let l = ltb-true (a .turn) (b .turn) p in
-        sooner (subst (λ (i : ℕ). Sooner m f i g) e (in-that-order (a .has) (b .has) l))
-    by-turn e false true p q =
-        let l = ltb-true (b .turn) (a .turn) q in
-        later (subst (λ (i : ℕ). Sooner i g m f) e (in-that-order (b .has) (a .has) l))
-    by-turn e false false p q =
-        let c = ltb-false (a .turn) (b .turn) p in
-        let d = ltb-false (b .turn) (a .turn) q in
-        let i : a .turn ≡ b .turn = omega arith in
-        same (sym (of-turn (a .has)) ∙ ap faultAt i ∙ of-turn (b .has))
-
-    by-place : (t u : Bool) → ltb m n ≡ t → ltb n m ≡ u → Order m f n g
-    by-place true u p q = sooner (herd-by-herd (ltb-true m n p))
-    by-place false true p q = later (herd-by-herd (ltb-true n m q))
-    by-place false false p q =
-        let c = ltb-false m n p in
-        let d = ltb-false n m q in
-        by-turn (omega arith) (ltb (a .turn) (b .turn)) (ltb (b .turn) (a .turn)) refl refl
+in-order : (m n : ℕ) {f g : Fault} → Turned f → Turned g → Order Sooner m f n g
+in-order m n {f} {g} a b =
+    by-turn Sooner m n f g (a .turn) (b .turn) (λ l. herd-by-herd l) (λ l. herd-by-herd l)
+    (λ l. in-that-order (a .has) (b .has) l) (λ l. in-that-order (b .has) (a .has) l)
+    (λ e. sym (of-turn (a .has)) ∙ ap faultAt e ∙ of-turn (b .has))
 
 pub one-first : {x : Handed} {f g : Fault} → FirstOfRecord x f → FirstOfRecord x g → f ≡ g
-one-first {x} {f} {g} a b = go (in-order (a .place) (b .place) (turned-at (a .applies)) (turned-at (b .applies)))
-  where
-    go : Order (a .place) f (b .place) g → f ≡ g
-    go (sooner s) = absurd (b .none-sooner (a .place) f (a .applies) s)
-    go (later s) = absurd (a .none-sooner (b .place) g (b .applies) s)
-    go (same e) = e
+one-first a b =
+    one-of-first (λ p q. in-order (a .place) (b .place) (turned-at p) (turned-at q)) (a .is-first) (b .is-first) .fault
 
 -- ---- the theorems
 
@@ -304,7 +276,7 @@ record-refused x n fault = (told (record-gets x), found (record-gets x))
     told (refusal {fault = f} first) e = let p : f ≡ fault = cc in let q : n ≡ 0 = cc in (rw p at first, q)
 
     found : {c : Checked} → RecordGets x c → FirstOfRecord x fault × (n ≡ 0) → c ≡ Refused fault n
-    found (fine none) w = absurd (none (w .0 .place) fault (w .0 .applies))
+    found (fine none) w = absurd (none (w .0 .place) fault (w .0 .is-first .applies))
     found (refusal {fault = f} y) w = let p = one-first y (w .0) in rw (p, w .1)
 
 pub record-accepted : (x : Handed) → (checkOf x ≡ Accepted) ↔ ((n : ℕ) (fault : Fault) → AppliesAt x n fault → ⊥)
@@ -316,4 +288,4 @@ record-accepted x = (told (record-gets x), found (record-gets x))
 
     found : {c : Checked} → RecordGets x c → ((n : ℕ) (fault : Fault) → AppliesAt x n fault → ⊥) → c ≡ Accepted
     found (fine _) none = refl
-    found (refusal {fault = f} y) none = absurd (none (y .place) f (y .applies))
+    found (refusal {fault = f} y) none = absurd (none (y .place) f (y .is-first .applies))

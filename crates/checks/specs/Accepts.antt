@@ -13,7 +13,8 @@ use Rattle.farm.specs.declared.Farm.{Farm}
 use Rattle.farm.specs.Limits.{herdsMost}
 use Rattle.farm.specs.Herds.{isMissing}
 use Rattle.farm.specs.Labels.{labelOk, sameLabel}
-use Rattle.checks.specs.Checks.{fits, herdsOf}
+use Rattle.fits.specs.Fits.{fits}
+use Rattle.checks.specs.Checks.{herdsOf}
 
 -- each of the inputs has a slot that is not missing and fits its form
 pub data Passes : List Row → List Slot → Type 0 where

@@ -1,18 +1,13 @@
 -- 01, Refusal numbers, of a record that is handed in: when each refusal applies, said of the record and not of how it
 -- is checked, and which is the first. proofs/Refuses.antt shows that the checks give exactly that one. To be believed.
-use Prim.Native.Nat.{ℕ, _<_, _≤_}
+use Prim.Native.Nat.{ℕ, _<_}
 use mathlib.Core.Path.{_≡_}
 use mathlib.Core.Bool.{true, false}
 use mathlib.Core.List.{List, [], _∷_}
-use lib.IntN.{ℤ, natAbs}
 use lib.ListN.{length, getD, take}
-use Rattle.names.specs.declared.Names.{Names}
-use Rattle.names.specs.Names.{sizeOf}
-use Rattle.inputs.specs.declared.Form.{Form}
-use Rattle.inputs.specs.declared.Form.the-variants.{Number, OrStandard, NoStandard, Signed as ASigned, OneOf}
 use Rattle.inputs.specs.Inputs.{countOf, formOf}
 use Rattle.farm.specs.declared.Given.{Given}
-use Rattle.farm.specs.declared.Given.the-variants.{Missing, Standard, Value, Signed}
+use Rattle.farm.specs.declared.Given.the-variants.{Missing}
 use Rattle.farm.specs.declared.Herd.{Herd}
 use Rattle.farm.specs.declared.Farm.{Farm}
 use Rattle.farm.specs.declared.Fault.{Fault}
@@ -22,27 +17,11 @@ use Rattle.farm.specs.declared.Checked.the-variants.{Accepted, Refused}
 use Rattle.farm.specs.Limits.{herdsMost}
 use Rattle.farm.specs.Labels.{labelOk, sameLabel}
 use Rattle.farm.specs.Herds.{noSlot, noHerd}
+use Rattle.first_refusal.specs.First.{FirstOf}
+use Rattle.fits.specs.Fits.{OutOfRange}
 use Rattle.checks.specs.Checks.{checkHerd, herdsOf, checkFarm}
 
 -- ---- 4, 8, 12, 7, of the herd h that stands behind these
-
--- "one out of range or a `standard` that 6 forbids": no value of an input of this form
-pub data OutOfRange : Form → Given → Type 0 where
-  number : {decimals most v : ℕ} → most < v → OutOfRange (Number decimals most) (Value v)
-  or-standard : {decimals most v : ℕ} → most < v → OutOfRange (OrStandard decimals most) (Value v)
-  no-standard : {decimals most v : ℕ} → most < v → OutOfRange (NoStandard decimals most) (Value v)
-  name : {names : Names} {v : ℕ} → sizeOf names ≤ v → OutOfRange (OneOf names) (Value v)
-  standard-forbidden : {decimals most : ℕ} → OutOfRange (NoStandard decimals most) Standard
-  standard-no-number : {decimals most : ℕ} → OutOfRange (Number decimals most) Standard
-  standard-no-name : {names : Names} → OutOfRange (OneOf names) Standard
-  -- 02, W3: further from zero than the most; and a record has a signed number for a signed input, and for no other
-  signed : {most : ℕ} {v : ℤ} → most < natAbs v → OutOfRange (ASigned most) (Signed v)
-  standard-no-signed : {most : ℕ} → OutOfRange (ASigned most) Standard
-  value-no-signed : {most v : ℕ} → OutOfRange (ASigned most) (Value v)
-  signed-no-number : {decimals most : ℕ} {v : ℤ} → OutOfRange (Number decimals most) (Signed v)
-  signed-or-standard : {decimals most : ℕ} {v : ℤ} → OutOfRange (OrStandard decimals most) (Signed v)
-  signed-no-standard : {decimals most : ℕ} {v : ℤ} → OutOfRange (NoStandard decimals most) (Signed v)
-  signed-no-name : {names : Names} {v : ℤ} → OutOfRange (OneOf names) (Signed v)
 
 -- what the herd's slot says
 abbrev pub givenAt : Herd → ℕ → Given
@@ -93,8 +72,7 @@ pub data Sooner : ℕ → Fault → ℕ → Fault → Type 0 where
 -- the first refusal: it applies, and none that applies is sooner
 pub record FirstOfRecord (x : Handed) (fault : Fault) : Type 0 where
   pub place : ℕ
-  pub applies : AppliesAt x place fault
-  pub none-sooner : (m : ℕ) (other : Fault) → AppliesAt x m other → Sooner m other place fault → ⊥
+  pub is-first : FirstOf (AppliesAt x) Sooner place fault
 
 -- what its checks say: that none applies; or the first, "always with record 0"
 pub data RecordGets (x : Handed) : Checked → Type 0 where

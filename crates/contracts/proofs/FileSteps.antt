@@ -22,22 +22,11 @@ use Rattle.reader.specs.declared.FileAnswer.{FileAnswer}
 use Rattle.reader.specs.Files.{readOf, accepted}
 use Rattle.rules.proofs.Accepts.{accepts-exactly}
 use Rattle.rules.proofs.Passing.{accepted-passes}
-use Rattle.listing.specs.declared.Written.{Written}
-use Rattle.listing.specs.declared.Written.the-variants.{Length, Refused}
-use Rattle.listing.specs.Answer.{leaves, answers}
-use Rattle.cut_lines.specs.Lines.{herdCutLines}
-use Rattle.whole.specs.Lines.{listingOf}
-use Rattle.contracts.specs.Listings.{
-  Called,
-  recordCall,
-  herdCall,
-  herdCutsCall,
-  totalsCall,
-  fileCallOf,
-  fileHerdCall,
-  fileHerdCutsCall,
-  fileTotalsCall,
-}
+use Rattle.written.specs.declared.Written.{Written}
+use Rattle.written.specs.declared.Written.the-variants.{Length, Refused}
+use Rattle.written.specs.Answer.{leaves, answers}
+use Rattle.views.specs.declared.View.{View}
+use Rattle.contracts.specs.Listings.{Called, herdCall, totalsCall, fileHerdCall, fileTotalsCall}
 
 -- what stands past the end does not matter inside a list
 inside : {A : Type 0} (l : List A) (i : ℕ) (d e : A) → i < length l → getD l i d ≡ getD l i e
@@ -88,10 +77,10 @@ module _ (s : List ℕ) (a : FileAnswer) (q : a ≡ readOf s) where
         rw (← getD-take (a .farm .count) (a .farm .herds) i d h)
         (each-getD (herdsOf (a .farm)) i d (farm-each (a .farm) passes) l)
 
-    -- `of` says what is listed of a herd
-    of-file-herd : (of : Herd → List ℕ) (i : ℕ) (d : Herd) (old new : List ℕ) (r : Written) → i < a .farm .count
-        → Called (recordCall of (getD (a .farm .herds) i d)) old new r → Called (fileCallOf of s i) old new r
-    of-file-herd of i d old new r h w =
+    pub is-file-herd : (v : View) (i : ℕ) (d : Herd) (old new : List ℕ) (r : Written) → i < a .farm .count
+        → Called (herdCall v (getD (a .farm .herds) i d)) old new r → Called (fileHerdCall v s i) old new r
+    unfolding fileHerdCall herdCall
+    is-file-herd v i d old new r h w =
         let p = herd-passes i d h in
         let same = herd-at i d h in
         record {
@@ -99,31 +88,14 @@ module _ (s : List ℕ) (a : FileAnswer) (q : a ≡ readOf s) where
           answer = rw (as-accepted, lt-ltb i (a .farm .count) h, ← same) (rw p at (w .answer));
         }
 
-    of-past-herds : (of : Herd → List ℕ) (i : ℕ) (old : List ℕ) → a .farm .count ≤ i
-        → Called (fileCallOf of s i) old old (Length 0)
-    of-past-herds of i old h =
+    pub is-past-herds : (v : View) (i : ℕ) (old : List ℕ) → a .farm .count ≤ i
+        → Called (fileHerdCall v s i) old old (Length 0)
+    unfolding fileHerdCall
+    is-past-herds v i old h =
         record {
           buffer = rw (as-accepted, le-ltb i (a .farm .count) h) (empty-leaves old);
           answer = rw (as-accepted, le-ltb i (a .farm .count) h) (empty-answers old);
         }
-
-    pub is-file-herd : (i : ℕ) (d : Herd) (old new : List ℕ) (r : Written) → i < a .farm .count
-        → Called (herdCall (getD (a .farm .herds) i d)) old new r → Called (fileHerdCall s i) old new r
-    unfolding fileHerdCall herdCall
-    is-file-herd i d old new r h w = of-file-herd listingOf i d old new r h w
-
-    pub is-past-herds : (i : ℕ) (old : List ℕ) → a .farm .count ≤ i → Called (fileHerdCall s i) old old (Length 0)
-    unfolding fileHerdCall
-    is-past-herds i old h = of-past-herds listingOf i old h
-
-    pub is-file-cuts : (i : ℕ) (d : Herd) (old new : List ℕ) (r : Written) → i < a .farm .count
-        → Called (herdCutsCall (getD (a .farm .herds) i d)) old new r → Called (fileHerdCutsCall s i) old new r
-    unfolding fileHerdCutsCall herdCutsCall
-    is-file-cuts i d old new r h w = of-file-herd herdCutLines i d old new r h w
-
-    pub is-past-cuts : (i : ℕ) (old : List ℕ) → a .farm .count ≤ i → Called (fileHerdCutsCall s i) old old (Length 0)
-    unfolding fileHerdCutsCall
-    is-past-cuts i old h = of-past-herds herdCutLines i old h
 
     pub is-file-totals : (old new : List ℕ) (r : Written) → Called (totalsCall (a .farm)) old new r
         → Called (fileTotalsCall s) old new r
@@ -139,13 +111,9 @@ module _ (s : List ℕ) (a : FileAnswer) (q : a ≡ readOf s) where
     pub refusing : readOf s .checked ≡ checks.Refused fault at-record
     refusing = rw q at e
 
-    pub is-herd-unread : (i : ℕ) → Called (fileHerdCall s i) old old (Refused fault at-record)
+    pub is-herd-unread : (v : View) (i : ℕ) → Called (fileHerdCall v s i) old old (Refused fault at-record)
     unfolding fileHerdCall
-    is-herd-unread i = record { buffer = rw refusing; answer = rw refusing }
-
-    pub is-cuts-unread : (i : ℕ) → Called (fileHerdCutsCall s i) old old (Refused fault at-record)
-    unfolding fileHerdCutsCall
-    is-cuts-unread i = record { buffer = rw refusing; answer = rw refusing }
+    is-herd-unread v i = record { buffer = rw refusing; answer = rw refusing }
 
     pub is-totals-unread : Called (fileTotalsCall s) old old (Refused fault at-record)
     unfolding fileTotalsCall
@@ -153,5 +121,3 @@ module _ (s : List ℕ) (a : FileAnswer) (q : a ≡ readOf s) where
 
 pub ruleset file-steps =
     (in-array, place-fits, is-file-herd, is-past-herds, is-file-totals, is-herd-unread, is-totals-unread)
-
-pub ruleset file-cuts-steps = (in-array, place-fits, is-file-cuts, is-past-cuts, is-cuts-unread)

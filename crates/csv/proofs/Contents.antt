@@ -7,13 +7,14 @@ use lib.ListN.{length, drop, length-append, length-drop}
 use lib.Seq.{drop-drop, take-append-seam}
 use native.Mathlib.Omega.{arith}
 use Rattle.base.specs.Part.{part}
-use Rattle.csv.specs.Grammar.{comma, quote, cr, lf}
-use Rattle.csv.specs.Reading.{Row, row, withByte, withField, atStart, inPlain, inQuotes, pastQuote, pastCR}
-use Rattle.csv.specs.declared.Place.{Place}
-use Rattle.csv.specs.declared.FieldEnd.{FieldEnd}
-use Rattle.csv.specs.declared.FieldEnd.the-variants as ends
-use Rattle.csv.specs.Places.{place, held, lineFrom, plainFrom, quotedFrom, closedFrom, fieldFrom}
-use Rattle.csv.proofs.Cases.{by-tests}
+use Rattle.grammar.specs.Grammar.{comma, quote, cr, lf}
+use Rattle.grammar.specs.Reading.{Row, row, withByte, withField, atStart, inPlain, inQuotes, pastQuote, pastCR}
+use Rattle.plain_fields.specs.declared.Place.{Place}
+use Rattle.plain_fields.specs.declared.FieldEnd.{FieldEnd}
+use Rattle.plain_fields.specs.declared.FieldEnd.the-variants as ends
+use Rattle.plain_fields.specs.Places.{place, held, lineFrom, plainFrom}
+use Rattle.field_ends.specs.Places.{quotedFrom, closedFrom, fieldFrom}
+use Rattle.grammar.proofs.Cases.{by-tests}
 
 -- the rest t of a field stands at the front of the bytes u, from `at` to before `to`
 record Span (at : ℕ) (u t : List ℕ) (to : ℕ) : Type 0 where

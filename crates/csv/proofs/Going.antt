@@ -6,13 +6,14 @@ use mathlib.Core.Path.{_≡_, sym, ap, _∙_}
 use lib.ListN.{length, drop}
 use native.Mathlib.Omega.{arith}
 use borrow.Author.Tests.{lt-leb, le-leb}
-use Rattle.csv.specs.declared.Place.{Place}
+use Rattle.plain_fields.specs.declared.Place.{Place}
 use Rattle.csv.specs.declared.Fields.{Fields}
-use Rattle.csv.specs.declared.FieldEnd.{FieldEnd}
-use Rattle.csv.specs.declared.FieldEnd.the-variants as ends
+use Rattle.plain_fields.specs.declared.FieldEnd.{FieldEnd}
+use Rattle.plain_fields.specs.declared.FieldEnd.the-variants as ends
 use Rattle.csv.specs.declared.Step.{Step}
 use Rattle.csv.specs.declared.Step.the-variants.{Record, Broken, End}
-use Rattle.csv.specs.Places.{fieldFrom, reader, noFields, andField, rowFrom, stepOf}
+use Rattle.field_ends.specs.Places.{fieldFrom}
+use Rattle.csv.specs.Places.{reader, noFields, andField, rowFrom, stepOf}
 use Rattle.csv.proofs.Contents.{In, FieldAt, field-at}
 
 -- `turns` is more than the fields that there is room for

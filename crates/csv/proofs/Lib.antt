@@ -1,9 +1,4 @@
-pub mod Cases
-pub mod Scans
 pub mod Contents
 pub mod Going
-pub mod Agrees
-pub mod Files
 pub mod Steps
 pub mod Promises
-pub mod Examples

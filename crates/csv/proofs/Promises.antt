@@ -12,12 +12,12 @@ use Rattle.csv.specs.declared.Fields.{Fields}
 use Rattle.csv.specs.declared.ReaderPlace.{ReaderPlace}
 use Rattle.csv.specs.declared.Step.{Step}
 use Rattle.csv.specs.declared.Step.the-variants.{Record, Broken, End}
-use Rattle.csv.specs.Grammar.{FileOf, Front, Breaks, Fate}
-use Rattle.csv.specs.Reading.{Row, atStart, Reading, _then_, end, whole, brokenAfter, readingOf, partsOf}
+use Rattle.grammar.specs.Grammar.{FileOf, Front, Breaks, Fate}
+use Rattle.grammar.specs.Reading.{Row, atStart, Reading, _then_, end, whole, brokenAfter, readingOf, partsOf}
 use Rattle.csv.specs.Places.{stepOf}
 use Rattle.csv.specs.Outcome.{ReadAs, Finds}
-use Rattle.csv.proofs.Agrees.{Read, as-row, stands-read, left-shorter}
-use Rattle.csv.proofs.Files.{file-read, read-file, whole-one, read-breaks, breaks-read}
+use Rattle.grammar.proofs.Agrees.{Read, as-row, stands-read, left-shorter}
+use Rattle.grammar.proofs.Files.{file-read, read-file, whole-one, read-breaks, breaks-read}
 use Rattle.csv.proofs.Steps.{Says, says, next-reads}
 
 -- one record alone can stand at the front of some bytes

@@ -13,20 +13,22 @@ use borrow.Author.Tests.{leb-true, leb-false}
 use Rattle.base.specs.Pick.{pick}
 use Rattle.base.specs.Part.{part}
 use Rattle.base.proofs.Rest.{rest-at, rest-end}
-use Rattle.csv.specs.declared.Place.{Place}
+use Rattle.plain_fields.specs.declared.Place.{Place}
 use Rattle.csv.specs.declared.Fields.{Fields}
 use Rattle.csv.specs.declared.ReaderPlace.{ReaderPlace}
-use Rattle.csv.specs.declared.FieldEnd.{FieldEnd}
-use Rattle.csv.specs.declared.FieldEnd.the-variants as ends
+use Rattle.plain_fields.specs.declared.FieldEnd.{FieldEnd}
+use Rattle.plain_fields.specs.declared.FieldEnd.the-variants as ends
 use Rattle.csv.specs.declared.Step.{Step}
 use Rattle.csv.specs.declared.Step.the-variants.{Record, Broken, End}
-use Rattle.csv.specs.Reading.{Row, row, withField, atStart, Reading, end, readingOf, partsOf}
-use Rattle.csv.specs.Places.{held, partsAt, reader, noFields, andField, fieldFrom, rowFrom, stepOf}
+use Rattle.grammar.specs.Reading.{Row, row, withField, atStart, Reading, end, readingOf, partsOf}
+use Rattle.plain_fields.specs.Places.{held}
+use Rattle.field_ends.specs.Places.{fieldFrom}
+use Rattle.csv.specs.Places.{partsAt, reader, noFields, andField, rowFrom, stepOf}
 use Rattle.csv.specs.Outcome.{InFile, Placed, ReadAs}
-use Rattle.csv.proofs.Cases.{by-test}
+use Rattle.grammar.proofs.Cases.{by-test}
 use Rattle.csv.proofs.Contents.{FieldAt, field-at}
-use Rattle.csv.proofs.Agrees.{read-stands}
-use Rattle.csv.proofs.Files.{reading-row, reading-broken, reading-none}
+use Rattle.grammar.proofs.Agrees.{read-stands}
+use Rattle.grammar.proofs.Files.{reading-row, reading-broken, reading-none}
 
 -- the places of f hold these contents
 record Holds (s : List ℕ) (f : Fields) (cs : List (List ℕ)) : Type 0 where

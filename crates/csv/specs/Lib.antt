@@ -1,4 +1,2 @@
-pub mod Grammar
-pub mod Reading
 pub mod Places
 pub mod Outcome

@@ -3,12 +3,12 @@ use Prim.Native.Nat.{ℕ, _<_, _≤_}
 use mathlib.Core.List.{List}
 use mathlib.Core.Path.{_≡_}
 use lib.ListN.{length, drop}
-use Rattle.csv.specs.declared.Place.{Place}
+use Rattle.plain_fields.specs.declared.Place.{Place}
 use Rattle.csv.specs.declared.Fields.{Fields}
 use Rattle.csv.specs.declared.ReaderPlace.{ReaderPlace}
 use Rattle.csv.specs.declared.Step.the-variants.{Record}
-use Rattle.csv.specs.Grammar.{Front}
-use Rattle.csv.specs.Reading.{_then_, readingOf, partsOf}
+use Rattle.grammar.specs.Grammar.{Front}
+use Rattle.grammar.specs.Reading.{_then_, readingOf, partsOf}
 use Rattle.csv.specs.Places.{partsAt, stepOf}
 
 -- a place lies in the file

@@ -1,37 +1,26 @@
 -- The records by number, with texts from the table, are those of specs/Lines.antt. Assumes nothing.
-use Prim.Native.Nat.{ℕ, zero, suc, _+_, _<_}
-use mathlib.Core.Path.{_≡_, refl, ap, _∙_}
+use Prim.Native.Nat.{ℕ, _+_, _<_}
+use mathlib.Core.Path.{_≡_, refl, sym, ap, _∙_}
 use mathlib.Core.List.{List, [], _∷_, _++_, map, append-assoc}
-use native.Mathlib.Nat.{le-of-suc-le-suc}
-use native.Mathlib.Omega.{arith}
 use lib.Dec.{T, ltb, ltb→lt}
-use lib.ListN.{length, getD, length-map}
+use lib.ListN.{length, getD}
 use Rattle.base.specs.Pick.{pick}
 use Rattle.base.specs.Part.{part}
 use Rattle.base.specs.Runs.{joined, starts, all}
 use Rattle.base.specs.Text.{bytes}
-use Rattle.base.specs.Wrote.{Wrote}
-use Rattle.base.proofs.Runs.{run-at}
 use Rattle.base.proofs.Table.{both-left, both-right}
-use Rattle.base.proofs.Writes.{said}
 use Rattle.inputs.specs.declared.Kind.{Kind}
 use Rattle.farm.specs.declared.Label.{Label}
 use Rattle.farm.specs.Labels.{text}
-use Rattle.listing.specs.HerdLines.{pathOf}
-use Rattle.listing.specs.Listing.{each}
-use Rattle.listing.specs.Numbered.{Entry, middleOf, middles, ownerOf}
+use Rattle.line_parts.specs.Fields.{each}
+use Rattle.line_parts.specs.Paths.{pathOf}
+use Rattle.line_parts.specs.Owners.{ownerOf}
+use Rattle.line_parts.specs.Middles.{Entry, middleOf, middles}
+use Rattle.line_parts.proofs.Middles.{noEntry, middle-is}
 use Rattle.cuts.specs.declared.Cuts.{Cuts}
 use Rattle.cuts.specs.Names.{rows, texts, cutNumber}
 use Rattle.cut_lines.specs.Lines.{cutLine, cutLines, cutsListing}
 use Rattle.cut_lines.specs.Numbered.{entries, putTogether, numbered, Known}
-
-abbrev noEntry : Entry
-noEntry = record { under = []; name = [] }
-
-middle-at : (es : List Entry) (n : ℕ) → n < length es → getD (middles es) n [] ≡ middleOf (getD es n noEntry)
-middle-at [] n h = absurd (omega arith)
-middle-at (e ∷ es) zero h = refl
-middle-at (e ∷ es) (suc n) h = middle-at es n (le-of-suc-le-suc h)
 
 line-is : (label path : List ℕ) (e : Entry) (off by : ℕ)
     → putTogether (ownerOf label path) (middleOf e) off by
@@ -48,10 +37,8 @@ module _ (label path offs bys : List ℕ) where
   in-full : (n : ℕ) → n < length entries
       → putTogether (ownerOf label path) (part (joined (middles entries)) (getD (starts 0 (middles entries)) n 0)
       (getD (starts 0 (middles entries)) (n + 1) 0)) (getD offs n 0) (getD bys n 0) ≡ inFull n
-  unfolding part
   in-full n h =
-      let r = run-at (middles entries) n (omega (arith, length-map entries middleOf)) in
-      let m = r .part-is ∙ middle-at entries n h in
+      let m = middle-is entries n h in
       ap (λ (t : List ℕ). putTogether (ownerOf label path) t (getD offs n 0) (getD bys n 0)) m
       ∙ line-is label path (getD entries n noEntry) (getD offs n 0) (getD bys n 0)
 
@@ -79,13 +66,15 @@ pub cuts-known : {offs bys : List ℕ} → length offs ≡ length rows → lengt
     → Known table from offs bys numbers
 cuts-known n m =
     record {
-      texts = middles entries;
-      table-is = refl;
-      starts-are = refl;
-      short = tt;
-      as-many = (n, m);
-      are-numbers = tt;
-      few = omega arith;
+      tabled = record {
+        texts = middles entries;
+        table-is = refl;
+        starts-are = refl;
+        short = tt;
+        as-many = n;
+        are-numbers = tt;
+      };
+      as-many = m ∙ sym n;
     }
 
 as-listed : (label : List ℕ) (k : Kind) (c : Cuts)
@@ -93,8 +82,6 @@ as-listed : (label : List ℕ) (k : Kind) (c : Cuts)
 unfolding cutLines
 as-listed label k c = numbered-is label (bytes (pathOf k)) (c .«cut_off») (c .divisor) numbers tt ∙ simp append-assoc
 
-pub cuts-wrote : (l : Label) (k : Kind) (c : Cuts) {owner : List ℕ} → owner ≡ ownerOf (text l) (bytes (pathOf k))
-    → {old new : List ℕ} {at next : ℕ}
-    → Wrote old at (numbered owner table from (c .«cut_off») (c .divisor) numbers) new next
-    → Wrote old at (cutsListing l k c) new next
-cuts-wrote l k c d w = said (rw d (as-listed (text l) k c)) w
+pub cuts-are : (l : Label) (k : Kind) (c : Cuts) {owner : List ℕ} → owner ≡ ownerOf (text l) (bytes (pathOf k))
+    → numbered owner table from (c .«cut_off») (c .divisor) numbers ≡ cutsListing l k c
+cuts-are l k c d = rw d (as-listed (text l) k c)

@@ -1,3 +1,4 @@
 pub mod LineByLine
 pub mod AsListed
-pub mod FarmSteps
+pub mod Lengths
+pub mod HerdSteps

@@ -11,12 +11,10 @@ use Rattle.decimal.specs.Writing.{wholeOf}
 use Rattle.inputs.specs.declared.Kind.{Kind}
 use Rattle.farm.specs.declared.Label.{Label}
 use Rattle.farm.specs.declared.Herd.{Herd}
-use Rattle.farm.specs.declared.Farm.{Farm}
 use Rattle.farm.specs.Labels.{text}
-use Rattle.checks.specs.Checks.{herdsOf}
 use Rattle.typed.specs.Typed.{typedOf}
-use Rattle.listing.specs.HerdLines.{pathOf}
-use Rattle.listing.specs.Listing.{labelField, each}
+use Rattle.line_parts.specs.Fields.{labelField, each}
+use Rattle.line_parts.specs.Paths.{pathOf}
 use Rattle.cuts.specs.declared.Cuts.{Cuts}
 use Rattle.cuts.specs.Names.{Row, rows, texts, cutNumber}
 use Rattle.cuts.specs.Cuts.{cutOff, divisorOf, isMade}
@@ -49,7 +47,3 @@ cutsListing l k c = cutLines (text l) k c
 -- the records of a herd's record
 abbrev pub herdCutLines : Herd → List ℕ
 herdCutLines h = cutsListing (h .label) (h .kind) (cutsOf (typedOf h))
-
--- herd after herd
-unfoldable pub farmCuts : Farm → List ℕ
-farmCuts f = each herdCutLines (herdsOf f)

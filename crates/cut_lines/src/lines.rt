@@ -1,18 +1,15 @@
 // A record of a cut, and records one after the other.
-use listing::blocks;
 ghost use Prim.Native.Nat.{_+_, _≤_};
 ghost use lib.ListN.{length};
 ghost use Rattle.base.specs.Wrote.{Wrote};
-ghost use Rattle.listing.specs.Bounds.{longestOwner};
-ghost use Rattle.cut_lines.specs.Rooms.{longestMiddle, longestNumbers, longestLine, longestCuts};
+ghost use Rattle.line_parts.specs.Bounds.{longestOwner};
 ghost use Rattle.cut_lines.specs.Lines.{numbersOf};
 ghost use Rattle.cut_lines.specs.Numbered.{Known, putTogether, numbered};
 
 // What was cut off, and the divisor: the last two fields.
 fn put_numbers(out: &mut [u8], at: usize, cut_off: u64, divisor: u64) -> usize
-    requires { ⌜ at + longestNumbers ≤ length (now out) ⌝ }
-    ensures { λ r. ⌜ Wrote (now (out .entry)) at (numbersOf «cut_off» divisor) (now (out .exit)) r
-        × (r ≤ at + longestNumbers) ⌝ }
+    requires { ⌜ at + length (numbersOf «cut_off» divisor) ≤ length (now out) ⌝ }
+    ensures { λ r. ⌜ Wrote (now (out .entry)) at (numbersOf «cut_off» divisor) (now (out .exit)) r ⌝ }
 {
     let a = decimal::put_whole(out, at, cut_off);
     let b = base::put_byte(out, a, b',');
@@ -29,11 +26,10 @@ fn put_line(
     cut_off: u64,
     divisor: u64,
 ) -> usize
-    requires { ⌜ (length (now owner) ≤ longestOwner) × (length (now middle) ≤ longestMiddle)
-        × (at + longestLine ≤ length (now out)) ⌝ }
+    requires { ⌜ (length (now owner) ≤ longestOwner)
+        × (at + length (putTogether (now owner) (now middle) «cut_off» divisor) ≤ length (now out)) ⌝ }
     ensures { λ r. ⌜ Wrote (now (out .entry)) at
-        (putTogether (now (owner .entry)) (now (middle .entry)) «cut_off» divisor) (now (out .exit)) r
-        × (r ≤ at + longestLine) ⌝ }
+        (putTogether (now (owner .entry)) (now (middle .entry)) «cut_off» divisor) (now (out .exit)) r ⌝ }
 {
     if divisor == 0 {
         return at;
@@ -55,10 +51,12 @@ pub fn put_lines(
     lines: &[usize],
 ) -> usize
     requires { ⌜ Known (now middles) (now starts) (now «cut_off») (now divisor) (now lines)
-        × (length (now owner) ≤ longestOwner) × (at + longestCuts ≤ length (now out)) ⌝ }
+        × (length (now owner) ≤ longestOwner)
+        × (at + length (numbered (now owner) (now middles) (now starts) (now «cut_off») (now divisor) (now lines))
+        ≤ length (now out)) ⌝ }
     ensures { λ r. ⌜ Wrote (now (out .entry)) at
         (numbered (now (owner .entry)) (now (middles .entry)) (now (starts .entry)) (now («cut_off» .entry))
-        (now (divisor .entry)) (now (lines .entry))) (now (out .exit)) r × (r ≤ at + longestCuts) ⌝ }
+        (now (divisor .entry)) (now (lines .entry))) (now (out .exit)) r ⌝ }
 {
     let mut next = at;
     let mut k = 0;

@@ -1,3 +1,3 @@
-pub mod Steps
 pub mod AddUp
 pub mod Agree
+pub mod Steps

@@ -1,9 +1,7 @@
 // The list of cuts (02, W7): every division that a herd's formulas make, by number. A herd's cuts are what was cut off
 // and the divisor, each an array by the number of the name; where no such cut was made both are 0. specs/Names.antt has
-// the names, a row each.
+// the names, a row each; crate `cut_numbers` fills the arrays, crate `herd_cuts` makes the cuts.
 pub mod names; // the names by number
-pub mod parts; // the one place where a quotient meets its number
-pub mod herds; // a herd's cuts, kind by kind
 
 // What was cut off, and by what was divided, by the number of the name.
 pub struct Cuts {

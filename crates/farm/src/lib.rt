@@ -2,7 +2,6 @@
 use inputs::Kind;
 
 pub mod labels; // when a label is good, and when two are one
-pub mod faults; // 01's numbers
 pub mod herds; // herds and farms that say nothing
 
 // How many bytes a label, how many slots a herd and how many herds a farm has room for.

@@ -1,4 +1,1 @@
-pub mod DaySteps
-pub mod TallySteps
 pub mod LogSteps
-pub mod Tallied

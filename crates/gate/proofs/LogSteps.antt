@@ -13,7 +13,7 @@ use Rattle.csv.specs.declared.Fields.{Fields}
 use Rattle.csv.specs.declared.ReaderPlace.{ReaderPlace}
 use Rattle.csv.specs.declared.Step.{Step}
 use Rattle.csv.specs.declared.Step.the-variants.{Record, Broken, End}
-use Rattle.csv.specs.Reading.{readingOf, partsOf}
+use Rattle.grammar.specs.Reading.{readingOf, partsOf}
 use Rattle.csv.specs.Places.{partsAt, stepOf}
 use Rattle.csv.specs.Outcome.{ReadAs}
 use Rattle.csv.proofs.Steps.{Says, says, next-reads, end-read}
@@ -21,23 +21,23 @@ use Rattle.calendar.specs.declared.Date.{Date}
 use Rattle.calendar.specs.declared.Due.{Due}
 use Rattle.calendar.specs.declared.Due.the-variants.{NewYear, On, Nothing}
 use Rattle.calendar.specs.Following.{isDue, dueAfter}
-use Rattle.gate.specs.declared.Day.{Day}
-use Rattle.gate.specs.declared.Tally.{Tally}
-use Rattle.gate.specs.declared.Outdoors.{Outdoors}
+use Rattle.outdoors.specs.declared.Day.{Day}
+use Rattle.outdoors.specs.declared.Tally.{Tally}
+use Rattle.outdoors.specs.declared.Outdoors.{Outdoors}
 use Rattle.gate.specs.declared.Progress.{Progress}
-use Rattle.gate.specs.declared.LogFault.{LogFault}
-use Rattle.gate.specs.declared.LogFault.the-variants.{RecordBroken, WrongDate}
+use Rattle.gate_days.specs.declared.LogFault.{LogFault}
+use Rattle.gate_days.specs.declared.LogFault.the-variants.{RecordBroken, WrongDate}
 use Rattle.gate.specs.declared.LogAnswer.{LogAnswer}
 use Rattle.gate.specs.declared.LogAnswer.the-variants.{Gives, Refused}
-use Rattle.gate.specs.declared.days.DayRead.{DayRead}
-use Rattle.gate.specs.declared.days.DayRead.the-variants as reads
+use Rattle.gate_days.specs.declared.days.DayRead.{DayRead}
+use Rattle.gate_days.specs.declared.days.DayRead.the-variants as reads
 use Rattle.gate.specs.declared.logs.Taken.{Taken}
 use Rattle.gate.specs.declared.logs.Taken.the-variants.{Further, Wrong}
-use Rattle.gate.specs.Days.{dayOf}
-use Rattle.gate.specs.Tallies.{withDay, outdoorsBy, Roomy}
+use Rattle.gate_days.specs.Days.{dayOf}
+use Rattle.outdoors.specs.Tallies.{withDay, outdoorsBy, Roomy}
 use Rattle.gate.specs.Logs.{progress, nothingRead, takenBy, finished, logMost, readFrom}
-use Rattle.gate.proofs.DaySteps.{day-small}
-use Rattle.gate.proofs.TallySteps.{grown}
+use Rattle.gate_days.proofs.DaySteps.{day-small}
+use Rattle.outdoors.proofs.TallySteps.{grown}
 
 -- ---- what a record does
 

@@ -1,5 +1,2 @@
-pub mod Refusals
-pub mod Outdoors
-pub mod Days
-pub mod Tallies
 pub mod Logs
+pub mod Answers

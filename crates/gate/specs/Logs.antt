@@ -5,21 +5,21 @@ use mathlib.Core.List.{List}
 use lib.Dec.{ltb}
 use lib.ListN.{length}
 use Rattle.base.specs.Pick.{pick}
-use Rattle.csv.specs.Reading.{Reading, _then_, end, broken, readingOf, partsOf}
+use Rattle.grammar.specs.Reading.{Reading, _then_, end, broken, readingOf, partsOf}
 use Rattle.calendar.specs.declared.Due.{Due}
 use Rattle.calendar.specs.declared.Due.the-variants.{NewYear, On, Nothing}
 use Rattle.calendar.specs.Following.{isDue, dueAfter}
-use Rattle.gate.specs.declared.Tally.{Tally}
+use Rattle.outdoors.specs.declared.Tally.{Tally}
 use Rattle.gate.specs.declared.Progress.{Progress}
-use Rattle.gate.specs.declared.LogFault.the-variants.{LogTooLong, RecordBroken, WrongDate}
+use Rattle.gate_days.specs.declared.LogFault.the-variants.{LogTooLong, RecordBroken, WrongDate}
 use Rattle.gate.specs.declared.LogAnswer.{LogAnswer}
 use Rattle.gate.specs.declared.LogAnswer.the-variants.{Gives, Refused}
-use Rattle.gate.specs.declared.days.DayRead.{DayRead}
-use Rattle.gate.specs.declared.days.DayRead.the-variants as reads
+use Rattle.gate_days.specs.declared.days.DayRead.{DayRead}
+use Rattle.gate_days.specs.declared.days.DayRead.the-variants as reads
 use Rattle.gate.specs.declared.logs.Taken.{Taken}
 use Rattle.gate.specs.declared.logs.Taken.the-variants.{Further, Wrong}
-use Rattle.gate.specs.Days.{dayOf}
-use Rattle.gate.specs.Tallies.{tally, withDay, outdoorsBy}
+use Rattle.gate_days.specs.Days.{dayOf}
+use Rattle.outdoors.specs.Tallies.{tally, withDay, outdoorsBy}
 
 abbrev pub progress : Due → Tally → Progress
 progress due t = record { due = due; tally = t }

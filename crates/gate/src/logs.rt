@@ -1,20 +1,20 @@
 // The whole log: 1 before all, then records from the front, and 14 for one that ends before 31 December.
 use crate::LOG_MOST;
 use crate::LogAnswer;
-use crate::LogFault;
 use crate::Progress;
-use crate::Tally;
-use crate::days;
-use crate::days::DayRead;
-use crate::tallies;
 use calendar::Due;
 use csv::ReaderPlace;
 use csv::Step;
+use gate_days::LogFault;
+use gate_days::days;
+use gate_days::days::DayRead;
+use outdoors::Tally;
+use outdoors::tallies;
 ghost use mathlib.Core.Path.{_≡_};
 ghost use Prim.Native.Nat.{_≤_};
 ghost use lib.ListN.{length};
-ghost use Rattle.csv.specs.Reading.{readingOf};
-ghost use Rattle.gate.specs.Tallies.{Roomy};
+ghost use Rattle.grammar.specs.Reading.{readingOf};
+ghost use Rattle.outdoors.specs.Tallies.{Roomy};
 ghost use Rattle.gate.specs.Logs.{takenBy, nothingRead, finished, readFrom, logMost, readLog};
 
 // What a record does: it takes reading further, or something is wrong with it.

@@ -1,34 +1,13 @@
--- What a gate's log is answered with, byte by byte: three lines, as `name,value` with CRLF, hours with exactly one
--- decimal; or 01's "`refused,NUMBER,RECORD` and CRLF". To be believed.
-use Prim.Native.Nat.{ℕ, _/_, _%_}
-use Prim.Native.String.{String}
-use mathlib.Core.List.{List, [], _++_}
-use Rattle.base.specs.Text.{bytes}
-use Rattle.decimal.specs.Writing.{wholeOf}
-use Rattle.gate.specs.declared.Outdoors.{Outdoors}
-use Rattle.gate.specs.declared.LogFault.{LogFault}
+-- What a gate's log is answered with, byte by byte: its three lines, or 01's "`refused,NUMBER,RECORD` and CRLF". To be
+-- believed.
+use Prim.Native.Nat.{ℕ}
+use mathlib.Core.List.{List}
+use Rattle.outdoors_lines.specs.Lines.{outdoorsLines}
+use Rattle.gate_days.specs.Refusals.{number}
+use Rattle.refusal_line.specs.Lines.{refusalLine}
 use Rattle.gate.specs.declared.LogAnswer.{LogAnswer}
 use Rattle.gate.specs.declared.LogAnswer.the-variants.{Gives, Refused}
-use Rattle.gate.specs.Refusals.{number}
-
--- tenths, with one decimal
-abbrev pub tenthsOf : ℕ → List ℕ
-tenthsOf n = wholeOf (n / 10) ++ (bytes "." ++ wholeOf (n % 10))
-
--- a line of a name and a value, and what comes behind it
-abbrev pub line : String → List ℕ → List ℕ → List ℕ
-line name value behind = bytes name ++ (bytes "," ++ (value ++ (bytes "\r\n" ++ behind)))
-
-unfoldable pub outdoorsLines : Outdoors → List ℕ
-outdoorsLines o =
-    line "grazing_days" (wholeOf (o .«grazing_days»))
-    (line "yard_days" (wholeOf (o .«yard_days»))
-    (line "grazing_hours" (tenthsOf (o .«grazing_hours»)) []))
-
-unfoldable pub refusalLine : LogFault → ℕ → List ℕ
-refusalLine fault record′ =
-    bytes "refused," ++ wholeOf (number fault) ++ (bytes "," ++ wholeOf record′) ++ bytes "\r\n"
 
 abbrev pub answerLines : LogAnswer → List ℕ
 answerLines (Gives o) = outdoorsLines o
-answerLines (Refused fault record′) = refusalLine fault record′
+answerLines (Refused fault record′) = refusalLine (number fault) record′

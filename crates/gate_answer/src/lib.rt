@@ -1,18 +1,16 @@
 // What a gate's log is answered with, put together as bytes: its three lines, or the line of the refusal.
 use gate::LogAnswer;
-use gate::LogFault;
-use gate::Outdoors;
-use gate::faults;
 use gate::logs;
+use gate_days::faults;
 ghost use mathlib.Core.Path.{_≡_};
-ghost use Prim.Native.Nat.{_+_, _≤_};
+ghost use Prim.Native.Nat.{_≤_};
 ghost use lib.ListN.{length};
 ghost use Rattle.base.specs.Wrote.{Wrote};
-ghost use Rattle.gate_answer.specs.Lines.{outdoorsLines, refusalLine, answerLines};
-ghost use Rattle.gate_answer.specs.Program.{digitsMost, PutNumber, answerRoom, answerOf};
+ghost use Rattle.gate_answer.specs.Lines.{answerLines};
+ghost use Rattle.gate_answer.specs.Program.{answerRoom, answerOf};
 
-// Longer than any answer.
-pub const ANSWER_ROOM: usize = 192;
+// Longer than any answer: the three lines are the longest.
+pub const ANSWER_ROOM: usize = outdoors_lines::LINES_ROOM;
 
 // An answer, and its bytes from the front on; those behind them are zeros.
 pub struct PutAnswer {
@@ -21,42 +19,15 @@ pub struct PutAnswer {
     pub length: usize,
 }
 
-// A text, and a whole number behind it.
-fn put_number(out: &mut [u8], at: usize, text: &[u8], n: u64) -> usize
-    requires { ⌜ at + length (now text) + digitsMost ≤ length (now out) ⌝ }
-    ensures { λ r. ⌜ PutNumber (now (out .entry)) at (now (text .entry)) n (now (out .exit)) r ⌝ }
-{
-    let a = base::put(out, at, text);
-    decimal::put_whole(out, a, n)
-}
-
-fn put_outdoors(out: &mut [u8], o: Outdoors) -> usize
-    requires { ⌜ answerRoom ≤ length (now out) ⌝ }
-    ensures { λ r. ⌜ Wrote (now (out .entry)) 0 (outdoorsLines o) (now (out .exit)) r ⌝ }
-{
-    let a = put_number(out, 0, b"grazing_days,", o.grazing_days as u64);
-    let b = put_number(out, a, b"\r\nyard_days,", o.yard_days as u64);
-    let c = put_number(out, b, b"\r\ngrazing_hours,", (o.grazing_hours / 10) as u64);
-    let d = put_number(out, c, b".", (o.grazing_hours % 10) as u64);
-    base::put(out, d, b"\r\n")
-}
-
-fn put_refusal(out: &mut [u8], fault: LogFault, record: usize) -> usize
-    requires { ⌜ answerRoom ≤ length (now out) ⌝ }
-    ensures { λ r. ⌜ Wrote (now (out .entry)) 0 (refusalLine fault «record») (now (out .exit)) r ⌝ }
-{
-    let a = put_number(out, 0, b"refused,", faults::number_of(fault));
-    let b = put_number(out, a, b",", record as u64);
-    base::put(out, b, b"\r\n")
-}
-
 fn put_lines(out: &mut [u8], answer: LogAnswer) -> usize
     requires { ⌜ answerRoom ≤ length (now out) ⌝ }
     ensures { λ r. ⌜ Wrote (now (out .entry)) 0 (answerLines answer) (now (out .exit)) r ⌝ }
 {
     match answer {
-        LogAnswer::Gives(o) => put_outdoors(out, o),
-        LogAnswer::Refused(fault, record) => put_refusal(out, fault, record),
+        LogAnswer::Gives(o) => outdoors_lines::put_outdoors(out, o),
+        LogAnswer::Refused(fault, record) => {
+            refusal_line::put_refusal(out, faults::number_of(fault), record)
+        }
     }
 }
 

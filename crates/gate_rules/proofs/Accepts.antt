@@ -9,26 +9,26 @@ use native.Mathlib.Omega.{arith}
 use lib.ListN.{length}
 use borrow.Author.Tests.{le-ltb}
 use Rattle.base.proofs.Clash.{clash}
-use Rattle.csv.specs.Reading.{Reading, _then_, end, readingOf}
-use Rattle.csv.proofs.Files.{read-file, file-read}
+use Rattle.grammar.specs.Reading.{Reading, _then_, end, readingOf}
+use Rattle.grammar.proofs.Files.{read-file, file-read}
 use Rattle.rules.specs.Lists.{Pairs}
-use Rattle.rules.specs.Rules.{Record}
-use Rattle.rules.proofs.Readings.{thens, whole-thens}
+use Rattle.first_refusal.specs.Records.{Record}
+use Rattle.first_refusal.proofs.Readings.{thens, whole-thens}
 use Rattle.calendar.specs.declared.Date.{Date}
 use Rattle.calendar.specs.declared.Due.{Due}
 use Rattle.calendar.specs.declared.Due.the-variants.{NewYear}
 use Rattle.calendar.specs.Calendar.{yearLength, newYear, nextDate, datesFrom, sameDay, sameDate}
 use Rattle.calendar.specs.Following.{isDue, dueAfter}
 use Rattle.calendar.proofs.Years.{at-front, at-most}
-use Rattle.gate.specs.declared.Day.{Day}
-use Rattle.gate.specs.declared.Tally.{Tally}
-use Rattle.gate.specs.declared.Outdoors.{Outdoors}
+use Rattle.outdoors.specs.declared.Day.{Day}
+use Rattle.outdoors.specs.declared.Tally.{Tally}
+use Rattle.outdoors.specs.declared.Outdoors.{Outdoors}
 use Rattle.gate.specs.declared.LogAnswer.{LogAnswer}
 use Rattle.gate.specs.declared.LogAnswer.the-variants.{Gives}
-use Rattle.gate.specs.Outdoors.{outdoorsOf}
-use Rattle.gate.specs.Tallies.{tally, withDay}
+use Rattle.outdoors.specs.Outdoors.{outdoorsOf}
+use Rattle.outdoors.specs.Tallies.{tally, withDay}
 use Rattle.gate.specs.Logs.{progress, nothingRead, finished, readFrom, readLog}
-use Rattle.gate.proofs.Tallied.{tallyOf, tally-last, tally-outdoors}
+use Rattle.outdoors.proofs.Tallied.{tallyOf, tally-last, tally-outdoors}
 use Rattle.gate_rules.specs.Rules.{RecordSays, datesOf, logMost, KeepsLog}
 use Rattle.gate_rules.proofs.Days.{said}
 use Rattle.gate_rules.proofs.Steps.{one-same, dateAt, after-next, due-next, due-end}

@@ -1,6 +1,6 @@
 -- What is answered of a log, record by record from the front, and what that tells of its records. Assumes nothing.
 use Prim.Native.Nat.{ℕ, _+_, _<_, _≤_}
-use mathlib.Core.Path.{_≡_, refl, sym, ap, subst, _∙_}
+use mathlib.Core.Path.{_≡_, refl, sym, subst, _∙_}
 use mathlib.Core.Bool.{Bool, true, false}
 use mathlib.Core.List.{List, [], _∷_, _++_}
 use native.Mathlib.Omega.{arith}
@@ -8,23 +8,24 @@ use lib.Dec.{ltb}
 use lib.ListN.{length, length-append}
 use borrow.Author.Tests.{ltb-true, ltb-false}
 use Rattle.base.specs.Pick.{pick}
-use Rattle.csv.specs.Reading.{Reading, _then_, end, broken, readingOf}
-use Rattle.rules.specs.Rules.{Record}
+use Rattle.grammar.specs.Reading.{Reading, _then_, end, broken, readingOf}
+use Rattle.first_refusal.specs.Records.{Record}
+use Rattle.first_refusal.proofs.Clean.{CleanOf, clean-none, clean-last}
 use Rattle.rules.specs.Lists.{Last}
-use Rattle.rules.proofs.Readings.{thens, thens-append}
+use Rattle.first_refusal.proofs.Readings.{thens, thens-append}
 use Rattle.calendar.specs.declared.Date.{Date}
 use Rattle.calendar.specs.Calendar.{IsEve}
-use Rattle.calendar.specs.Texts.{IsDate}
-use Rattle.gate.specs.declared.Day.{Day}
+use Rattle.dates.specs.Texts.{IsDate}
+use Rattle.outdoors.specs.declared.Day.{Day}
 use Rattle.gate.specs.declared.Progress.{Progress}
-use Rattle.gate.specs.declared.LogFault.{LogFault}
-use Rattle.gate.specs.declared.LogFault.the-variants.{LogTooLong, RecordBroken, WrongDate}
+use Rattle.gate_days.specs.declared.LogFault.{LogFault}
+use Rattle.gate_days.specs.declared.LogFault.the-variants.{LogTooLong, RecordBroken, WrongDate}
 use Rattle.gate.specs.declared.LogAnswer.{LogAnswer}
 use Rattle.gate.specs.declared.LogAnswer.the-variants.{Gives, Refused}
 use Rattle.gate.specs.declared.logs.Taken.{Taken}
 use Rattle.gate.specs.declared.logs.Taken.the-variants.{Further, Wrong}
-use Rattle.gate.specs.Refusals.{number}
-use Rattle.gate.specs.Outdoors.{outdoorsOf}
+use Rattle.gate_days.specs.Refusals.{number}
+use Rattle.outdoors.specs.Outdoors.{outdoorsOf}
 use Rattle.gate.specs.Logs.{nothingRead, readFrom, readLog}
 use Rattle.gate_rules.specs.Rules.{dateText, LogOf, logMost}
 use Rattle.gate_rules.specs.Refusals.{Applies}
@@ -34,38 +35,7 @@ use Rattle.gate_rules.proofs.Steps.{whole, early, finish}
 -- ---- records for which none of 3, 7 and 14 applies
 
 abbrev pub Clean : List Record → Type 0
-Clean rs =
-    (a : List Record) (cs : Record) (b : List Record) → rs ≡ a ++ (cs ∷ b) → (f : LogFault) → Applies a cs f → ⊥
-
--- where a record stands in a list with one more at its end
-data Splits (rs : List Record) (cs : Record) (a : List Record) (c : Record) : Type 0 where
-  at-end : rs ≡ a → cs ≡ c → Splits rs cs a c
-  within : (b : List Record) → rs ≡ a ++ (c ∷ b) → Splits rs cs a c
-
-not-nil : {R : Type 0} (a : List Record) (c : Record) (b : List Record) → [] ≡ a ++ (c ∷ b) → R
-not-nil a c b e = absurd (omega (arith, ap length e, length-append a (c ∷ b)))
-
-splits : (rs : List Record) (cs : Record) (a : List Record) (c : Record) (b : List Record)
-    → rs ++ (cs ∷ []) ≡ a ++ (c ∷ b) → Splits rs cs a c
-splits [] cs [] c b e = at-end refl (cc)
-splits [] cs (x ∷ a) c b e = let d : [] ≡ a ++ (c ∷ b) = cc in not-nil a c b d
-splits (y ∷ rs) cs [] c b e = let d : y ≡ c = cc in within rs (ap (λ (x : Record). x ∷ rs) d)
-splits (y ∷ rs) cs (x ∷ a) c b e = go (splits rs cs a c b (cc))
-  where
-    go : Splits rs cs a c → Splits (y ∷ rs) cs (x ∷ a) c
-    go (at-end p q) = let d : y ≡ x = cc in at-end (cc) q
-    go (within b′ p) = let d : y ≡ x = cc in within b′ (cc)
-
-clean-none : Clean []
-clean-none a cs b e = not-nil a cs b e
-
-clean-last : (rs : List Record) (cs : Record) → Clean rs → ((f : LogFault) → Applies rs cs f → ⊥)
-    → Clean (rs ++ (cs ∷ []))
-clean-last rs cs clean here a c b e f x = go (splits rs cs a c b e)
-  where
-    go : Splits rs cs a c → ⊥
-    go (at-end p q) = here f (rw (p, q) x)
-    go (within b′ p) = clean a c b′ p f x
+Clean rs = CleanOf Applies rs
 
 -- ---- the answer to a reading
 
@@ -104,7 +74,7 @@ module _ (w : Reading) where
           let n : length (before ++ (cs ∷ [])) + 1 ≡ length before + 1 + 1 =
           omega (arith, length-append before (cs ∷ [])) in
           subst (λ (k : ℕ). Ran w (readFrom k q r)) n
-          (again (before ++ (cs ∷ [])) q on (clean-last before cs clean none)
+          (again (before ++ (cs ∷ [])) q on (clean-last Applies before cs clean none)
           (e ∙ sym (thens-append before (cs ∷ []) r)))
 
 -- ---- the answer to a log
@@ -121,4 +91,5 @@ answered s = go (ltb logMost (length s)) refl
         → Answered s (pick t (Refused LogTooLong 0) (readFrom 1 nothingRead (readingOf s)))
     go true e = too-long (ltb-true logMost (length s) e)
     go false e =
-        read (ltb-false logMost (length s) e) (run (readingOf s) [] nothingRead start clean-none (readingOf s) refl)
+        read (ltb-false logMost (length s) e)
+        (run (readingOf s) [] nothingRead start (clean-none Applies) (readingOf s) refl)

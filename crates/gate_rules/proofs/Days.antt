@@ -9,27 +9,27 @@ use lib.ListN.{length}
 use borrow.Author.Tests.{eqb-true, eqb-false, ltb-true, ltb-false}
 use Rattle.base.specs.Pick.{pick}
 use Rattle.base.proofs.Clash.{clash}
-use Rattle.csv.specs.Reading.{partsOf}
-use Rattle.decimal.specs.declared.Number.{Number}
-use Rattle.decimal.specs.declared.Number.the-variants.{Value, Unreadable}
-use Rattle.decimal.specs.Numbers.{IsNumber}
-use Rattle.decimal.specs.Reading.{numberOf}
-use Rattle.decimal.proofs.Agrees.{number-iff, unreadable-iff, one-value}
+use Rattle.grammar.specs.Reading.{partsOf}
+use Rattle.digits.specs.declared.Number.{Number}
+use Rattle.digits.specs.declared.Number.the-variants.{Value, Unreadable}
+use Rattle.numbers.specs.Numbers.{IsNumber}
+use Rattle.numbers.specs.Reading.{numberOf}
+use Rattle.numbers.proofs.Agrees.{number-iff, unreadable-iff, one-value}
 use Rattle.rules.specs.Lists.{Pairs}
-use Rattle.rules.specs.Rules.{Record}
+use Rattle.first_refusal.specs.Records.{Record}
 use Rattle.calendar.specs.declared.Date.{Date}
-use Rattle.calendar.specs.declared.DateRead.{DateRead}
-use Rattle.calendar.specs.declared.DateRead.the-variants as dates
-use Rattle.calendar.specs.Reading.{dateOf}
-use Rattle.calendar.specs.Texts.{IsDate}
-use Rattle.calendar.proofs.DateTexts.{date-iff, one-date}
-use Rattle.gate.specs.declared.Day.{Day}
-use Rattle.gate.specs.declared.LogFault.the-variants.{NotThreeFields, BadHours, WrongDate}
-use Rattle.gate.specs.declared.days.Hours.{Hours}
-use Rattle.gate.specs.declared.days.Hours.the-variants.{Are, Unfit}
-use Rattle.gate.specs.declared.days.DayRead.{DayRead}
-use Rattle.gate.specs.declared.days.DayRead.the-variants as reads
-use Rattle.gate.specs.Days.{day, hoursBy, hoursOf, dayBy, dayOf}
+use Rattle.dates.specs.declared.DateRead.{DateRead}
+use Rattle.dates.specs.declared.DateRead.the-variants as dates
+use Rattle.dates.specs.Reading.{dateOf}
+use Rattle.dates.specs.Texts.{IsDate}
+use Rattle.dates.proofs.DateTexts.{date-iff, one-date}
+use Rattle.outdoors.specs.declared.Day.{Day}
+use Rattle.gate_days.specs.declared.LogFault.the-variants.{NotThreeFields, BadHours, WrongDate}
+use Rattle.gate_days.specs.declared.days.Hours.{Hours}
+use Rattle.gate_days.specs.declared.days.Hours.the-variants.{Are, Unfit}
+use Rattle.gate_days.specs.declared.days.DayRead.{DayRead}
+use Rattle.gate_days.specs.declared.days.DayRead.the-variants as reads
+use Rattle.gate_days.specs.Days.{day, hoursBy, hoursOf, dayBy, dayOf}
 use Rattle.gate_rules.specs.Rules.{dateText, pastureText, yardText, HoursAre, RecordSays}
 
 -- ---- hours

@@ -3,17 +3,18 @@ use Prim.Native.String.{String}
 use mathlib.Core.Path.{_≡_, refl}
 use mathlib.Core.List.{[], _∷_, map}
 use Rattle.base.specs.Text.{bytes}
-use Rattle.csv.specs.Reading.{atStart, inPlain, inQuotes, pastQuote, pastCR, readingFrom, readingOf}
-use Rattle.decimal.specs.Reading.{fractionFrom, pointFrom, wholeFrom, zeroFrom, anyNumberOf, numberOf}
+use Rattle.grammar.specs.Reading.{atStart, inPlain, inQuotes, pastQuote, pastCR, readingFrom, readingOf}
+use Rattle.numbers.specs.Reading.{wholeFrom, zeroFrom, anyNumberOf, numberOf}
+use Rattle.digits.specs.Digits.{fractionFrom, pointFrom}
 use Rattle.calendar.specs.Calendar.{date, isLeap, daysIn}
 use Rattle.calendar.specs.Following.{dueAfter}
-use Rattle.calendar.specs.Reading.{pairOf, dateOf}
-use Rattle.gate.specs.declared.LogFault.the-variants.{RecordBroken, NotThreeFields, BadHours, WrongDate}
+use Rattle.dates.specs.Reading.{pairOf, dateOf}
+use Rattle.gate_days.specs.declared.LogFault.the-variants.{RecordBroken, NotThreeFields, BadHours, WrongDate}
 use Rattle.gate.specs.declared.LogAnswer.{LogAnswer}
 use Rattle.gate.specs.declared.LogAnswer.the-variants.{Refused}
-use Rattle.gate.specs.Days.{day, hoursOf, dayOf}
-use Rattle.gate.specs.Outdoors.{outdoorsOf}
-use Rattle.gate.specs.Tallies.{withDay}
+use Rattle.gate_days.specs.Days.{day, hoursOf, dayOf}
+use Rattle.outdoors.specs.Outdoors.{outdoorsOf}
+use Rattle.outdoors.specs.Tallies.{withDay}
 use Rattle.gate.specs.Logs.{finished, readFrom, readLog}
 
 abbrev answer : String → LogAnswer

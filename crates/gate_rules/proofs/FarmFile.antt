@@ -8,17 +8,17 @@ use lib.Dec.{lit<}
 use lib.ListN.{length}
 use Rattle.base.specs.Text.{bytes}
 use Rattle.base.specs.Each.{Each, none, more}
-use Rattle.decimal.specs.Numbers.{Digits, Whole, value, IsNumber}
+use Rattle.numbers.specs.Numbers.{Digits, Whole, value, IsNumber}
 use Rattle.decimal.specs.Writing.{wholeOf}
-use Rattle.decimal.proofs.Agrees.{same-number, value-append}
+use Rattle.numbers.proofs.Agrees.{same-number, value-append}
 use Rattle.decimal.proofs.Widths.{whole-length, width-small}
 use Rattle.decimal.proofs.Written.{whole-number}
 use Rattle.inputs.specs.Inputs.{formOf}
 use Rattle.rules.specs.Rules.{GoodLabel, ValueIs, RecordSays}
-use Rattle.gate.specs.declared.Outdoors.{Outdoors}
+use Rattle.outdoors.specs.declared.Outdoors.{Outdoors}
 use Rattle.gate.specs.declared.LogAnswer.the-variants.{Gives}
 use Rattle.gate.specs.Logs.{readLog}
-use Rattle.gate_answer.specs.Lines.{tenthsOf}
+use Rattle.outdoors_lines.specs.Lines.{tenthsOf}
 use Rattle.gate_rules.specs.FarmFile.{Fits, entriesOf, Takes}
 use Rattle.gate_rules.proofs.Accepts.{accepts-exactly}
 use Rattle.gate_rules.proofs.Ranges.{log-fits}

@@ -12,13 +12,13 @@ use borrow.Author.Tests.{eqb-false}
 use Rattle.base.specs.Pick.{pick}
 use Rattle.base.specs.Each.{Each, none, more}
 use Rattle.rules.specs.Lists.{Pairs}
-use Rattle.rules.specs.Rules.{Record}
+use Rattle.first_refusal.specs.Records.{Record}
 use Rattle.calendar.specs.declared.Date.{Date}
 use Rattle.calendar.specs.Calendar.{isLeap, newYear, nextDate, after, datesFrom, yearDates, isLeapDay}
 use Rattle.calendar.proofs.Years.{leap-day, dates-length}
-use Rattle.gate.specs.declared.Day.{Day}
-use Rattle.gate.specs.declared.Outdoors.{Outdoors}
-use Rattle.gate.specs.Outdoors.{those, counted, grazed, pastureHours, meanOf, outdoorsOf}
+use Rattle.outdoors.specs.declared.Day.{Day}
+use Rattle.outdoors.specs.declared.Outdoors.{Outdoors}
+use Rattle.outdoors.specs.Outdoors.{those, counted, grazed, pastureHours, meanOf, outdoorsOf}
 use Rattle.gate_rules.specs.Rules.{RecordSays, datesOf, LogOf, KeepsLog}
 use Rattle.gate_rules.specs.FarmFile.{Fits}
 

@@ -3,30 +3,30 @@
 use Prim.Native.Nat.{ℕ, suc, _+_, _<_, _≤_}
 use mathlib.Core.Path.{_≡_, refl, sym, ap, subst, _∙_}
 use mathlib.Core.Logic.{_↔_, _⊎_, inl, inr}
-use mathlib.Core.Bool.{Bool, true, false}
 use mathlib.Core.List.{List, _∷_}
 use native.Mathlib.Omega.{arith}
-use lib.Dec.{ltb}
 use lib.ListN.{length, length-append}
-use borrow.Author.Tests.{ltb-true, ltb-false}
 use Rattle.base.specs.Pick.{if_is_then_else_}
 use Rattle.base.proofs.Clash.{clash}
-use Rattle.csv.specs.Reading.{Reading, _then_, end, broken, readingOf}
-use Rattle.csv.proofs.Files.{read-file, breaks-read, read-breaks}
+use Rattle.grammar.specs.Reading.{Reading, _then_, end, broken, readingOf}
+use Rattle.grammar.proofs.Files.{read-file, breaks-read, read-breaks}
 use Rattle.rules.specs.Lists.{Last}
-use Rattle.rules.specs.Rules.{Record}
-use Rattle.rules.specs.Refusals.{RecordAt}
-use Rattle.rules.proofs.Readings.{thens, whole-thens, broken-thens, record-read, read-record, Stops, at-end, at-break}
-use Rattle.rules.proofs.Readings.{split-read, one-thens, shorter, as-long, split-at, none-broken, same-records}
+use Rattle.first_refusal.specs.Records.{Record, RecordAt}
+use Rattle.first_refusal.proofs.Readings.{thens, whole-thens, broken-thens, record-read, read-record}
+use Rattle.first_refusal.proofs.Readings.{Stops, at-end, at-break}
+use Rattle.first_refusal.proofs.Readings.{split-read, one-thens, shorter, as-long, split-at, none-broken, same-records}
+use Rattle.first_refusal.proofs.Order.{Order, sooner, later, same, by-turn, One, one-of-first}
 use Rattle.calendar.specs.declared.Date.{Date}
 use Rattle.calendar.specs.Calendar.{IsEve}
-use Rattle.calendar.specs.Texts.{IsDate}
-use Rattle.gate.specs.declared.Outdoors.{Outdoors}
-use Rattle.gate.specs.declared.LogFault.{LogFault}
-use Rattle.gate.specs.declared.LogFault.the-variants.{LogTooLong, RecordBroken, NotThreeFields, BadHours, WrongDate}
+use Rattle.dates.specs.Texts.{IsDate}
+use Rattle.outdoors.specs.declared.Outdoors.{Outdoors}
+use Rattle.gate_days.specs.declared.LogFault.{LogFault}
+use Rattle.gate_days.specs.declared.LogFault.the-variants.{LogTooLong, RecordBroken, NotThreeFields, BadHours}
+use Rattle.gate_days.specs.declared.LogFault.the-variants.{WrongDate}
 use Rattle.gate.specs.declared.LogAnswer.{LogAnswer}
 use Rattle.gate.specs.declared.LogAnswer.the-variants.{Gives, Refused}
-use Rattle.gate.specs.Refusals.{number, says}
+use Rattle.gate_days.specs.Refusals.{number}
+use Rattle.gate.specs.Answers.{says}
 use Rattle.gate.specs.Logs.{readLog}
 use Rattle.gate_rules.specs.Rules.{dateText, logMost, KeepsLog}
 use Rattle.gate_rules.specs.Refusals.{Applies, AppliesAt, Sooner, too-long-first, from-the-front, in-that-order}
@@ -225,35 +225,13 @@ outcome {s} (read short r) = go r
 
 -- ---- there is one first refusal
 
-data Order (m : ℕ) (f : LogFault) (n : ℕ) (g : LogFault) : Type 0 where
-  sooner : Sooner m f n g → Order m f n g
-  later : Sooner n g m f → Order m f n g
-  same : m ≡ n → f ≡ g → Order m f n g
+by-records : (m n : ℕ) (f g : LogFault) → 1 ≤ m → 1 ≤ n → Order Sooner m f n g
+by-records m n f g h k =
+    by-turn Sooner m n f g (number f) (number g) (λ l. from-the-front {fault = f} {other = g} h l)
+    (λ l. from-the-front {fault = g} {other = f} k l) (λ l. in-that-order {fault = f} {other = g} h l)
+    (λ l. in-that-order {fault = g} {other = f} h l) (one-fault f g)
 
-by-records : (m n : ℕ) (f g : LogFault) → 1 ≤ m → 1 ≤ n → Order m f n g
-by-records m n f g h k = go (ltb m n) (ltb n m) refl refl
-  where
-    in-one : m ≡ n → (t u : Bool) → ltb (number f) (number g) ≡ t → ltb (number g) (number f) ≡ u → Order m f n g
-    in-one e true u et eu =
-        sooner (subst (λ (i : ℕ). Sooner m f i g) e
-        (in-that-order {fault = f} {other = g} h (ltb-true (number f) (number g) et)))
-    in-one e false true et eu =
-        later (subst (λ (i : ℕ). Sooner i g m f) e
-        (in-that-order {fault = g} {other = f} h (ltb-true (number g) (number f) eu)))
-    in-one e false false et eu =
-        let a = ltb-false (number f) (number g) et in
-        let b = ltb-false (number g) (number f) eu in
-        same e (one-fault f g (omega arith))
-
-    go : (t u : Bool) → ltb m n ≡ t → ltb n m ≡ u → Order m f n g
-    go true u et eu = sooner (from-the-front {fault = f} {other = g} h (ltb-true m n et))
-    go false true et eu = later (from-the-front {fault = g} {other = f} k (ltb-true n m eu))
-    go false false et eu =
-        let a = ltb-false m n et in
-        let b = ltb-false n m eu in
-        in-one (omega arith) (ltb (number f) (number g)) (ltb (number g) (number f)) refl refl
-
-order : {m n : ℕ} {f g : LogFault} → Rank m f → Rank n g → Order m f n g
+order : {m n : ℕ} {f g : LogFault} → Rank m f → Rank n g → Order Sooner m f n g
 order before-all before-all = same refl refl
 order before-all (of-record {f = g} _ h) = sooner (too-long-first {fault = g} (omega arith))
 order before-all after-all = sooner (too-long-first {fault = WrongDate} (omega arith))
@@ -264,17 +242,8 @@ order after-all before-all = later (too-long-first {fault = WrongDate} (omega ar
 order after-all (of-record {f = g} h _) = later (then-the-end {fault = g} h)
 order after-all after-all = same refl refl
 
-pub record One (m : ℕ) (f : LogFault) (n : ℕ) (g : LogFault) : Type 0 where
-  pub at-record : m ≡ n
-  pub fault : f ≡ g
-
 pub one-first : {s : List ℕ} {m n : ℕ} {f g : LogFault} → First s m f → First s n g → One m f n g
-one-first {s} {m} {n} {f} {g} a b = go (order (rank (a .applies)) (rank (b .applies)))
-  where
-    go : Order m f n g → One m f n g
-    go (sooner d) = absurd (b .none-sooner m f (a .applies) d)
-    go (later d) = absurd (a .none-sooner n g (b .applies) d)
-    go (same p q) = record { at-record = p; fault = q }
+one-first x y = one-of-first (λ a b. order (rank a) (rank b)) x y
 
 -- ---- the theorems
 

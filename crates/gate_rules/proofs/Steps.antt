@@ -10,9 +10,9 @@ use lib.Dec.{eqb, ltb}
 use borrow.Author.Tests.{eq-eqb, eqb-true, ltb-true, ltb-false}
 use Rattle.base.specs.Pick.{pick}
 use Rattle.base.proofs.Clash.{clash}
-use Rattle.csv.specs.Reading.{partsOf}
+use Rattle.grammar.specs.Reading.{partsOf}
 use Rattle.rules.specs.Lists.{Last, only, Pairs}
-use Rattle.rules.specs.Rules.{Record}
+use Rattle.first_refusal.specs.Records.{Record}
 use Rattle.rules.proofs.Lists.{last-append, last-none, last-one, pairs-append}
 use Rattle.calendar.specs.declared.Date.{Date}
 use Rattle.calendar.specs.declared.Due.{Due}
@@ -20,24 +20,24 @@ use Rattle.calendar.specs.declared.Due.the-variants.{On, Nothing}
 use Rattle.calendar.specs.Calendar.{date, yearLength, newYear, nextDate, after, datesFrom, sameDay}
 use Rattle.calendar.specs.Calendar.{sameDate, IsEve}
 use Rattle.calendar.specs.Following.{isDue, dueAfter}
-use Rattle.calendar.specs.Texts.{IsDate}
-use Rattle.calendar.proofs.DateTexts.{one-date}
+use Rattle.dates.specs.Texts.{IsDate}
+use Rattle.dates.proofs.DateTexts.{one-date}
 use Rattle.calendar.proofs.Years.{At, at-front, at-most, eve-at, next-at, last-at, after-at, dates-last}
-use Rattle.gate.specs.declared.Day.{Day}
+use Rattle.outdoors.specs.declared.Day.{Day}
 use Rattle.gate.specs.declared.Progress.{Progress}
-use Rattle.gate.specs.declared.LogFault.{LogFault}
-use Rattle.gate.specs.declared.LogFault.the-variants.{NotThreeFields, BadHours, WrongDate}
+use Rattle.gate_days.specs.declared.LogFault.{LogFault}
+use Rattle.gate_days.specs.declared.LogFault.the-variants.{NotThreeFields, BadHours, WrongDate}
 use Rattle.gate.specs.declared.LogAnswer.{LogAnswer}
 use Rattle.gate.specs.declared.LogAnswer.the-variants.{Gives, Refused}
-use Rattle.gate.specs.declared.days.DayRead.{DayRead}
+use Rattle.gate_days.specs.declared.days.DayRead.{DayRead}
 use Rattle.gate.specs.declared.logs.Taken.{Taken}
 use Rattle.gate.specs.declared.logs.Taken.the-variants.{Further, Wrong}
-use Rattle.gate.specs.Refusals.{number}
-use Rattle.gate.specs.Days.{dayOf}
-use Rattle.gate.specs.Tallies.{withDay}
-use Rattle.gate.specs.Outdoors.{outdoorsOf}
+use Rattle.gate_days.specs.Refusals.{number}
+use Rattle.gate_days.specs.Days.{dayOf}
+use Rattle.outdoors.specs.Tallies.{withDay}
+use Rattle.outdoors.specs.Outdoors.{outdoorsOf}
 use Rattle.gate.specs.Logs.{progress, nothingRead, takenBy, finished}
-use Rattle.gate.proofs.Tallied.{tallyOf, tally-last, tally-outdoors}
+use Rattle.outdoors.proofs.Tallied.{tallyOf, tally-last, tally-outdoors}
 use Rattle.gate_rules.specs.Rules.{dateText, RecordSays, datesOf, LogOf}
 use Rattle.gate_rules.specs.Refusals.{DueAfter, new-year, next, Applies, not-three-fields, bad-hours}
 use Rattle.gate_rules.specs.Refusals.{wrong-date}

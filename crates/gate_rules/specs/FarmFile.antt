@@ -8,9 +8,10 @@ use Rattle.decimal.specs.Writing.{wholeOf}
 use Rattle.inputs.specs.declared.Kind.{Kind}
 use Rattle.inputs.specs.declared.Kind.the-variants.{Roughage, Cattle, DairyCow}
 use Rattle.farm.specs.declared.Given.the-variants.{Value}
-use Rattle.rules.specs.Rules.{Record, RecordSays}
-use Rattle.gate.specs.declared.Outdoors.{Outdoors}
-use Rattle.gate_answer.specs.Lines.{tenthsOf}
+use Rattle.first_refusal.specs.Records.{Record}
+use Rattle.rules.specs.Rules.{RecordSays}
+use Rattle.outdoors.specs.declared.Outdoors.{Outdoors}
+use Rattle.outdoors_lines.specs.Lines.{tenthsOf}
 
 -- days and hours as a farm file may have them, hours in tenths
 pub record Fits (o : Outdoors) : Type 0 where

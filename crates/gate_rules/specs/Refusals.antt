@@ -4,17 +4,19 @@ use Prim.Native.Nat.{ℕ, _+_, _<_, _≤_}
 use mathlib.Core.Path.{_≡_}
 use mathlib.Core.List.{List, []}
 use lib.ListN.{length}
-use Rattle.csv.specs.Grammar.{FileOf, Breaks}
+use Rattle.grammar.specs.Grammar.{FileOf, Breaks}
 use Rattle.rules.specs.Lists.{Last}
-use Rattle.rules.specs.Rules.{Record}
-use Rattle.rules.specs.Refusals.{RecordAt}
+use Rattle.first_refusal.specs.First.{FirstOf}
+use Rattle.first_refusal.specs.Records.{Record, RecordAt}
 use Rattle.calendar.specs.declared.Date.{Date}
 use Rattle.calendar.specs.Calendar.{newYear, nextDate, IsEve}
-use Rattle.calendar.specs.Texts.{IsDate}
-use Rattle.gate.specs.declared.LogFault.{LogFault}
-use Rattle.gate.specs.declared.LogFault.the-variants.{LogTooLong, RecordBroken, NotThreeFields, BadHours, WrongDate}
-use Rattle.gate.specs.declared.Outdoors.{Outdoors}
-use Rattle.gate.specs.Refusals.{number, Says, gives, refuses}
+use Rattle.dates.specs.Texts.{IsDate}
+use Rattle.gate_days.specs.declared.LogFault.{LogFault}
+use Rattle.gate_days.specs.declared.LogFault.the-variants.{LogTooLong, RecordBroken, NotThreeFields, BadHours}
+use Rattle.gate_days.specs.declared.LogFault.the-variants.{WrongDate}
+use Rattle.outdoors.specs.declared.Outdoors.{Outdoors}
+use Rattle.gate_days.specs.Refusals.{number}
+use Rattle.gate.specs.Answers.{Says, gives, refuses}
 use Rattle.gate_rules.specs.Rules.{dateText, HoursAre, logMost, KeepsLog}
 
 -- ---- 3, 7 and 14, of the record cs that stands behind these
@@ -51,9 +53,8 @@ pub data Sooner : ℕ → LogFault → ℕ → LogFault → Type 0 where
   then-the-end : {m : ℕ} {fault : LogFault} → 1 ≤ m → Sooner m fault 0 WrongDate
 
 -- the first refusal: it applies, and none that applies is sooner
-pub record First (s : List ℕ) (n : ℕ) (fault : LogFault) : Type 0 where
-  pub applies : AppliesAt s n fault
-  pub none-sooner : (m : ℕ) (other : LogFault) → AppliesAt s m other → Sooner m other n fault → ⊥
+abbrev pub First : List ℕ → ℕ → LogFault → Type 0
+First s n fault = FirstOf (AppliesAt s) Sooner n fault
 
 -- what is said of a log in these numbers: what it comes to, or the first refusal's number and its record
 pub data Told (s : List ℕ) : Says → Type 0 where

@@ -1,21 +1,21 @@
 -- 02, W10, as statements about a log's records: what one record says, which days are a year's log, and what they come
--- to. Which records a log has is the grammar of csv. Nothing here goes through a log; proofs/Accepts.antt shows that
--- the reader accepts exactly the logs that keep these rules. To be believed; the limits stand here a second time on
--- purpose, apart from those that the code goes by.
+-- to. Which records a log has is the grammar of crate `grammar`. Nothing here goes through a log; proofs/Accepts.antt
+-- shows that the reader accepts exactly the logs that keep these rules. To be believed; the limits stand here a second
+-- time on purpose, apart from those that the code goes by.
 use Prim.Native.Nat.{ℕ, _+_, _≤_}
 use mathlib.Core.Path.{_≡_}
 use mathlib.Core.List.{List, [], map}
 use lib.ListN.{length, getD}
-use Rattle.csv.specs.Grammar.{FileOf}
-use Rattle.decimal.specs.Numbers.{IsNumber}
+use Rattle.grammar.specs.Grammar.{FileOf}
+use Rattle.numbers.specs.Numbers.{IsNumber}
 use Rattle.rules.specs.Lists.{Pairs}
-use Rattle.rules.specs.Rules.{Record}
+use Rattle.first_refusal.specs.Records.{Record}
 use Rattle.calendar.specs.declared.Date.{Date}
 use Rattle.calendar.specs.Calendar.{yearDates}
-use Rattle.calendar.specs.Texts.{IsDate}
-use Rattle.gate.specs.declared.Day.{Day}
-use Rattle.gate.specs.declared.Outdoors.{Outdoors}
-use Rattle.gate.specs.Outdoors.{outdoorsOf}
+use Rattle.dates.specs.Texts.{IsDate}
+use Rattle.outdoors.specs.declared.Day.{Day}
+use Rattle.outdoors.specs.declared.Outdoors.{Outdoors}
+use Rattle.outdoors.specs.Outdoors.{outdoorsOf}
 
 -- ---- limits
 

@@ -15,7 +15,9 @@ use Rattle.farm.specs.declared.Slot.{Slot}
 use Rattle.farm.specs.declared.Herd.{Herd}
 use Rattle.farm.specs.declared.Checked.the-variants.{Accepted}
 use Rattle.farm.specs.Labels.{labelOf, byteOk, labelOk}
-use Rattle.checks.specs.Checks.{checkHerd, lacks, unfit}
+use Rattle.herd_tests.specs.Tests.{lacks}
+use Rattle.fits.specs.Fits.{unfit}
+use Rattle.checks.specs.Checks.{checkHerd}
 use Rattle.kinds.specs.Choices.{yardAt, floorAt}
 use Rattle.yard.specs.Yard.{«days_with_grazing_and_yard», shareLowered, «share_excretion_with_grazing», yardTime}
 use Rattle.pasture.specs.Pasture.{outdoorGrazingTime}

@@ -1,3 +1,1 @@
 pub mod Arms
-pub mod Searches
-pub mod Finds

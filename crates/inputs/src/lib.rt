@@ -1,17 +1,13 @@
-// 01's list of inputs, once: for each kind of herd its inputs, each with its name and how its value reads, and for each
-// module the stretch of its kind's inputs. The reader, the record checks and whatever writes a farm go by it. An input
-// is known by its kind and its slot, its place among the inputs of the kind. A new input is an arm of its kind's
-// function and a row in specs/Inputs.antt, at the end of its kind's, with its kind's count and its module's stretch; a
-// new name or module has its text in crate `names`.
-use names::Found;
+// 01's list of inputs, once: for each kind of herd its inputs, each with its name and how its value reads. The reader,
+// the record checks and whatever writes a farm go by it. An input is known by its kind and its slot, its place among
+// the inputs of the kind. A new input is an arm of its kind's function and a row in specs/Inputs.antt, at the end of
+// its kind's, with its kind's count, and its module's stretch in crate `finding`; a new name or module has its text in
+// crate `words`.
 use names::Names;
 ghost use mathlib.Core.Path.{_≡_};
-ghost use Rattle.names.specs.declared.Found.{Found};
-ghost use Rattle.names.specs.declared.Found.the-variants.{At};
 ghost use Rattle.inputs.specs.declared.Kind.the-variants.{Roughage, Cattle, Pigs, DairyCow};
-ghost use Rattle.inputs.specs.declared.Module.the-variants.{Of};
 ghost use Rattle.inputs.specs.Inputs.{numberOf, sameKind, countOf, rowAt, formOf};
-ghost use Rattle.inputs.specs.Find.{findInput, numbered, findPlaced, findWithin};
+ghost use Rattle.inputs.specs.Numbered.{numbered};
 
 // The four kinds of herd.
 pub enum Kind {
@@ -30,12 +26,6 @@ pub enum Form {
     NoStandard(usize, u32),
     Signed(u16),
     OneOf(Names),
-}
-
-// An input of the list, by its kind and slot, and its form; if there is one.
-pub enum FoundInput {
-    At(Kind, usize, Form),
-    Nowhere,
 }
 
 // 01, "Ranges".
@@ -70,7 +60,8 @@ const HOUSING_FLOOR: Form = Form::OneOf(Names::HousingFloors);
 
 const HOUSING_AIR: Form = Form::OneOf(Names::HousingAirs);
 
-fn number_of(kind: Kind) -> u64
+// The number of a kind, by which tables have its own.
+pub fn number_of(kind: Kind) -> usize
     ensures { λ r. ⌜ r ≡ numberOf kind ⌝ }
 {
     match kind {
@@ -100,20 +91,20 @@ pub fn count_of(kind: Kind) -> usize
 }
 
 // An input: the place of its name among the input names, and the form of its value.
-struct Input(usize, Form);
+pub struct Input(pub usize, pub Form);
 
 // The inputs of each kind, by their slots; past the last slot the last input stands.
 fn roughage(slot: usize) -> Input
     ensures { λ r. ⌜ r ≡ numbered (rowAt Roughage slot) ⌝ }
 {
     match slot {
-        0 => Input(names::ANIMALCATEGORY, CATEGORY),
-        1 => Input(names::ANIMALS, HEAD_COUNT),
-        2 => Input(names::INP_N_EXCRETION, KILOGRAMS_OR_STANDARD),
-        3 => Input(names::TAN_FRACTION, PERCENTAGE_OR_STANDARD),
-        4 => Input(names::FREE_CORRECTION_FACTOR, REDUCTION),
-        5 => Input(names::GRAZING_DAYS, DAYS),
-        _ => Input(names::GRAZING_HOURS, HOURS),
+        0 => Input(words::ANIMALCATEGORY, CATEGORY),
+        1 => Input(words::ANIMALS, HEAD_COUNT),
+        2 => Input(words::INP_N_EXCRETION, KILOGRAMS_OR_STANDARD),
+        3 => Input(words::TAN_FRACTION, PERCENTAGE_OR_STANDARD),
+        4 => Input(words::FREE_CORRECTION_FACTOR, REDUCTION),
+        5 => Input(words::GRAZING_DAYS, DAYS),
+        _ => Input(words::GRAZING_HOURS, HOURS),
     }
 }
 
@@ -121,15 +112,15 @@ fn cattle(slot: usize) -> Input
     ensures { λ r. ⌜ r ≡ numbered (rowAt Cattle slot) ⌝ }
 {
     match slot {
-        0 => Input(names::ANIMALS, HEAD_COUNT),
-        1 => Input(names::INP_N_EXCRETION, KILOGRAMS),
-        2 => Input(names::TAN_FRACTION, PERCENTAGE),
-        3 => Input(names::YARD_DAYS, DAYS),
-        4 => Input(names::EXERCISE_YARD, YARD),
-        5 => Input(names::FLOOR_PROPERTIES_EXERCISE_YARD, FLOOR),
-        6 => Input(names::FREE_CORRECTION_FACTOR, REDUCTION),
-        7 => Input(names::GRAZING_DAYS, DAYS),
-        _ => Input(names::GRAZING_HOURS, HOURS),
+        0 => Input(words::ANIMALS, HEAD_COUNT),
+        1 => Input(words::INP_N_EXCRETION, KILOGRAMS),
+        2 => Input(words::TAN_FRACTION, PERCENTAGE),
+        3 => Input(words::YARD_DAYS, DAYS),
+        4 => Input(words::EXERCISE_YARD, YARD),
+        5 => Input(words::FLOOR_PROPERTIES_EXERCISE_YARD, FLOOR),
+        6 => Input(words::FREE_CORRECTION_FACTOR, REDUCTION),
+        7 => Input(words::GRAZING_DAYS, DAYS),
+        _ => Input(words::GRAZING_HOURS, HOURS),
     }
 }
 
@@ -137,14 +128,14 @@ fn pigs(slot: usize) -> Input
     ensures { λ r. ⌜ r ≡ numbered (rowAt Pigs slot) ⌝ }
 {
     match slot {
-        0 => Input(names::ANIMALS, HEAD_COUNT),
-        1 => Input(names::INP_N_EXCRETION, KILOGRAMS),
-        2 => Input(names::TAN_FRACTION, PERCENTAGE),
-        3 => Input(names::HOUSING_TYPE, HOUSING_TYPE),
-        4 => Input(names::AIR_SCRUBBER, AIR_SCRUBBER),
-        5 => Input(names::MITIGATION_HOUSING_FLOOR, HOUSING_FLOOR),
-        6 => Input(names::MITIGATION_HOUSING_AIR, HOUSING_AIR),
-        _ => Input(names::FREE_CORRECTION_FACTOR, REDUCTION),
+        0 => Input(words::ANIMALS, HEAD_COUNT),
+        1 => Input(words::INP_N_EXCRETION, KILOGRAMS),
+        2 => Input(words::TAN_FRACTION, PERCENTAGE),
+        3 => Input(words::HOUSING_TYPE, HOUSING_TYPE),
+        4 => Input(words::AIR_SCRUBBER, AIR_SCRUBBER),
+        5 => Input(words::MITIGATION_HOUSING_FLOOR, HOUSING_FLOOR),
+        6 => Input(words::MITIGATION_HOUSING_AIR, HOUSING_AIR),
+        _ => Input(words::FREE_CORRECTION_FACTOR, REDUCTION),
     }
 }
 
@@ -153,12 +144,12 @@ fn dairy_cow(slot: usize) -> Input
     ensures { λ r. ⌜ r ≡ numbered (rowAt DairyCow slot) ⌝ }
 {
     match slot {
-        2 => Input(names::TAN_FRACTION, PERCENTAGE_OR_STANDARD),
+        2 => Input(words::TAN_FRACTION, PERCENTAGE_OR_STANDARD),
         _ => cattle(slot),
     }
 }
 
-fn input_at(kind: Kind, slot: usize) -> Input
+pub fn input_at(kind: Kind, slot: usize) -> Input
     ensures { λ r. ⌜ r ≡ numbered (rowAt kind slot) ⌝ }
 {
     match kind {
@@ -174,63 +165,4 @@ pub fn form_of(kind: Kind, slot: usize) -> Form
     ensures { λ r. ⌜ r ≡ formOf kind slot ⌝ }
 {
     input_at(kind, slot).1
-}
-
-// A module: its kind, and the slots of its inputs, from the first to before the last.
-enum Module {
-    Of(Kind, usize, usize),
-    Nowhere,
-}
-
-// The module at a place of the modules.
-fn module_at(place: usize) -> Module
-    ensures { λ r. ⌜ ((name : Found) → findPlaced (At place) name ≡ findWithin r name) ⌝ }
-{
-    match place {
-        names::ROUGHAGE_EXCRETION => Module::Of(Kind::Roughage, 0, 4),
-        names::ROUGHAGE_HOUSING => Module::Of(Kind::Roughage, 4, 5),
-        names::ROUGHAGE_GRAZING => Module::Of(Kind::Roughage, 5, 7),
-        names::CATTLE_EXCRETION => Module::Of(Kind::Cattle, 0, 3),
-        names::CATTLE_OUTDOOR => Module::Of(Kind::Cattle, 3, 9),
-        names::PIGS_EXCRETION => Module::Of(Kind::Pigs, 0, 3),
-        names::PIGS_HOUSING => Module::Of(Kind::Pigs, 3, 4),
-        names::PIGS_AIR_SCRUBBER => Module::Of(Kind::Pigs, 4, 5),
-        names::PIGS_MITIGATION => Module::Of(Kind::Pigs, 5, 7),
-        names::PIGS_FREE_FACTOR => Module::Of(Kind::Pigs, 7, 8),
-        names::DAIRY_EXCRETION => Module::Of(Kind::DairyCow, 0, 3),
-        names::DAIRY_OUTDOOR => Module::Of(Kind::DairyCow, 3, 9),
-        _ => Module::Nowhere,
-    }
-}
-
-// The input whose name has this place, among those of a kind that have these slots.
-fn find_within(kind: Kind, from: usize, to: usize, name: usize) -> FoundInput
-    ensures { λ r. ⌜ r ≡ findWithin (Of kind «from» to) (At name) ⌝ }
-{
-    let mut slot = from;
-    while slot < to {
-        let input = input_at(kind, slot);
-        if input.0 == name {
-            let form = input.1;
-            return FoundInput::At(kind, slot, form);
-        }
-        slot += 1;
-    }
-    FoundInput::Nowhere
-}
-
-// The input of this module and name: by its module first, then among the inputs of that.
-pub fn find_input(path: &[u8], name: &[u8]) -> FoundInput
-    ensures { λ r. ⌜ r ≡ findInput (now (path .entry)) (now (name .entry)) ⌝ }
-{
-    let Found::At(module) = names::find_module(path) else {
-        return FoundInput::Nowhere;
-    };
-    let Found::At(place) = names::find_input_name(name) else {
-        return FoundInput::Nowhere;
-    };
-    match module_at(module) {
-        Module::Of(kind, from, to) => find_within(kind, from, to, place),
-        Module::Nowhere => FoundInput::Nowhere,
-    }
 }

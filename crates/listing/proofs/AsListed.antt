@@ -1,16 +1,13 @@
 -- The lines by number, with texts from the tables, are the lines of 01's listing. Assumes nothing.
-use Prim.Native.Nat.{ℕ, zero, suc, _+_, _<_}
+use Prim.Native.Nat.{ℕ, _+_, _<_}
 use mathlib.Core.Path.{_≡_, refl, ap, _∙_}
 use mathlib.Core.List.{List, [], _∷_, _++_, map, append-assoc}
-use native.Mathlib.Nat.{le-of-suc-le-suc}
-use native.Mathlib.Omega.{arith}
 use lib.Dec.{T, ltb, ltb→lt}
-use lib.ListN.{length, getD, length-map}
+use lib.ListN.{length, getD}
 use lib.IntN.{ℤ}
 use Rattle.base.specs.Part.{part}
 use Rattle.base.specs.Runs.{joined, starts, all}
 use Rattle.base.specs.Text.{bytes}
-use Rattle.base.proofs.Runs.{run-at}
 use Rattle.base.proofs.Table.{both-left, both-right}
 use Rattle.inputs.specs.declared.Kind.{Kind}
 use Rattle.inputs.specs.declared.Kind.the-variants.{Roughage, Cattle, Pigs, DairyCow}
@@ -20,36 +17,15 @@ use Rattle.outputs.specs.declared.Figures.{Figures}
 use Rattle.outputs.specs.declared.Totals.{Totals}
 use Rattle.outputs.specs.Names.{rows, number, totals, totalNumber, totalTexts}
 use Rattle.outputs.specs.Grams.{at}
-use Rattle.listing.specs.HerdLines.{pathOf, linesOf}
-use Rattle.listing.specs.Listing.{
-  hasComma,
-  labelField,
-  lineOf,
-  each,
-  totalPath,
-  herdLines,
-  herdListing,
-  totalsListing,
-}
-use Rattle.listing.specs.Numbered.{
-  Entry,
-  herdEntries,
-  totalEntries,
-  middleOf,
-  middles,
-  ownerOf,
-  putTogether,
-  numbered,
-  Known,
-}
-
-abbrev noEntry : Entry
-noEntry = record { under = []; name = [] }
-
-middle-at : (es : List Entry) (n : ℕ) → n < length es → getD (middles es) n [] ≡ middleOf (getD es n noEntry)
-middle-at [] n h = absurd (omega arith)
-middle-at (e ∷ es) zero h = refl
-middle-at (e ∷ es) (suc n) h = middle-at es n (le-of-suc-le-suc h)
+use Rattle.line_parts.specs.Fields.{hasComma, labelField, each}
+use Rattle.line_parts.specs.Paths.{pathOf}
+use Rattle.line_parts.specs.Owners.{ownerOf}
+use Rattle.line_parts.specs.Middles.{Entry, middleOf, middles, Tabled}
+use Rattle.line_parts.proofs.Middles.{noEntry, middle-is}
+use Rattle.listing_lines.specs.Numbered.{longestMiddle, putTogether, numbered}
+use Rattle.listing.specs.HerdLines.{linesOf}
+use Rattle.listing.specs.Listing.{lineOf, totalPath, herdLines, herdListing, totalsListing}
+use Rattle.listing.specs.Numbered.{herdEntries, totalEntries}
 
 line-is : (label path : List ℕ) (e : Entry) (g : ℤ)
     → putTogether (ownerOf label path) (middleOf e) g ≡ lineOf label (path ++ e .under) (e .name) g
@@ -65,10 +41,8 @@ module _ (label path : List ℕ) (es : List Entry) (grams : List ℤ) where
       → putTogether (ownerOf label path)
       (part (joined (middles es)) (getD (starts 0 (middles es)) n 0) (getD (starts 0 (middles es)) (n + 1) 0))
       (at grams n) ≡ inFull n
-  unfolding part
   in-full n h =
-      let m = run-at (middles es) n (omega (arith, length-map es middleOf)) .part-is ∙ middle-at es n h in
-      ap (λ (t : List ℕ). putTogether (ownerOf label path) t (at grams n)) m
+      ap (λ (t : List ℕ). putTogether (ownerOf label path) t (at grams n)) (middle-is es n h)
       ∙ line-is label path (getD es n noEntry) (at grams n)
 
   numbered-is : (ns : List ℕ) → T (all (λ (n : ℕ). ltb n (length es)) ns)
@@ -95,9 +69,9 @@ herd-numbers Cattle = tt
 herd-numbers Pigs = tt
 herd-numbers DairyCow = tt
 
-pub herd-known : (k : Kind) {grams : List ℤ} {lines : List ℕ} → length grams ≡ length rows
-    → lines ≡ map number (linesOf k) → Known herdTable herdStarts grams lines
-herd-known k {grams} n e = rw e (record {
+pub herd-known : (k : Kind) {count : ℕ} {lines : List ℕ} → count ≡ length rows → lines ≡ map number (linesOf k)
+    → Tabled longestMiddle count herdTable herdStarts lines
+herd-known k n e = rw e (record {
   texts = middles herdEntries;
   table-is = refl;
   starts-are = refl;
@@ -133,7 +107,8 @@ totalStarts = starts 0 (middles totalEntries)
 abbrev totalNumbers : List ℕ
 totalNumbers = map totalNumber totalTexts
 
-pub totals-known : {grams : List ℤ} → length grams ≡ length totals → Known totalTable totalStarts grams totalNumbers
+pub totals-known : {count : ℕ} → count ≡ length totals
+    → Tabled longestMiddle count totalTable totalStarts totalNumbers
 totals-known n =
     record {
       texts = middles totalEntries;

@@ -8,14 +8,16 @@ use lib.IntN.{ℤ, pos, negsuc}
 use lib.Text.{eqt}
 use Rattle.base.specs.Pick.{pick}
 use Rattle.base.specs.Text.{bytes}
-use Rattle.decimal.specs.Writing.{width, wholeOf, thousandthsOf, sign, kilogramsOf}
+use Rattle.decimal.specs.Writing.{width, wholeOf}
+use Rattle.kilogram_text.specs.Kilograms.{thousandthsOf, sign, kilogramsOf}
 use Rattle.inputs.specs.declared.Kind.the-variants.{Pigs}
 use Rattle.farm.specs.declared.Label.{Label}
 use Rattle.farm.specs.Labels.{text}
 use Rattle.outputs.specs.declared.Figures.{Figures}
 use Rattle.outputs.specs.Names.{texts}
 use Rattle.outputs.specs.Grams.{byNumber, farmTotal, totalsOf}
-use Rattle.listing.specs.Listing.{hasComma, labelField, lineOf, each, herdLines, herdListing, totalsListing}
+use Rattle.line_parts.specs.Fields.{hasComma, labelField, each}
+use Rattle.listing.specs.Listing.{lineOf, herdLines, herdListing, totalsListing}
 
 -- the grams under these names, and 0 under any other
 abbrev named : List (String × ℤ) → String → ℤ

@@ -1,11 +1,4 @@
-pub mod Overlaps
-pub mod LabelField
-pub mod Answers
-pub mod Promises
-pub mod OneByOne
-pub mod LineByLine
-pub mod KindTables
+pub mod KindLines
 pub mod AsListed
-pub mod Lengths
 pub mod WellFormed
 pub mod Examples

@@ -5,13 +5,6 @@ use mathlib.Core.List.{List, [], _∷_, _++_}
 use Rattle.inputs.specs.declared.Kind.{Kind}
 use Rattle.inputs.specs.declared.Kind.the-variants.{Roughage, Cattle, Pigs, DairyCow}
 
--- the module of a kind
-abbrev pub pathOf : Kind → String
-pathOf Roughage = "Livestock::RoughageConsuming"
-pathOf Cattle = "Livestock::OtherCattle"
-pathOf Pigs = "Livestock::FatteningPigs"
-pathOf DairyCow = "Livestock::DairyCow"
-
 abbrev excretion : List String
 excretion = "n_excretion" ∷ "tan_excretion" ∷ []
 

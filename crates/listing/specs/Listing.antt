@@ -2,13 +2,10 @@
 -- exactly three decimals, `-` in front only below zero. A label with a comma is quoted, no other field is."
 use Prim.Native.Nat.{ℕ}
 use Prim.Native.String.{String}
-use mathlib.Core.Bool.{Bool, true, false}
-use mathlib.Core.List.{List, [], _∷_, _++_}
+use mathlib.Core.List.{List, [], _++_}
 use lib.IntN.{ℤ}
-use Rattle.base.specs.Pick.{pick, if_is_then_else_}
 use Rattle.base.specs.Text.{bytes}
-use Rattle.csv.specs.Grammar.{comma}
-use Rattle.decimal.specs.Writing.{kilogramsOf}
+use Rattle.kilogram_text.specs.Kilograms.{kilogramsOf}
 use Rattle.inputs.specs.declared.Kind.{Kind}
 use Rattle.farm.specs.declared.Label.{Label}
 use Rattle.farm.specs.Labels.{text}
@@ -16,25 +13,14 @@ use Rattle.outputs.specs.declared.Figures.{Figures}
 use Rattle.outputs.specs.declared.Totals.{Totals}
 use Rattle.outputs.specs.Names.{sectionOf, totalTexts}
 use Rattle.outputs.specs.Grams.{figure, total}
-use Rattle.listing.specs.HerdLines.{pathOf, linesOf}
-
-unfoldable pub hasComma : List ℕ → Bool
-hasComma [] = false
-hasComma (b ∷ rest) = if b is comma then true else hasComma rest
-
--- a label as a field
-unfoldable pub labelField : List ℕ → List ℕ
-labelField label = pick (hasComma label) (bytes "\"" ++ label ++ bytes "\"") label
+use Rattle.line_parts.specs.Fields.{labelField, each}
+use Rattle.line_parts.specs.Paths.{pathOf}
+use Rattle.listing.specs.HerdLines.{linesOf}
 
 -- a record: label, module, output name, kilograms
 unfoldable pub lineOf : List ℕ → List ℕ → List ℕ → ℤ → List ℕ
 lineOf label path name grams =
     labelField label ++ bytes "," ++ path ++ bytes "," ++ name ++ bytes "," ++ kilogramsOf grams ++ bytes "\r\n"
-
--- the texts of a list's entries, one after the other
-abbrev pub each : {A : Type 0} → (A → List ℕ) → List A → List ℕ
-each f [] = []
-each f (x ∷ xs) = f x ++ each f xs
 
 -- ---- a herd
 

@@ -4,7 +4,7 @@ use Prim.Native.String.{String}
 use mathlib.Core.List.{List, [], _∷_, map}
 use lib.IntN.{ℤ}
 use Rattle.base.specs.Text.{bytes}
-use Rattle.decimal.specs.Writing.{kilogramsOf}
+use Rattle.kilogram_text.specs.Kilograms.{kilogramsOf}
 use Rattle.inputs.specs.declared.Kind.{Kind}
 use Rattle.farm.specs.declared.Label.{Label}
 use Rattle.farm.specs.Labels.{text}

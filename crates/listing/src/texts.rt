@@ -4,18 +4,6 @@
 use outputs::names;
 use outputs::total_names;
 
-// How many kinds of herd there are.
-const KINDS: usize = 4;
-
-// The path of each kind.
-pub const PATHS: [u8; 93] = *b"\
-Livestock::RoughageConsuming\
-Livestock::OtherCattle\
-Livestock::FatteningPigs\
-Livestock::DairyCow";
-
-pub const PATH_STARTS: [usize; KINDS + 1] = [0, 28, 50, 74, 93];
-
 // The lists of lines: roughage, the kinds with a yard, pigs.
 const LISTS: usize = 3;
 

@@ -1,9 +1,9 @@
--- From the counts to the call's answer: where the text begins, how long the mended file and the list are, and what is
--- left in both slices. Assumes nothing.
+-- From the counts to the call's answer: how long the mended file and the list are, and what is left in both slices.
+-- Assumes nothing.
 use Prim.Native.Nat.{ℕ, _+_, _-_, _*_, _<_, _≤_}
 use mathlib.Core.Path.{_≡_, sym, ap, ap₂, _∙_}
 use mathlib.Core.Bool.{Bool, true, false, and-false}
-use mathlib.Core.List.{List, [], _++_}
+use mathlib.Core.List.{List, _++_}
 use native.Mathlib.Omega.{arith}
 use lib.Dec.{leb}
 use lib.ListN.{length, take, drop, length-append, length-drop}
@@ -13,32 +13,14 @@ use Rattle.base.specs.Wrote.{Wrote}
 use Rattle.base.proofs.Writes.{joined, front, kept}
 use Rattle.farm.specs.declared.Fault.the-variants.{BufferTooShort}
 use Rattle.mend.specs.declared.Answer.the-variants.{Mended, Refused}
-use Rattle.mend.specs.Faults.{mark, marked}
-use Rattle.mend.specs.Mended.{entries, mendedFrom, changesFrom, textStart, markChange, mendedOf, changesOf}
-use Rattle.mend.specs.Passed.{passedOf}
+use Rattle.spreadsheet.specs.Faults.{marked}
+use Rattle.spreadsheet.specs.Mended.{entries, mendedFrom, changesFrom, textStart, markChange, mendedOf, changesOf}
 use Rattle.mend.specs.Answer.{room, over, Mends}
-use Rattle.mend.proofs.Marks.{marked-take, marked-split}
-use Rattle.mend.proofs.Lengths.{entries-length, entries-append, mended-length, changes-few}
+use Rattle.spreadsheet.proofs.Starts.{start-inside, start-passed, crs-few, changes-are, change-many}
+use Rattle.spreadsheet.proofs.Lengths.{entries-length, entries-append, mended-length}
 
 module _ (s : List ℕ) (m : Bool) (em : m ≡ marked s) (f : ℕ) (ef : f ≡ textStart m) where
-  pub start-inside : f ≤ length s
-  start-inside = go m em ef
-    where
-      go : (m : Bool) → m ≡ marked s → f ≡ textStart m → f ≤ length s
-      go true e d = omega (arith, ap length (marked-split s (sym e)), length-append mark (drop 3 s))
-      go false e d = omega arith
-
-  pub start-passed : passedOf (take f s) ≡ passedOf []
-  start-passed = go m em ef
-    where
-      go : (m : Bool) → m ≡ marked s → f ≡ textStart m → passedOf (take f s) ≡ passedOf []
-      go true e d = rw (d, marked-take s (sym e))
-      go false e d = rw d
-
   module _ (n : ℕ) (en : n ≡ length (changesFrom (take f s) (drop f s))) where
-    pub crs-few : n ≤ length s - f
-    crs-few = omega (arith, en, changes-few (take f s) (drop f s), length-drop f s)
-
     text-is : mendedFrom (take f s) (drop f s) ≡ mendedOf s
     unfolding mendedOf
     text-is = rw (ef, em)
@@ -46,39 +28,14 @@ module _ (s : List ℕ) (m : Bool) (em : m ≡ marked s) (f : ℕ) (ef : f ≡ t
     pub mended-long : length s - f + n ≡ length (mendedOf s)
     mended-long = omega (arith, en, ap length text-is, mended-length (take f s) (drop f s), length-drop f s)
 
-    changes-are : markChange m ++ changesFrom (take f s) (drop f s) ≡ changesOf s
-    unfolding changesOf
-    changes-are = rw (ef, em)
-
     module _ (k : ℕ) (ek : k ≡ pick m 1 0) where
-      pub change-many : k + n ≡ length (changesOf s)
-      change-many =
-          omega (
-            arith,
-            en,
-            one m k ek,
-            ap length changes-are,
-            length-append (markChange m)
-                (changesFrom (take f s) (drop f s)),
-          )
-        where
-          one : (m : Bool) (k : ℕ) → k ≡ pick m 1 0 → k ≡ length (markChange m)
-          one true k e = e
-          one false k e = e
-
       list-long : 2 * (k + n) ≡ length (entries (changesOf s))
-      list-long = omega (arith, change-many, entries-length (changesOf s))
+      list-long = omega (arith, change-many s m em f ef n en k ek, entries-length (changesOf s))
 
       list-is : entries (markChange m) ++ entries (changesFrom (take f s) (drop f s)) ≡ entries (changesOf s)
-      list-is = sym (entries-append (markChange m) (changesFrom (take f s) (drop f s))) ∙ ap entries changes-are
-
-      -- no more changes than bytes, since the mark has three
-      pub changes-fit : k + n ≤ length s
-      changes-fit = omega (arith, crs-few, start-inside, marks m f k ef ek)
-        where
-          marks : (m : Bool) (f k : ℕ) → f ≡ textStart m → k ≡ pick m 1 0 → k ≤ f
-          marks true f k e d = omega arith
-          marks false f k e d = omega arith
+      list-is =
+          sym (entries-append (markChange m) (changesFrom (take f s) (drop f s)))
+          ∙ ap entries (changes-are s m em f ef n en)
 
       -- ---- what the writers ask
 
@@ -137,7 +94,7 @@ module _ (s : List ℕ) (m : Bool) (em : m ≡ marked s) (f : ℕ) (ef : f ≡ t
               changes = rw (e1, e2)
                   (front (joined w1 w2) (omega (arith, list-long, ap length list-is))
                   ∙ ap (λ (l : List ℕ). over l list) list-is);
-              answer = rw (e1, e2) (ap₂ Mended mended-long change-many);
+              answer = rw (e1, e2) (ap₂ Mended mended-long (change-many s m em f ef n en k ek));
             }
 
 pub ruleset mend-steps = (

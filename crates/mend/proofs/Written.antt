@@ -13,9 +13,9 @@ use Rattle.base.proofs.Holds.{both-true}
 use Rattle.farm.specs.declared.Fault.the-variants.{BufferTooShort}
 use Rattle.mend.specs.declared.Answer.{Answer}
 use Rattle.mend.specs.declared.Answer.the-variants.{Mended, Refused}
-use Rattle.mend.specs.Mended.{entries, mendedOf, changesOf}
+use Rattle.spreadsheet.specs.Mended.{entries, mendedOf, changesOf}
 use Rattle.mend.specs.Answer.{room, Mends}
-use Rattle.mend.proofs.Lengths.{entries-length}
+use Rattle.spreadsheet.proofs.Lengths.{entries-length}
 
 -- the list, whose length stays, has two numbers for each change
 pub list-room : (s out list o l : List ℕ) (r : Answer) (n k : ℕ) → Mends s out list o l r → r ≡ Mended n k

@@ -10,7 +10,7 @@ use Rattle.base.specs.Pick.{pick}
 use Rattle.farm.specs.declared.Fault.the-variants.{BufferTooShort}
 use Rattle.mend.specs.declared.Answer.{Answer}
 use Rattle.mend.specs.declared.Answer.the-variants.{Mended, Refused}
-use Rattle.mend.specs.Mended.{entries, mendedOf, changesOf}
+use Rattle.spreadsheet.specs.Mended.{entries, mendedOf, changesOf}
 
 -- both the mended file and the list have room
 abbrev pub room : (s out list : List ℕ) → Bool

@@ -1,4 +1,1 @@
-pub mod Faults
-pub mod Mended
-pub mod Passed
 pub mod Answer

@@ -7,18 +7,15 @@ use lib.ListN.{length, getD, drop, length-drop}
 use Rattle.base.specs.Wrote.{Wrote}
 use Rattle.base.proofs.Rest.{rest-at}
 use Rattle.base.proofs.ToCome.{ToCome, begun, gone-on, ended}
-use Rattle.decimal.specs.Writing.{wholeOf}
-use Rattle.mend_print.specs.Lines.{lineOf, linesOf, lineRoom, numberRoom}
-
-pub line-is : (kind place : ℕ) → wholeOf kind ++ (44 ∷ []) ++ wholeOf place ++ (13 ∷ 10 ∷ []) ≡ lineOf kind place
-unfolding lineOf
-line-is kind place = refl
+use Rattle.decimal.specs.Writing.{pairOf}
+use Rattle.decimal.specs.Rooms.{pairRoom}
+use Rattle.mend_print.specs.Lines.{linesOf, numberRoom}
 
 -- ---- of the list from a place on
 
 module _ (list : List ℕ) (i : ℕ) where
   lines-at : i + 1 < length list
-      → linesOf (drop i list) ≡ lineOf (getD list i 0) (getD list (i + 1) 0) ++ linesOf (drop (i + 2) list)
+      → linesOf (drop i list) ≡ pairOf (getD list i 0) (getD list (i + 1) 0) ++ linesOf (drop (i + 2) list)
   unfolding linesOf
   lines-at h =
       let e : i + 1 + 1 ≡ i + 2 = omega arith in
@@ -49,11 +46,11 @@ module _ (list old : List ℕ) where
     lines-same = inv .written .same
 
     module _ (h : i + 1 < length list) where
-      pub line-room : at + lineRoom ≤ length now
+      pub line-room : at + pairRoom ≤ length now
       line-room = omega (arith, inv .within, inv .room, inv .written .same)
 
-      pub line-goes : (new : List ℕ) (next : ℕ) → Wrote now at (lineOf (getD list i 0) (getD list (i + 1) 0)) new next
-          → next ≤ at + lineRoom
+      pub line-goes : (new : List ℕ) (next : ℕ) → Wrote now at (pairOf (getD list i 0) (getD list (i + 1) 0)) new next
+          → next ≤ at + pairRoom
           → Putting list old (i + 2) new next
       line-goes new next w n =
           record {

@@ -23,6 +23,8 @@ const LIST_MOST: usize = mend::ENTRY * FILE_MOST;
 // So many numbers of the list are printed at a time.
 const ROUND: usize = 2048;
 
+const ROUND_ROOM: usize = ROUND * lines::NUMBER_ROOM;
+
 pub enum Input {
     File(usize),
     Failed,
@@ -59,34 +61,38 @@ pub fn print(text: &[u8]) -> bool {
     }
 }
 
+// Room for the text of so many numbers. So large an array comes from a function: where it is lent as it is made, every
+// proof counts its elements.
+fn round_room() -> [u8; ROUND_ROOM] {
+    [0u8; ROUND_ROOM]
+}
+
 // Some changes, kind and place one after the other; were all of them written?
 fn print_some(list: &[usize]) -> bool
     requires { ⌜ length (now list) ≤ roundMost ⌝ }
 {
-    let mut text = [0u8; ROUND * lines::NUMBER_ROOM];
+    let mut text = round_room();
     let n = lines::put_lines(&mut text, list);
     print(base::part_of(&text, 0, n))
 }
 
-// A list of changes, as far as it can be written.
-pub fn print_list(list: &[usize]) {
+// A list of changes; was all of it written?
+pub fn print_list(list: &[usize]) -> bool {
     let mut from = 0;
     while ROUND < list.len() - from {
         if !print_some(&list[from..from + ROUND]) {
-            return;
+            return false;
         }
         from += ROUND;
     }
-    print_some(&list[from..]);
+    print_some(&list[from..])
 }
 
-// The mended file, by way of these slices.
-pub fn print_mended_by(s: &[u8], out: &mut [u8], list: &mut [usize]) {
+// The mended file, by way of these slices; was all of it written?
+pub fn print_mended_by(s: &[u8], out: &mut [u8], list: &mut [usize]) -> bool {
     match mend::mend(s, out, list) {
-        Answer::Mended(length, _) => {
-            print(base::part_of(out, 0, length));
-        }
-        Answer::Refused(_, _) => {}
+        Answer::Mended(length, _) => print(base::part_of(out, 0, length)),
+        Answer::Refused(_, _) => false,
     }
 }
 
@@ -100,22 +106,31 @@ fn changes_listed(s: &[u8], out: &mut [u8], list: &mut [usize]) -> usize
     }
 }
 
-// The list of changes, by way of these slices.
-pub fn print_changes_by(s: &[u8], out: &mut [u8], list: &mut [usize]) {
+// The list of changes, by way of these slices; was all of it written?
+pub fn print_changes_by(s: &[u8], out: &mut [u8], list: &mut [usize]) -> bool {
     let changes = changes_listed(s, out, list);
-    print_list(&list[..mend::ENTRY * changes]);
+    print_list(&list[..mend::ENTRY * changes])
 }
 
-// The mended file, of no more than the longest.
-pub fn print_mended(s: &[u8]) {
-    let mut out = [0u8; MENDED_MOST];
-    let mut list = [0usize; LIST_MOST];
-    print_mended_by(s, &mut out, &mut list);
+// Room for the mended file, and for the list of its changes.
+fn mended_room() -> [u8; MENDED_MOST] {
+    [0u8; MENDED_MOST]
 }
 
-// The list of changes of such a file.
-pub fn print_changes(s: &[u8]) {
-    let mut out = [0u8; MENDED_MOST];
-    let mut list = [0usize; LIST_MOST];
-    print_changes_by(s, &mut out, &mut list);
+fn list_room() -> [usize; LIST_MOST] {
+    [0usize; LIST_MOST]
+}
+
+// The mended file, of no more than the longest; was all of it written?
+pub fn print_mended(s: &[u8]) -> bool {
+    let mut out = mended_room();
+    let mut list = list_room();
+    print_mended_by(s, &mut out, &mut list)
+}
+
+// The list of changes of such a file; was all of it written?
+pub fn print_changes(s: &[u8]) -> bool {
+    let mut out = mended_room();
+    let mut list = list_room();
+    print_changes_by(s, &mut out, &mut list)
 }

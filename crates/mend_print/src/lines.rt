@@ -1,22 +1,11 @@
 // The list of changes as text.
-ghost use Prim.Native.Nat.{_+_, _*_, _≤_};
+ghost use Prim.Native.Nat.{_*_, _≤_};
 ghost use lib.ListN.{length};
 ghost use Rattle.base.specs.Wrote.{Wrote};
-ghost use Rattle.mend_print.specs.Lines.{lineOf, linesOf, lineRoom, numberRoom};
+ghost use Rattle.mend_print.specs.Lines.{linesOf, numberRoom};
 
-// Room for a number of the list: half of what a line can take.
-pub const NUMBER_ROOM: usize = 22;
-
-// One change.
-fn put_line(out: &mut [u8], at: usize, kind: usize, place: usize) -> usize
-    requires { ⌜ at + lineRoom ≤ length (now out) ⌝ }
-    ensures { λ r. ⌜ Wrote (now (out .entry)) at (lineOf kind place) (now (out .exit)) r × (r ≤ at + lineRoom) ⌝ }
-{
-    let a = decimal::put_whole(out, at, kind as u64);
-    let b = base::put_byte(out, a, b',');
-    let c = decimal::put_whole(out, b, place as u64);
-    base::put(out, c, b"\r\n")
-}
+// Room for a number of the list, and what stands behind it.
+pub const NUMBER_ROOM: usize = decimal::DIGITS_MOST + 2;
 
 // Changes, kind and place one after the other.
 pub fn put_lines(out: &mut [u8], list: &[usize]) -> usize
@@ -26,7 +15,7 @@ pub fn put_lines(out: &mut [u8], list: &[usize]) -> usize
     let mut at = 0;
     let mut i = 0;
     while i + 1 < list.len() {
-        at = put_line(out, at, list[i], list[i + 1]);
+        at = decimal::put_pair(out, at, list[i] as u64, list[i + 1] as u64);
         i += 2;
     }
     at

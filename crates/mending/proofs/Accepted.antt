@@ -9,14 +9,15 @@ use lib.ListN.{length}
 use borrow.Author.Tests.{ne-eqb}
 use Rattle.base.specs.Part.{sameBytes}
 use Rattle.base.specs.Each.{Each}
-use Rattle.csv.specs.Grammar.{FieldOf, RecordOf, FileOf}
+use Rattle.grammar.specs.Grammar.{FieldOf, RecordOf, FileOf}
 use Rattle.inputs.specs.declared.Kind.{Kind}
 use Rattle.farm.specs.declared.Given.{Given}
 use Rattle.farm.specs.declared.Herd.{Herd}
 use Rattle.farm.specs.declared.Farm.{Farm}
 use Rattle.rules.specs.Lists.{Pairs}
-use Rattle.rules.specs.Rules.{Record, LabelByte, GoodLabel, RecordSays, Gives, HerdOf, Stand, KeepsRules}
-use Rattle.mend.specs.Faults.{marked}
+use Rattle.first_refusal.specs.Records.{Record}
+use Rattle.rules.specs.Rules.{LabelByte, GoodLabel, RecordSays, Gives, HerdOf, Stand, KeepsRules}
+use Rattle.spreadsheet.specs.Faults.{marked}
 
 -- the first byte, where there is one, is of ASCII
 data Low : List ℕ → Type 0 where

@@ -9,11 +9,12 @@ use Rattle.base.specs.Part.{sameBytes}
 use Rattle.base.specs.Each.{Each}
 use Rattle.base.specs.Each.Each.{none, more}
 use Rattle.base.proofs.Clash.{clash}
-use Rattle.mend.specs.Faults.{cr, lf, mark, marked, bare}
-use Rattle.mend.specs.Mended.{Change, mendedByte, mendedFrom, changesFrom, textStart, markChange, mendedOf, changesOf}
-use Rattle.mend.specs.Passed.{passedOf, andByte, bareAfter}
-use Rattle.mend.proofs.Passing.{passed-and}
-use Rattle.mend.proofs.Rooms.{start-passed}
+use Rattle.spreadsheet.specs.Faults.{cr, lf, mark, marked, bare}
+use Rattle.spreadsheet.specs.Mended.{Change, mendedByte, mendedFrom, changesFrom, textStart, markChange}
+use Rattle.spreadsheet.specs.Mended.{mendedOf, changesOf}
+use Rattle.spreadsheet.specs.Passed.{passedOf, andByte, bareAfter}
+use Rattle.spreadsheet.proofs.Passing.{passed-and}
+use Rattle.spreadsheet.proofs.Starts.{start-passed}
 use Rattle.mending.proofs.Bare.{bare-is, bare-past-cr, not-lf}
 use Rattle.mending.proofs.Texts.{changes-all}
 

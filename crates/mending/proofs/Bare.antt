@@ -7,8 +7,8 @@ use lib.Dec.{eqb}
 use borrow.Author.Tests.{eqb-true, eqb-false, ne-eqb}
 use Rattle.base.specs.Pick.{pick}
 use Rattle.base.proofs.Clash.{clash}
-use Rattle.mend.specs.Faults.{cr, lf, last, quotes, even, bare}
-use Rattle.mend.proofs.Passing.{last-snoc}
+use Rattle.spreadsheet.specs.Faults.{cr, lf, last, quotes, even, bare}
+use Rattle.spreadsheet.proofs.Passing.{last-snoc}
 
 -- ---- the last of some bytes
 

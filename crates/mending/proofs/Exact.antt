@@ -7,10 +7,10 @@ use native.Mathlib.Omega.{arith}
 use lib.ListN.{length, take, drop}
 use lib.Seq.{append-snoc}
 use Rattle.base.proofs.Clash.{clash}
-use Rattle.mend.specs.Faults.{lf, mark, marked, bare}
-use Rattle.mend.specs.Mended.{Change, kindOf, placeOf, changeAt, changesFrom, textStart, markChange, changesOf}
-use Rattle.mend.specs.Mended.Change.{mark-dropped, cr-put}
-use Rattle.mend.proofs.Marks.{marked-take}
+use Rattle.spreadsheet.specs.Faults.{lf, mark, marked, bare}
+use Rattle.spreadsheet.specs.Mended.{Change, kindOf, placeOf, changeAt, changesFrom, textStart, markChange, changesOf}
+use Rattle.spreadsheet.specs.Mended.Change.{mark-dropped, cr-put}
+use Rattle.spreadsheet.proofs.Marks.{marked-take}
 use Rattle.mending.specs.Faultless.{Marked, BareAt, Lists, first, later, Rising, none, one, more}
 use Rattle.mending.proofs.Bare.{bare-is, is-bare}
 use Rattle.mending.proofs.Texts.{so-marked, marked-so, changes-all}

@@ -8,11 +8,11 @@ use lib.Dec.{eqb}
 use borrow.Author.Tests.{ne-eqb}
 use Rattle.base.specs.Pick.{pick}
 use Rattle.base.proofs.Clash.{clash}
-use Rattle.csv.specs.Grammar.{Plain, Inside, FieldOf, RecordOf, FileOf}
-use Rattle.mend.specs.Faults.{cr, lf, quote, last, quotes, even, bare}
-use Rattle.mend.specs.Mended.{mendedFrom}
-use Rattle.mend.specs.Passed.{passedOf, andByte}
-use Rattle.mend.proofs.Passing.{passed-and, even-snoc}
+use Rattle.grammar.specs.Grammar.{Plain, Inside, FieldOf, RecordOf, FileOf}
+use Rattle.spreadsheet.specs.Faults.{cr, lf, quote, last, quotes, even, bare}
+use Rattle.spreadsheet.specs.Mended.{mendedFrom}
+use Rattle.spreadsheet.specs.Passed.{passedOf, andByte}
+use Rattle.spreadsheet.proofs.Passing.{passed-and, even-snoc}
 use Rattle.mending.specs.Damaged.{Bared}
 use Rattle.mending.proofs.Bare.{bare-past-cr, not-lf}
 

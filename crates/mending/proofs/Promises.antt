@@ -11,16 +11,16 @@ use Rattle.farm.specs.declared.Farm.{Farm}
 use Rattle.farm.specs.declared.Fault.{Fault}
 use Rattle.farm.specs.declared.Fault.the-variants.{BufferTooShort}
 use Rattle.farm.specs.Refusals.{number}
-use Rattle.csv.specs.Grammar.{FileOf}
+use Rattle.grammar.specs.Grammar.{FileOf}
 use Rattle.reader.specs.Files.{readOf, accepted}
 use Rattle.rules.proofs.Accepts.{accepts-exactly}
 use Rattle.mend.specs.declared.Answer.{Answer}
 use Rattle.mend.specs.declared.Answer.the-variants.{Mended, Refused}
-use Rattle.mend.specs.Faults.{mark, marked}
-use Rattle.mend.specs.Mended.{Change, entries, textStart, markChange, mendedOf, changesOf}
-use Rattle.mend.specs.Mended.Change.{mark-dropped, cr-put}
+use Rattle.spreadsheet.specs.Faults.{mark, marked}
+use Rattle.spreadsheet.specs.Mended.{Change, entries, textStart, markChange, mendedOf, changesOf}
+use Rattle.spreadsheet.specs.Mended.Change.{mark-dropped, cr-put}
 use Rattle.mend.specs.Answer.{room, over, Mends}
-use Rattle.mend.proofs.Marks.{marked-split}
+use Rattle.spreadsheet.proofs.Marks.{marked-split}
 use Rattle.mending.specs.Undoing.{undone, madeFrom, made}
 use Rattle.mending.specs.Faultless.{Marked, TwiceMarked, BareAt, Faultless, Lists, first, Rising}
 use Rattle.mending.specs.Damaged.{Bared}

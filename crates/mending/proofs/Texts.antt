@@ -7,9 +7,9 @@ use lib.ListN.{take, drop}
 use Rattle.base.specs.Pick.{pick}
 use Rattle.base.specs.Part.{sameBytes}
 use Rattle.base.proofs.Holds.{same-self}
-use Rattle.mend.specs.Faults.{mark, marked, bare}
-use Rattle.mend.specs.Mended.{mendedFrom, changesFrom, textStart, markChange, mendedOf, changesOf}
-use Rattle.mend.proofs.Marks.{marked-take, marked-split}
+use Rattle.spreadsheet.specs.Faults.{mark, marked, bare}
+use Rattle.spreadsheet.specs.Mended.{mendedFrom, changesFrom, textStart, markChange, mendedOf, changesOf}
+use Rattle.spreadsheet.proofs.Marks.{marked-take, marked-split}
 use Rattle.mending.specs.Faultless.{Marked}
 
 -- the test for the mark

@@ -6,8 +6,8 @@ use mathlib.Core.Bool.{Bool, true, false}
 use mathlib.Core.List.{List, [], _∷_, _++_}
 use native.Mathlib.Omega.{arith}
 use lib.ListN.{length, take, drop, length-append}
-use Rattle.mend.specs.Faults.{cr, mark, marked, bare}
-use Rattle.mend.specs.Mended.{
+use Rattle.spreadsheet.specs.Faults.{cr, mark, marked, bare}
+use Rattle.spreadsheet.specs.Mended.{
   Change,
   mendedByte,
   changeAt,
@@ -18,8 +18,8 @@ use Rattle.mend.specs.Mended.{
   mendedOf,
   changesOf,
 }
-use Rattle.mend.specs.Mended.Change.{cr-put}
-use Rattle.mend.proofs.Marks.{marked-take, marked-split}
+use Rattle.spreadsheet.specs.Mended.Change.{cr-put}
+use Rattle.spreadsheet.proofs.Marks.{marked-take, marked-split}
 use Rattle.mending.specs.Undoing.{undoneFrom, undone, madeFrom, made}
 
 -- CRs put in at places from n on, each place past the one before

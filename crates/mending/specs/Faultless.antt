@@ -5,8 +5,8 @@ use mathlib.Core.Path.{_≡_}
 use mathlib.Core.Bool.{true}
 use mathlib.Core.List.{List, [], _∷_, _++_}
 use lib.ListN.{length}
-use Rattle.mend.specs.Faults.{cr, lf, mark, quotes, even}
-use Rattle.mend.specs.Mended.{Change, placeOf}
+use Rattle.spreadsheet.specs.Faults.{cr, lf, mark, quotes, even}
+use Rattle.spreadsheet.specs.Mended.{Change, placeOf}
 
 -- "the bytes EF BB BF at the very front"
 pub record Marked (s : List ℕ) : Type 0 where

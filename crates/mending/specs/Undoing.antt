@@ -3,9 +3,9 @@
 use Prim.Native.Nat.{ℕ, suc, _+_, _-_}
 use mathlib.Core.List.{List, [], _∷_, _++_}
 use lib.ListN.{take, drop}
-use Rattle.mend.specs.Faults.{cr, mark, markLength}
-use Rattle.mend.specs.Mended.{Change}
-use Rattle.mend.specs.Mended.Change.{mark-dropped, cr-put}
+use Rattle.spreadsheet.specs.Faults.{cr, mark, markLength}
+use Rattle.spreadsheet.specs.Mended.{Change}
+use Rattle.spreadsheet.specs.Mended.Change.{mark-dropped, cr-put}
 
 -- the mark is put back; the CR that stands at a place is left out. m are the mended bytes that begin at place p of
 -- the old file

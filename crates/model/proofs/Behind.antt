@@ -15,7 +15,9 @@ use Rattle.farm.specs.declared.Herd.{Herd}
 use Rattle.farm.specs.declared.Checked.{Checked}
 use Rattle.farm.specs.declared.Checked.the-variants.{Accepted, Refused}
 use Rattle.farm.specs.Herds.{isMissing, noSlot}
-use Rattle.checks.specs.Checks.{fits, lacksOne, unfitOne, lacks, unfit, checkHerd}
+use Rattle.fits.specs.Fits.{fits, unfitOne, unfit}
+use Rattle.herd_tests.specs.Tests.{lacksOne, lacks}
+use Rattle.checks.specs.Checks.{checkHerd}
 use Rattle.kinds.specs.declared.CattleKind.{CattleKind}
 use Rattle.kinds.specs.declared.CattleKind.the-variants.{OtherCattle, DairyCow}
 use Rattle.kinds.specs.declared.Inputs.the-variants as typed

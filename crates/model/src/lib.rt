@@ -1,6 +1,5 @@
-// From a farm's records to its answers: a herd's figures, notes and cuts, a farm's totals; grams and kilograms.
-pub mod answers; // a record's figures or its refusal
-
+// What a farm's records give: a herd's figures, notes and cuts, a farm's totals; grams and kilograms. Crate `answers`
+// computes it.
 use cuts::Cuts;
 use farm::Checked;
 use kilograms::Kilograms;

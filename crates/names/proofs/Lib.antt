@@ -1,4 +1,2 @@
-pub mod Tables
-pub mod Chains
 pub mod Words
-pub mod Places
+pub mod Once

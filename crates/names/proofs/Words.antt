@@ -1,62 +1,18 @@
--- A text's words, gone through one after the other, find the name that the text is. Assumes nothing.
-use Prim.Native.Nat.{ℕ, _+_, _-_, _<_, _≤_}
-use Prim.Native.String.{String}
-use mathlib.Core.Path.{_≡_, refl, sym, ap, _∙_}
-use mathlib.Core.Bool.{Bool, true, false}
-use mathlib.Core.List.{List, [], _∷_, map}
-use native.Mathlib.Omega.{arith}
-use lib.ListN.{length, getD, take, drop}
-use lib.Seq.{drop-drop}
-use Rattle.base.specs.Pick.{pick}
+-- Where the words of a text are a list's names, they find the name that a text is. Assumes nothing.
+use Prim.Native.Nat.{ℕ}
+use mathlib.Core.Path.{_≡_}
+use mathlib.Core.List.{List, map}
 use Rattle.base.specs.Text.{bytes}
-use Rattle.base.specs.Part.{part, sameBytes}
-use Rattle.base.proofs.Rest.{rest-at, rest-end}
+use Rattle.base.specs.Part.{sameBytes}
+use Rattle.words.specs.declared.Found.{Found}
+use Rattle.words.specs.Find.{firstFrom, wordsOf}
+use Rattle.words.proofs.Words.{words-found}
 use Rattle.names.specs.declared.Names.{Names}
-use Rattle.names.specs.declared.Found.{Found}
-use Rattle.names.specs.declared.Found.the-variants.{At, Nowhere}
 use Rattle.names.specs.Names.{namesOf}
-use Rattle.names.specs.Find.{firstFrom, isName, findText, findName, wordsOf}
-
--- ---- the words from `at` on are still to be compared, X is what the whole search finds
-
-module _ (t s lengths : List ℕ) (at i : ℕ) (X : Found)
-    (inv : firstFrom (sameBytes t) i (wordsOf (drop at s) (drop i lengths)) ≡ X) where
-  module _ (b : i < length lengths) {n : ℕ} (e : n ≡ getD lengths i 0) {p : List ℕ} (q : p ≡ part s at (at + n))
-      {r : Bool} (w : r ≡ sameBytes t p) where
-    word-at : p ≡ take n (drop at s)
-    unfolding part
-    word-at = let z : at + n - at ≡ n = omega arith in q ∙ ap (λ (k : ℕ). take k (drop at s)) z
-
-    word-next : pick r (At i) (firstFrom (sameBytes t) (i + 1) (wordsOf (drop (at + n + 1) s) (drop (i + 1) lengths)))
-        ≡ X
-    unfolding firstFrom wordsOf
-    word-next =
-        let z : at + (n + 1) ≡ at + n + 1 = omega arith in
-        rw (w, word-at, ← z, ← drop-drop (n + 1) at s, e) (rw (rest-at lengths i b) at inv)
-
-    pub word-found : r ≡ true → At i ≡ X
-    word-found h = sym (rw h) ∙ word-next
-
-    pub word-other : r ≡ false
-        → firstFrom (sameBytes t) (i + 1) (wordsOf (drop (at + n + 1) s) (drop (i + 1) lengths)) ≡ X
-    word-other h = sym (rw h) ∙ word-next
-
-  pub word-none : length lengths ≤ i → Nowhere ≡ X
-  unfolding firstFrom wordsOf
-  word-none b = rw (rest-end lengths i b) at inv
-
-pub ruleset word-steps = (word-found, word-other, word-none)
-
--- ---- the words of a list's text are its names
-
-find-bytes : (s : List ℕ) (i : ℕ) (names : List String)
-    → firstFrom (sameBytes s) i (map bytes names) ≡ firstFrom (isName s) i names
-unfolding firstFrom isName
-find-bytes s i [] = refl
-find-bytes s i (n ∷ names) = ap (pick (sameBytes s (bytes n)) (At i)) (find-bytes s (i + 1) names)
+use Rattle.names.specs.Find.{findName}
 
 pub find-words : (names : Names) (s : List ℕ) {list : Names} (words lengths : List ℕ) {r : Found} → names ≡ list
     → r ≡ firstFrom (sameBytes s) 0 (wordsOf words lengths)
     → wordsOf words lengths ≡ map bytes (namesOf list) → r ≡ findName names s
-unfolding findName findText
-find-words names s words lengths e h w = rw (e, h, w) (find-bytes s 0 _)
+unfolding findName
+find-words names s {list} words lengths e h w = rw e (words-found (namesOf list) s words lengths h w)

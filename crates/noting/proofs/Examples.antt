@@ -3,7 +3,7 @@ use mathlib.Core.Path.{_≡_, refl}
 use mathlib.Core.Bool.{true, false}
 use Rattle.base.specs.Text.{bytes}
 use Rattle.notes.specs.Notes.{noted}
-use Rattle.listing.specs.Listing.{hasComma, labelField}
+use Rattle.line_parts.specs.Fields.{hasComma, labelField}
 use Rattle.noting.specs.Records.{notesRecord}
 
 -- the share is lowered, the fourth of 01's notes

@@ -1,5 +1,5 @@
 pub mod RecordSteps
-pub mod FarmSteps
-pub mod WellFormed
+pub mod HerdSteps
 pub mod Fits
+pub mod WellFormed
 pub mod Examples

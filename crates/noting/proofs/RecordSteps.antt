@@ -6,7 +6,7 @@ use mathlib.Core.List.{List, [], _∷_, _++_}
 use Rattle.base.specs.Text.{bytes}
 use Rattle.notes.specs.declared.Notes.{Notes}
 use Rattle.notes.specs.Notes.{inOrder}
-use Rattle.listing.specs.Listing.{labelField, each}
+use Rattle.line_parts.specs.Fields.{labelField, each}
 use Rattle.noting.specs.Records.{noteField, notesRecord}
 
 module _ (b : Bool) where

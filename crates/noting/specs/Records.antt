@@ -1,17 +1,15 @@
--- A farm's notes as records: of each herd its label, quoted as in the listing, then `yes` or `no` for each of 01's
+-- A herd's notes as a record: its label, quoted as in the listing, then `yes` or `no` for each of 01's
 -- notes in their order and for that of 02, W3, and CRLF, as in `Heifers,no,no,no,yes,no`. To be believed.
 use Prim.Native.Nat.{ℕ}
 use mathlib.Core.Bool.{Bool, true, false}
 use mathlib.Core.List.{List, _∷_, _++_, map}
 use Rattle.base.specs.Text.{bytes}
 use Rattle.farm.specs.declared.Herd.{Herd}
-use Rattle.farm.specs.declared.Farm.{Farm}
 use Rattle.farm.specs.Labels.{text}
-use Rattle.checks.specs.Checks.{herdsOf}
 use Rattle.notes.specs.declared.Notes.{Notes}
 use Rattle.notes.specs.Notes.{notesOf, inOrder}
 use Rattle.typed.specs.Typed.{typedOf}
-use Rattle.listing.specs.Listing.{labelField, each}
+use Rattle.line_parts.specs.Fields.{labelField, each}
 
 abbrev pub word : Bool → List ℕ
 word true = bytes "yes"
@@ -28,10 +26,6 @@ notesRecord label n = labelField label ++ each noteField (inOrder n) ++ bytes "\
 abbrev pub herdNotes : Herd → List ℕ
 herdNotes h = notesRecord (text (h .label)) (notesOf (typedOf h))
 
--- one after the other
-unfoldable pub farmNotes : Farm → List ℕ
-farmNotes f = each herdNotes (herdsOf f)
-
--- what they say as a file: a record of six fields for each herd
+-- what it says as a record: six fields
 abbrev pub herdFields : Herd → List (List ℕ)
 herdFields h = text (h .label) ∷ map word (inOrder (notesOf (typedOf h)))

@@ -1,8 +1,7 @@
--- How long a farm's notes can be: the room that the writers ask for. No reader has to believe it.
+-- How long a herd's notes can be: the room that the writers ask for. No reader has to believe it.
 use Prim.Native.Nat.{ℕ, _+_, _*_}
-use Rattle.farm.specs.Limits.{herdsMost}
 use Rattle.notes.specs.Notes.{noteCount}
-use Rattle.listing.specs.Bounds.{longestField}
+use Rattle.line_parts.specs.Bounds.{longestField}
 
 -- a comma and `yes`
 abbrev pub longestNote : ℕ
@@ -11,6 +10,3 @@ longestNote = 4
 -- the label's field, the notes, CRLF
 abbrev pub longestRecord : ℕ
 longestRecord = longestField + noteCount * longestNote + 2
-
-abbrev pub notesRoom : ℕ
-notesRoom = herdsMost * longestRecord

@@ -1,8 +1,8 @@
-// A farm's notes as records, byte by byte, into a lent buffer: of each herd its label, and yes or no for each note. No
-// figure is worked out, and what reading has checked is not checked again.
-use farm::Farm;
+// A herd's notes as a record, byte by byte, into a lent buffer: its label, and yes or no for each note. No figure is
+// worked out.
+use farm::Herd;
 use farm::Label;
-use listing::labels;
+use line_parts::labels;
 use notes::Notes;
 ghost use mathlib.Core.Path.{_≡_};
 ghost use Prim.Native.Nat.{_+_, _*_, _≤_};
@@ -10,18 +10,10 @@ ghost use lib.ListN.{length};
 ghost use Rattle.base.specs.Wrote.{Wrote};
 ghost use Rattle.farm.specs.declared.Checked.the-variants.{Accepted};
 ghost use Rattle.farm.specs.Labels.{text};
-ghost use Rattle.checks.specs.Checks.{checkFarm};
-ghost use Rattle.listing.specs.Listing.{each};
-ghost use Rattle.noting.specs.Records.{noteField, notesRecord, farmNotes};
-ghost use Rattle.noting.specs.Rooms.{longestNote, longestRecord, notesRoom};
-
-// How long a record's parts can be: a comma and `yes`; the label's field, the notes and CRLF.
-const NOTE_MOST: usize = 4;
-
-const RECORD_MOST: usize = labels::FIELD_MOST + notes::COUNT * NOTE_MOST + 2;
-
-// Room for the notes of any farm.
-pub const ROOM: usize = farm::HERDS_MOST * RECORD_MOST;
+ghost use Rattle.checks.specs.Checks.{checkHerd};
+ghost use Rattle.line_parts.specs.Fields.{each};
+ghost use Rattle.noting.specs.Records.{noteField, notesRecord, herdNotes};
+ghost use Rattle.noting.specs.Rooms.{longestNote, longestRecord};
 
 // A note as a further field, from `at` on; the end of it.
 fn put_note(out: &mut [u8], at: usize, noted: bool) -> usize
@@ -56,23 +48,20 @@ fn put_record(out: &mut [u8], at: usize, label: Label, n: Notes) -> usize
         × (r ≤ at + longestRecord) ⌝ }
 {
     let a = labels::put_label(out, at, label);
-    let noted = notes::in_order(n);
+    let noted = herd_notes::in_order(n);
     let b = put_notes(out, a, &noted);
     base::put(out, b, b"\r\n")
 }
 
-// The notes of an accepted farm, from the front of the buffer on.
-pub fn put_farm(out: &mut [u8], farm: Farm) -> usize
-    requires { ⌜ (checkFarm farm ≡ Accepted) × (notesRoom ≤ length (now out)) ⌝ }
-    ensures { λ r. ⌜ Wrote (now (out .entry)) 0 (farmNotes farm) (now (out .exit)) r × (r ≤ notesRoom) ⌝ }
+// The record of an accepted herd, from `at` on; the end of it.
+pub fn put_herd(out: &mut [u8], at: usize, h: Herd) -> usize
+    requires { ⌜ (checkHerd h ≡ Accepted) × (at + longestRecord ≤ length (now out)) ⌝ }
+    ensures { λ r. ⌜ Wrote (now (out .entry)) at (herdNotes h) (now (out .exit)) r × (r ≤ at + longestRecord) ⌝ }
 {
-    let count = farm.count;
-    let mut at = 0;
-    let mut i = 0;
-    while i < count {
-        let h = farm.herds[i];
-        at = put_record(out, at, h.label, notes::notes_of(typed::typed_of(h)));
-        i += 1;
-    }
-    at
+    put_record(
+        out,
+        at,
+        h.label,
+        herd_notes::notes_of(herd_inputs::typed_of(h)),
+    )
 }

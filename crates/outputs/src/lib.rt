@@ -1,10 +1,8 @@
 // The output list: what a herd and a farm have figures of, by number. A herd's figures are one array of grams by the
 // number of the name, the totals another by the number of the total, and what is done with every name alike is a loop.
-// specs/Names.antt has the names, a row each.
+// specs/Names.antt has the names, a row each; crate `figure_numbers` fills the one array, crate `sums` adds up.
 pub mod names; // the names by number
 pub mod total_names; // the totals by number
-pub mod parts; // the one place where a field meets its number
-pub mod sums; // herds added up, and the totals from the sums
 
 // A herd's figures in whole grams of nitrogen a year, by the number of the name; 0 where a kind has no such flow.
 pub struct Figures {

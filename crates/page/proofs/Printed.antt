@@ -9,9 +9,10 @@ use Rattle.base.specs.Text.{bytes}
 use Rattle.base.specs.Each.{Each}
 use Rattle.base.proofs.Each.{each-passed}
 use Rattle.base.proofs.Table.{both-left, both-right}
-use Rattle.decimal.specs.declared.Number.{Number}
-use Rattle.decimal.specs.declared.Number.the-variants.{Value, Unreadable}
-use Rattle.decimal.specs.Reading.{numberOf, anyNumberOf, zeroFrom, wholeFrom, pointFrom, fractionFrom}
+use Rattle.digits.specs.declared.Number.{Number}
+use Rattle.digits.specs.declared.Number.the-variants.{Value, Unreadable}
+use Rattle.numbers.specs.Reading.{numberOf, anyNumberOf, zeroFrom, wholeFrom}
+use Rattle.digits.specs.Digits.{pointFrom, fractionFrom}
 use Rattle.tables.specs.Standards.{«standard_N_excretion», standardOf}
 use Rattle.page.specs.Printed.{Printed, table, IsPrinted, standards, solubleShares, keyed, name}
 

@@ -9,8 +9,8 @@ use Prim.Native.String.{String}
 use mathlib.Core.List.{List, [], _∷_, _++_}
 use mathlib.Core.Path.{_≡_}
 use Rattle.base.specs.Text.{bytes}
-use Rattle.decimal.specs.declared.Number.the-variants.{Value}
-use Rattle.decimal.specs.Reading.{numberOf}
+use Rattle.digits.specs.declared.Number.the-variants.{Value}
+use Rattle.numbers.specs.Reading.{numberOf}
 use Rattle.tables.specs.Standards.{Standard, _kg, standardOf, «share_Nsol», dairyStandard, dairyShare}
 use Rattle.tables.specs.Growth.{«k_grazing_b»}
 use Rattle.amounts.specs.Units.{tenths, percent, thousandths, tenThousandths, billionths, year, day}

@@ -1,11 +1,5 @@
-// 2.51 to 2.60 and 2.62 (02, W1): the housing of fattening pigs, its ammonia, what an air scrubber keeps back, and what
-// leaves the house as slurry and as solid manure. Factors are in billionths.
-pub mod parameters; // what the names of a pig house stand for
-pub mod factors; // the emission factor, and what it is made of
-pub mod scrubber; // what an air scrubber keeps back
-pub mod house; // what goes into the house, is emitted there, and leaves it
-pub mod gases; // N2, NO and N2O from both fractions
-
+// 2.51 to 2.60 and 2.62 (02, W1): what the housing of fattening pigs hands on. The definitions in specs/ say what each
+// is, and crates `pig_factors`, `pig_amounts` and `pig_gases` compute it. Factors are in billionths.
 use cut::Quotient;
 use housing::Housing;
 

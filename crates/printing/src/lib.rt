@@ -1,17 +1,15 @@
-// What a command prints for a file, on standard output: what crate `calls` puts for it, in one piece. Nothing is
-// printed after a part that could not be written.
+// What a command prints for a farm file, on standard output: what its view lists, or the refusal's line, in one piece.
+// Nothing is printed after a part that could not be written.
 pub mod input; // the farm file on standard input
-pub mod ending; // how a run ended, on standard error
 pub mod tell; // answers of other calls, a line each
 
-use farm::Checked;
 use farm::Fault;
 use streams::Outcome;
-use whole::Answer;
-use whole::refusals;
-use why_lines::Wording;
+use views::View;
+use views::program;
+use written::Written;
 
-// What was printed: what the command lists of the farm, the refusal's line, or not all of either.
+// What was printed: what the view lists of the farm, the refusal's line, or not all of either.
 pub enum Printed {
     Listed,
     Refused(Fault, usize),
@@ -28,47 +26,25 @@ fn print(text: &[u8]) -> bool {
 
 // The line of a refusal.
 pub fn print_refusal(fault: Fault, record: usize) -> bool {
-    let mut line = [0u8; refusals::LINE_ROOM];
-    let n = refusals::put_refusal(&mut line, fault, record);
+    let mut line = [0u8; refusal_line::LINE_ROOM];
+    let n = fault_line::put_line(&mut line, fault, record);
     print(base::part_of(&line, 0, n))
 }
 
-// The answer that was put into the buffer.
-fn print_answer(put: &[u8], answer: Answer) -> Printed {
-    if !print(base::part_of(put, 0, answer.length)) {
+fn room() -> [u8; views::FARM_ROOM] {
+    [0u8; views::FARM_ROOM]
+}
+
+// What the view lists of a file, or the refusal's line.
+pub fn print_view(view: View, s: &[u8]) -> Printed {
+    let mut put = room();
+    let output = program::put_output(s, &mut put, view);
+    if !print(base::part_of(&put, 0, output.length)) {
         return Printed::Broken;
     }
-    let checked = answer.checked;
-    match checked {
-        Checked::Accepted => Printed::Listed,
-        Checked::Refused(fault, record) => Printed::Refused(fault, record),
+    let ended = output.ended;
+    match ended {
+        Written::Length(_) => Printed::Listed,
+        Written::Refused(fault, record) => Printed::Refused(fault, record),
     }
-}
-
-// The figures of a file.
-pub fn print_figures(s: &[u8]) -> Printed {
-    let mut put = [0u8; calls::ANSWER_ROOM];
-    let answer = calls::put_answer(s, &mut put);
-    print_answer(&put, answer)
-}
-
-// The notes of a file.
-pub fn print_notes(s: &[u8]) -> Printed {
-    let mut put = [0u8; calls::NOTES_ROOM];
-    let answer = calls::put_notes(s, &mut put);
-    print_answer(&put, answer)
-}
-
-// The cuts of a file.
-pub fn print_cuts(s: &[u8]) -> Printed {
-    let mut put = [0u8; calls::CUTS_ROOM];
-    let answer = calls::put_cuts(s, &mut put);
-    print_answer(&put, answer)
-}
-
-// The reasons of a file, in records or in sentences.
-pub fn print_why(s: &[u8], wording: Wording) -> Printed {
-    let mut put = [0u8; calls::WHY_ROOM];
-    let answer = calls::put_why(s, &mut put, wording);
-    print_answer(&put, answer)
 }

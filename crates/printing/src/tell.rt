@@ -2,7 +2,7 @@
 use farm::Checked;
 use farm::Fault;
 use libc::STDOUT_FILENO;
-use listing::Written;
+use written::Written;
 
 // As long as kilograms can be.
 const KILOGRAMS_MOST: usize = 21;
@@ -24,7 +24,7 @@ pub fn number(n: u64) {
 // Grams, as kilograms.
 pub fn kilograms(grams: i64) {
     let mut text = [0u8; KILOGRAMS_MOST];
-    let n = decimal::put_kilograms(&mut text, 0, grams);
+    let n = kilogram_text::put_kilograms(&mut text, 0, grams);
     line(base::part_of(&text, 0, n));
 }
 

@@ -1,4 +1,4 @@
--- What a record does to a herd, from the calls that look at it: each law in the form that a place of src/herds.rt
+-- What a record does to a herd, from the calls that look at it: each law in the form that a place of src/lib.rt
 -- wants. Assumes nothing.
 use Prim.Native.Nat.{ℕ, _<_}
 use mathlib.Core.Path.{_≡_, refl, sym, _∙_, ap}

@@ -1,3 +1,1 @@
 pub mod HerdSteps
-pub mod FarmSteps
-pub mod PlaceSteps

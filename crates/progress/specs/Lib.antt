@@ -1,3 +1,1 @@
 pub mod Herds
-pub mod Farms
-pub mod Places

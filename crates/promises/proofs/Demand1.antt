@@ -1,7 +1,7 @@
 -- Demand 1: a file of any bytes gets either the farm's figures or exactly one numbered refusal with its record number,
 -- always the first that applies in the written order; a refusal leaves the lent buffer untouched. And any two results
 -- that a call's contract allows are equal. So of a record that is handed in. What a call says is told in 01's numbers,
--- by `says` of crate `farm` and `saysOf` of crate `listing`; what the checks of a record say, by `herd-says` and
+-- by `says` of crate `farm` and `saysOf` of crate `written`; what the checks of a record say, by `herd-says` and
 -- `farm-says` of crate `checks`. Assumes nothing.
 use Prim.Native.Nat.{ℕ, _≤_, _<_}
 use mathlib.Core.Path.{_≡_, refl, sym, ap, _∙_}
@@ -24,7 +24,8 @@ use Rattle.checks.specs.Refusals.{herd, farm as farm-record, RecordGets}
 use Rattle.checks.proofs.Refuses.{record-gets}
 use Rattle.reader.specs.declared.FileAnswer.{FileAnswer}
 use Rattle.reader.specs.Files.{readOf, accepted, refused}
-use Rattle.rules.specs.Rules.{KeepsRules, Record}
+use Rattle.first_refusal.specs.Records.{Record}
+use Rattle.rules.specs.Rules.{KeepsRules}
 use Rattle.rules.specs.Refusals.{
   First,
   AppliesAt,
@@ -47,11 +48,13 @@ use Rattle.rules.proofs.Accepts.{accepts-exactly}
 use Rattle.rules.proofs.Refuses.{Outcome, takes, gives as gives-first, outcome}
 use Rattle.rules.proofs.Answers.{answered}
 use Rattle.model.specs.Answers.{herdAnswer, farmAnswer}
-use Rattle.listing.specs.declared.Written.{Written}
-use Rattle.listing.specs.declared.Written.the-variants.{Length, Refused}
-use Rattle.listing.specs.Answer.{leaves, answers, saysOf}
-use Rattle.whole.specs.declared.Answer.{Answer}
-use Rattle.contracts.specs.Listings.{Call, Called, left, said, PutAnswer}
+use Rattle.written.specs.declared.Written.{Written}
+use Rattle.written.specs.declared.Written.the-variants.{Length, Refused}
+use Rattle.written.specs.Answer.{leaves, answers, saysOf}
+use Rattle.views.specs.declared.View.{View}
+use Rattle.views.specs.declared.Output.{Output}
+use Rattle.views.specs.Program.{endedOf, PutOutput}
+use Rattle.contracts.specs.Listings.{Call, Called, left, said}
 use Rattle.contracts.proofs.RecordSteps.{herd-checked, farm-checked}
 
 -- ---- a file
@@ -160,16 +163,17 @@ pub one-result : {c : Call} {old new new′ : List ℕ} {r r′ : Written} → C
 one-result w v = record { bytes = w .buffer ∙ sym (v .buffer); answer = w .answer ∙ sym (v .answer) }
 
 -- and so of what a command prints
-pub record SameOutput (new new′ : List ℕ) (a a′ : Answer) : Type 0 where
+pub record SameOutput (new new′ : List ℕ) (a a′ : Output) : Type 0 where
   pub bytes : new ≡ new′
   pub length : a .length ≡ a′ .length
-  pub checked : a .checked ≡ a′ .checked
+  pub ended : a .ended ≡ a′ .ended
 
-pub one-output : {list : Farm → List ℕ} {s old new new′ : List ℕ} {a a′ : Answer}
-    → PutAnswer list s old new a → PutAnswer list s old new′ a′ → SameOutput new new′ a a′
-one-output w v =
+pub one-output : {view : View} {s old new new′ : List ℕ} {a a′ : Output}
+    → PutOutput view s old new a → PutOutput view s old new′ a′ → SameOutput new new′ a a′
+one-output {s = s} w v =
+    let same = w .bytes .past ∙ sym (v .bytes .past) in
     record {
-      bytes = w .printed .buffer ∙ sym (v .printed .buffer);
-      length = w .printed .answer ∙ sym (v .printed .answer);
-      checked = w .checked ∙ sym (v .checked);
+      bytes = w .bytes .bytes ∙ sym (v .bytes .bytes);
+      length = same;
+      ended = w .ended ∙ ap (endedOf (readOf s .checked)) same ∙ sym (v .ended);
     }

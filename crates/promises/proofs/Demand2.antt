@@ -19,9 +19,9 @@ use Rattle.rules.proofs.Farms.{herds-of}
 use Rattle.rules.proofs.Accepts.{accepts-exactly}
 use Rattle.rules.proofs.Passing.{accepted-passes}
 use Rattle.model.specs.Answers.{herdAnswer, farmAnswer}
-use Rattle.listing.specs.declared.Written.{Written}
-use Rattle.listing.specs.declared.Written.the-variants.{Length}
-use Rattle.listing.specs.Answer.{leaves, answers}
+use Rattle.written.specs.declared.Written.{Written}
+use Rattle.written.specs.declared.Written.the-variants.{Length}
+use Rattle.written.specs.Answer.{leaves, answers}
 use Rattle.contracts.specs.Listings.{Call, Called}
 use Rattle.promises.specs.Formulas.{herdGets, farmGets, FileGets}
 

@@ -16,15 +16,18 @@ use Rattle.farm.specs.Herds.{noSlot}
 use Rattle.reader.specs.Files.{readOf, accepted}
 use Rattle.rules.specs.Rules.{farmOf}
 use Rattle.rules.proofs.Accepts.{accepts-exactly}
-use Rattle.rules.proofs.Examples.{pigs-keep}
+use Rattle.worked_files.proofs.Examples.{pigs-keep}
 use Rattle.outputs.specs.declared.Figures.{Figures}
 use Rattle.kinds.specs.Choices.{housingAt, scrubberAt, housingFloorAt, housingAirAt}
 use Rattle.typed.specs.Typed.{typedOf, pigsOf}
 use Rattle.herd.specs.Herd.{figuresOf}
 use Rattle.model.specs.Answers.{herdFigures}
-use Rattle.listing.specs.Listing.{each, herdListing}
+use Rattle.line_parts.specs.Fields.{each}
+use Rattle.listing.specs.Listing.{herdListing}
 use Rattle.listing.proofs.Examples.{pigFigures, pigLines, pig-listing}
-use Rattle.contracts.specs.Listings.{fileHerdCall, listingAt}
+use Rattle.views.specs.declared.View.the-variants as view
+use Rattle.views.specs.Views.{herdText}
+use Rattle.contracts.specs.Listings.{fileHerdCall, textAt}
 
 -- the file
 abbrev pub pigFile : List String
@@ -62,11 +65,12 @@ pigs-figured : herdFigures pigHerd ≡ pigFigures
 unfolding typedOf pigsOf housingAt scrubberAt housingFloorAt housingAirAt figuresOf
 pigs-figured = refl
 
-pigs-listed : listingAt (farmOf (pigHerd ∷ [])) 0 ≡ each bytes pigLines
-unfolding labelOf
+pigs-listed : textAt view.Figures (farmOf (pigHerd ∷ [])) 0 ≡ each bytes pigLines
+unfolding labelOf herdText
 pigs-listed = ap (λ (f : Figures). herdListing (pigHerd .label) Pigs f) pigs-figured ∙ pig-listing (pigHerd .label) refl
 
 -- the herd call on 01's file, for its first herd: accepted, with 01's lines
-pub pig-file-listed : fileHerdCall (each bytes pigFile) 0 ≡ record { checked = Accepted; listing = each bytes pigLines }
+pub pig-file-listed : fileHerdCall view.Figures (each bytes pigFile) 0
+    ≡ record { checked = Accepted; listing = each bytes pigLines }
 unfolding fileHerdCall
 pig-file-listed = rw (pigs-read, pigs-listed)

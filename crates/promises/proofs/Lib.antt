@@ -6,3 +6,4 @@ pub mod Commands
 pub mod Cuts
 pub mod Growing
 pub mod Reasons
+pub mod Room

@@ -9,7 +9,7 @@ use lib.Dec.{leb}
 use borrow.Author.Tests.{leb-false}
 use Rattle.base.specs.Pick.{pick}
 use Rattle.base.specs.First.{Test, _when_, first}
-use Rattle.csv.specs.Reading.{Parts}
+use Rattle.grammar.specs.Reading.{Parts}
 use Rattle.inputs.specs.declared.Kind.{Kind}
 use Rattle.inputs.specs.Inputs.{sameKind}
 use Rattle.farm.specs.declared.Label.{Label}
@@ -23,14 +23,15 @@ use Rattle.farm.specs.Limits.{herdsMost}
 use Rattle.farm.specs.Labels.{labelOk}
 use Rattle.farm.specs.Herds.{noHerd}
 use Rattle.farm.proofs.LabelTexts.{no-label}
-use Rattle.checks.specs.Checks.{hasLabel, labelsOf, earlierLabel, herdsOf}
+use Rattle.herd_tests.specs.Tests.{hasLabel, labelsOf, earlierLabel}
+use Rattle.checks.specs.Checks.{herdsOf}
 use Rattle.records.specs.declared.RecordRead.{RecordRead}
 use Rattle.records.specs.declared.RecordRead.the-variants as reads
 use Rattle.progress.specs.declared.Effect.{Effect}
 use Rattle.progress.specs.declared.Effect.the-variants.{Adds, Begins, Wrong}
 use Rattle.records.specs.Entries.{labelIn, kindIn, slotIn, givenIn, recordRead, entryOf}
 use Rattle.progress.specs.Herds.{withInput, newHerd, hasInput, after, addingTo, effectBy, effectOf}
-use Rattle.progress.specs.Farms.{admitted}
+use Rattle.next_herd.specs.Farms.{admitted}
 use Rattle.records.proofs.RecordReads.{faults, decided, read-first, read-gives, input-good}
 use Rattle.reader.specs.declared.FileAnswer.{FileAnswer}
 use Rattle.reader.specs.Files.{Progress, refused, closed, isCurrent, recordTests, taken}

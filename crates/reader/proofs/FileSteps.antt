@@ -10,8 +10,8 @@ use Rattle.farm.specs.declared.Fault.{Fault}
 use Rattle.farm.specs.declared.Fault.the-variants.{InputMissing}
 use Rattle.farm.specs.declared.Checked.the-variants.{Refused}
 use Rattle.farm.specs.Herds.{noFarm}
-use Rattle.checks.specs.Checks.{lacks}
-use Rattle.progress.specs.Farms.{lackingWith, counted}
+use Rattle.herd_tests.specs.Tests.{lacks}
+use Rattle.next_herd.specs.Farms.{lackingWith, counted}
 use Rattle.reader.specs.declared.files.Current.{Current}
 use Rattle.reader.specs.declared.FileAnswer.{FileAnswer}
 use Rattle.reader.specs.Files.{Progress, nothingRead, refused, accepted, lackingNow, closed, finished}

@@ -9,7 +9,7 @@ use lib.ListN.{length, take, drop, set, length-set}
 use Rattle.base.specs.First.{first}
 use Rattle.csv.specs.declared.ReaderPlace.{ReaderPlace}
 use Rattle.csv.specs.declared.Step.{Step}
-use Rattle.csv.specs.Reading.{Parts, readingOf}
+use Rattle.grammar.specs.Reading.{Parts, readingOf}
 use Rattle.csv.specs.Places.{partsAt}
 use Rattle.csv.proofs.Steps.{Says, says, end-read}
 use Rattle.farm.specs.declared.Label.{Label}
@@ -21,16 +21,17 @@ use Rattle.farm.specs.declared.Fault.the-variants.{RecordBroken}
 use Rattle.farm.specs.declared.Checked.{Checked}
 use Rattle.farm.specs.declared.Checked.the-variants.{Accepted, Refused}
 use Rattle.farm.specs.Labels.{noLabels}
-use Rattle.checks.specs.Checks.{labelsOf, herdsOf}
+use Rattle.herd_tests.specs.Tests.{labelsOf}
+use Rattle.checks.specs.Checks.{herdsOf}
 use Rattle.farm.specs.Limits.{herdsMost}
 use Rattle.farm.specs.Herds.{noHerd, noFarm}
-use Rattle.checks.proofs.LabelsSoFar.{labels-stored}
+use Rattle.herd_tests.proofs.LabelsSoFar.{labels-stored}
 use Rattle.progress.specs.declared.Effect.{Effect}
 use Rattle.progress.specs.declared.Effect.the-variants.{Adds, Wrong, Begins, Ends}
-use Rattle.progress.specs.declared.PlaceRead.{PlaceRead}
-use Rattle.progress.specs.Places.{readBy, readAt}
-use Rattle.progress.specs.Farms.{lackingWith, counted, admitted}
-use Rattle.progress.proofs.FarmSteps.{one-counted}
+use Rattle.places.specs.declared.PlaceRead.{PlaceRead}
+use Rattle.places.specs.Places.{readBy, readAt}
+use Rattle.next_herd.specs.Farms.{lackingWith, counted, admitted}
+use Rattle.next_herd.proofs.FarmSteps.{one-counted}
 use Rattle.reader.specs.declared.files.Current.{Current}
 use Rattle.reader.specs.declared.FileAnswer.{FileAnswer}
 use Rattle.reader.specs.Files.{Progress, refused, nothingRead, recordTests, taken, closed, finished, readFrom}

@@ -9,7 +9,7 @@ use lib.ListN.{length, set}
 use lib.Dec.{eqb, leb, ltb}
 use Rattle.base.specs.Pick.{pick}
 use Rattle.base.specs.First.{Test, _when_, first}
-use Rattle.csv.specs.Reading.{Parts, partsOf, Reading, _then_, end, broken, readingOf}
+use Rattle.grammar.specs.Reading.{Parts, partsOf, Reading, _then_, end, broken, readingOf}
 use Rattle.inputs.specs.Inputs.{sameKind}
 use Rattle.farm.specs.declared.Herd.{Herd}
 use Rattle.farm.specs.declared.Farm.{Farm}
@@ -27,10 +27,11 @@ use Rattle.farm.specs.declared.Checked.the-variants.{Accepted, Refused}
 use Rattle.farm.specs.Limits.{herdsMost}
 use Rattle.farm.specs.Labels.{sameLabel}
 use Rattle.farm.specs.Herds.{noHerd, noFarm}
-use Rattle.checks.specs.Checks.{earlierLabel, herdsOf}
+use Rattle.herd_tests.specs.Tests.{earlierLabel}
+use Rattle.checks.specs.Checks.{herdsOf}
 use Rattle.records.specs.Entries.{entryTests, labelIn, kindIn, slotIn, givenIn}
 use Rattle.progress.specs.Herds.{withInput, newHerd, hasInput}
-use Rattle.progress.specs.Farms.{lackingWith}
+use Rattle.next_herd.specs.Farms.{lackingWith}
 use Rattle.reader.specs.declared.FileAnswer.{FileAnswer}
 
 abbrev pub refused : ℕ → Fault → FileAnswer

@@ -1,4 +1,4 @@
-// The whole file: 1 before all, then records from the front, then 12.
+// The records of a file from the front, then 12.
 use crate::FileAnswer;
 use csv::ReaderPlace;
 use farm::Checked;
@@ -8,17 +8,12 @@ use farm::Herd;
 use farm::herds;
 use farm::labels;
 use progress::Effect;
-use progress::farms;
-use progress::places;
 ghost use mathlib.Core.Path.{_≡_};
 ghost use Prim.Native.Nat.{_<_};
-ghost use Rattle.csv.specs.Reading.{readingOf};
+ghost use Rattle.grammar.specs.Reading.{readingOf};
 ghost use Rattle.farm.specs.Limits.{herdsMost};
-ghost use Rattle.reader.specs.Files.{refused, nothingRead, finished, readFrom, readOf};
+ghost use Rattle.reader.specs.Files.{refused, nothingRead, finished, readFrom};
 ghost use Rattle.reader.specs.Steps.{Underway, progress};
-
-// At most so many bytes.
-pub const FILE_MOST: usize = 65536;
 
 // The herd being read, and the number of its first record, 0 where there is none yet; and of the herds before it, the
 // first record of the first that lacks an input, 0 where none does.
@@ -28,7 +23,7 @@ struct Current {
     lacking: usize,
 }
 
-fn refused(record: usize, fault: Fault) -> FileAnswer
+pub fn refused(record: usize, fault: Fault) -> FileAnswer
     ensures { λ r. ⌜ r ≡ refused «record» fault ⌝ }
 {
     FileAnswer {
@@ -43,13 +38,13 @@ fn finished(mut farm: Farm, c: Current) -> FileAnswer
     ensures { λ r. ⌜ r ≡ finished (progress farm c) ⌝ }
 {
     let herd = c.herd;
-    let lacking = farms::lacking_with(c.lacking, herd, c.first);
+    let lacking = next_herd::lacking_with(c.lacking, herd, c.first);
     if lacking != 0 {
         return refused(lacking, Fault::InputMissing);
     }
     let count = farm.count;
     farm.herds[count] = herd;
-    farm.count = farms::counted(count, c.first);
+    farm.count = next_herd::counted(count, c.first);
     FileAnswer {
         checked: Checked::Accepted,
         farm,
@@ -58,7 +53,7 @@ fn finished(mut farm: Farm, c: Current) -> FileAnswer
 
 // The records from the front. The farm is changed where it stands: to hand it over and back would copy it for each
 // herd.
-fn read_records(s: &[u8]) -> FileAnswer
+pub fn read_records(s: &[u8]) -> FileAnswer
     ensures { λ r. ⌜ r ≡ readFrom 1 nothingRead (readingOf (now (s .entry))) ⌝ }
 {
     let mut place = ReaderPlace::front();
@@ -86,16 +81,16 @@ fn read_records(s: &[u8]) -> FileAnswer
             }
             Effect::Begins => {
                 let count = farm.count;
-                let checked = farms::admitted(labels, count, c.first, herd.label, number);
+                let checked = next_herd::admitted(labels, count, c.first, herd.label, number);
                 if let Checked::Refused(fault, record) = checked {
                     return refused(record, fault);
                 }
                 let done = c.herd;
                 let label = done.label;
                 farm.herds[count] = done;
-                farm.count = farms::counted(count, c.first);
+                farm.count = next_herd::counted(count, c.first);
                 labels.of[count] = label;
-                let lacking = farms::lacking_with(c.lacking, c.herd, c.first);
+                let lacking = next_herd::lacking_with(c.lacking, c.herd, c.first);
                 c = Current {
                     herd,
                     first: number,
@@ -107,14 +102,4 @@ fn read_records(s: &[u8]) -> FileAnswer
             }
         }
     }
-}
-
-// The farm that a file says, or the first refusal that applies.
-pub fn read(s: &[u8]) -> FileAnswer
-    ensures { λ r. ⌜ r ≡ readOf (now (s .entry)) ⌝ }
-{
-    if FILE_MOST < s.len() {
-        return refused(0, Fault::FileTooLong);
-    }
-    read_records(s)
 }

@@ -1,6 +1,7 @@
-// A farm file, of any bytes, becomes the farm that its records say, or exactly one refusal with its record number: the
-// first that applies in 01's order. One pass over the bytes; nothing of the file is copied but labels.
-pub mod files; // the whole file: refusals 1, 2, 8, 9 and 12
+// The records of a farm file become the farm that they say, or exactly one refusal with its record number: the first
+// that applies in 01's order. One pass over the bytes; nothing of the file is copied but labels. How long a file may be
+// is crate `farm_file`.
+pub mod files; // the records from the front: refusals 2, 8, 9 and 12
 
 use farm::Checked;
 use farm::Farm;

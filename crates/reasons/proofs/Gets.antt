@@ -62,11 +62,11 @@ same {p = p} {r = r} e f g = let k : FirstReason p r = subst (λ x. FirstReason 
 
 pub one-answer : (h : Herd) {s t : Says} → ReasonGets h s → ReasonGets h t → s ≡ t
 one-answer h (ReasonGets.refusal f) (ReasonGets.refusal g) = rw (one-first f g)
-one-answer h (ReasonGets.refusal f) (ReasonGets.other-kind g n) = absurd (g (f .place) _ (f .applies))
-one-answer h (ReasonGets.refusal f) (ReasonGets.reason g y r) = absurd (g (f .place) _ (f .applies))
-one-answer h (ReasonGets.other-kind g n) (ReasonGets.refusal f) = absurd (g (f .place) _ (f .applies))
+one-answer h (ReasonGets.refusal f) (ReasonGets.other-kind g n) = absurd (g (f .place) _ (f .is-first .applies))
+one-answer h (ReasonGets.refusal f) (ReasonGets.reason g y r) = absurd (g (f .place) _ (f .is-first .applies))
+one-answer h (ReasonGets.other-kind g n) (ReasonGets.refusal f) = absurd (g (f .place) _ (f .is-first .applies))
 one-answer h (ReasonGets.other-kind g n) (ReasonGets.other-kind k m) = refl
 one-answer h (ReasonGets.other-kind g n) (ReasonGets.reason k y r) = absurd (n _ y)
-one-answer h (ReasonGets.reason g y r) (ReasonGets.refusal f) = absurd (g (f .place) _ (f .applies))
+one-answer h (ReasonGets.reason g y r) (ReasonGets.refusal f) = absurd (g (f .place) _ (f .is-first .applies))
 one-answer h (ReasonGets.reason g y r) (ReasonGets.other-kind k n) = absurd (n _ y)
 one-answer h (ReasonGets.reason g y r) (ReasonGets.reason k z s) = same (one-outdoor y z) r s

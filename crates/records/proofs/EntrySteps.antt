@@ -5,22 +5,23 @@ use mathlib.Core.Path.{_≡_, sym, _∙_}
 use mathlib.Core.Bool.{Bool, true, false, not}
 use mathlib.Core.List.{List}
 use borrow.Author.Tests.{eq-eqb, ne-eqb}
-use Rattle.csv.specs.Places.{held, partsAt}
+use Rattle.plain_fields.specs.Places.{held}
+use Rattle.csv.specs.Places.{partsAt}
 use Rattle.csv.specs.declared.Fields.{Fields}
 use Rattle.inputs.specs.declared.Form.{Form}
 use Rattle.inputs.specs.declared.Kind.{Kind}
-use Rattle.inputs.specs.declared.FoundInput.{FoundInput}
-use Rattle.inputs.specs.declared.FoundInput.the-variants.{At, Nowhere}
-use Rattle.inputs.specs.Find.{findInput}
+use Rattle.finding.specs.declared.FoundInput.{FoundInput}
+use Rattle.finding.specs.declared.FoundInput.the-variants.{At, Nowhere}
+use Rattle.finding.specs.Find.{findInput}
 use Rattle.farm.specs.declared.Label.{Label}
 use Rattle.farm.specs.declared.Given.{Given}
 use Rattle.farm.specs.declared.Fault.the-variants.{NotFourFields, BadLabel, NotInTheList, StandardForbidden, BadValue}
 use Rattle.farm.specs.Labels.{labelOk, labelOf}
-use Rattle.records.specs.declared.ValueRead.{ValueRead}
-use Rattle.records.specs.declared.ValueRead.the-variants.{Is, Forbidden, Unfit}
+use Rattle.number_values.specs.declared.ValueRead.{ValueRead}
+use Rattle.number_values.specs.declared.ValueRead.the-variants.{Is, Forbidden, Unfit}
 use Rattle.records.specs.declared.RecordRead.{RecordRead}
 use Rattle.records.specs.declared.RecordRead.the-variants.{Gives, Wrong}
-use Rattle.records.specs.Values.{valueOf}
+use Rattle.values.specs.Values.{valueOf}
 use Rattle.records.specs.Entries.{labelIn, recordRead, inputRead, entryOf}
 
 -- ---- what it says: 5 to 7

@@ -1,3 +1,2 @@
-pub mod ValueSteps
 pub mod EntrySteps
 pub mod RecordReads

@@ -8,12 +8,12 @@ use native.Mathlib.Omega.{arith}
 use lib.Dec.{eqb}
 use Rattle.base.specs.Pick.{pick}
 use Rattle.base.specs.First.{Test, _when_, first}
-use Rattle.csv.specs.Reading.{Parts}
+use Rattle.grammar.specs.Reading.{Parts}
 use Rattle.inputs.specs.declared.Kind.{Kind}
-use Rattle.inputs.specs.declared.FoundInput.{FoundInput}
-use Rattle.inputs.specs.declared.FoundInput.the-variants.{At, Nowhere}
-use Rattle.inputs.specs.Find.{findInput}
-use Rattle.inputs.proofs.Finds.{find-input-at}
+use Rattle.finding.specs.declared.FoundInput.{FoundInput}
+use Rattle.finding.specs.declared.FoundInput.the-variants.{At, Nowhere}
+use Rattle.finding.specs.Find.{findInput}
+use Rattle.finding.proofs.Finds.{find-input-at}
 use Rattle.farm.specs.declared.Given.{Given}
 use Rattle.farm.specs.declared.Fault.{Fault}
 use Rattle.farm.specs.declared.Fault.the-variants.{NotFourFields, BadLabel, NotInTheList, StandardForbidden, BadValue}
@@ -23,7 +23,7 @@ use Rattle.farm.proofs.Slots.{count-most}
 use Rattle.records.specs.declared.RecordRead.{RecordRead}
 use Rattle.records.specs.declared.RecordRead.the-variants as reads
 use Rattle.records.specs.declared.Entry.{Entry}
-use Rattle.records.specs.Values.{valueOf}
+use Rattle.values.specs.Values.{valueOf}
 use Rattle.records.specs.Entries.{
   labelIn,
   isNowhere,

@@ -7,14 +7,14 @@ use mathlib.Core.List.{List, [], _∷_}
 use lib.ListN.{drop}
 use lib.Dec.{eqb}
 use Rattle.base.specs.First.{Test, _when_, first}
-use Rattle.csv.specs.Reading.{Parts}
+use Rattle.grammar.specs.Reading.{Parts}
 use Rattle.inputs.specs.declared.Kind.{Kind}
 use Rattle.inputs.specs.declared.Kind.the-variants.{Roughage}
 use Rattle.inputs.specs.declared.Form.{Form}
-use Rattle.inputs.specs.declared.FoundInput.{FoundInput}
-use Rattle.inputs.specs.declared.FoundInput.the-variants.{At, Nowhere}
+use Rattle.finding.specs.declared.FoundInput.{FoundInput}
+use Rattle.finding.specs.declared.FoundInput.the-variants.{At, Nowhere}
 use Rattle.inputs.specs.Inputs.{noRow}
-use Rattle.inputs.specs.Find.{findInput}
+use Rattle.finding.specs.Find.{findInput}
 use Rattle.farm.specs.declared.Label.{Label}
 use Rattle.farm.specs.declared.Given.{Given}
 use Rattle.farm.specs.declared.Given.the-variants.{Missing}
@@ -22,12 +22,12 @@ use Rattle.farm.specs.declared.Fault.{Fault}
 use Rattle.farm.specs.declared.Fault.the-variants.{NotFourFields, BadLabel, NotInTheList, StandardForbidden, BadValue}
 use Rattle.farm.specs.Limits.{slots}
 use Rattle.farm.specs.Labels.{labelOk, labelOf}
-use Rattle.records.specs.declared.ValueRead.{ValueRead}
-use Rattle.records.specs.declared.ValueRead.the-variants.{Is, Forbidden, Unfit}
+use Rattle.number_values.specs.declared.ValueRead.{ValueRead}
+use Rattle.number_values.specs.declared.ValueRead.the-variants.{Is, Forbidden, Unfit}
 use Rattle.records.specs.declared.RecordRead.{RecordRead}
 use Rattle.records.specs.declared.RecordRead.the-variants.{Gives, Wrong}
 use Rattle.records.specs.declared.Entry.{Entry}
-use Rattle.records.specs.Values.{valueOf}
+use Rattle.values.specs.Values.{valueOf}
 
 -- the label that a record has
 abbrev pub labelIn : Parts → Label

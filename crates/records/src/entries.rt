@@ -1,12 +1,11 @@
 // What a record says by itself: refusals 3 to 7, in their order, or a value for an input.
 use crate::Entry;
 use crate::RecordRead;
-use crate::ValueRead;
-use crate::values;
 use csv::Fields;
 use farm::Fault;
 use farm::labels;
-use inputs::FoundInput;
+use finding::FoundInput;
+use number_values::ValueRead;
 ghost use mathlib.Core.Path.{_≡_};
 ghost use Rattle.csv.specs.Places.{partsAt};
 ghost use Rattle.records.specs.Entries.{inputRead, entryOf};
@@ -19,7 +18,7 @@ fn input_read(s: &[u8], f: Fields) -> RecordRead
 {
     let path = csv::field(s, f.second);
     let name = csv::field(s, f.third);
-    let FoundInput::At(kind, slot, form) = inputs::find_input(path, name) else {
+    let FoundInput::At(kind, slot, form) = finding::find_input(path, name) else {
         return RecordRead::Wrong(Fault::NotInTheList);
     };
     let value = csv::field(s, f.fourth);

@@ -1,19 +1,11 @@
 // What a record says by itself: refusals 3 to 7, or a value for an input. What it does then is crate `progress`, the
 // whole file crate `reader`.
-mod values; // what a value's text says
 pub mod entries; // what a record says
 
 use farm::Fault;
 use farm::Given;
 use farm::Label;
 use inputs::Kind;
-
-// What a value's text says: a value, a `standard` that 6 forbids, or nothing that its input may be.
-pub enum ValueRead {
-    Is(Given),
-    Forbidden,
-    Unfit,
-}
 
 // What a record says by itself: a value for the input of this kind and slot, or what is wrong with it.
 pub enum RecordRead {

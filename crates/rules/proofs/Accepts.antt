@@ -7,13 +7,13 @@ use mathlib.Core.List.{List}
 use lib.ListN.{length}
 use borrow.Author.Tests.{le-ltb}
 use Rattle.base.proofs.Clash.{clash}
-use Rattle.csv.specs.Reading.{readingOf}
-use Rattle.csv.proofs.Files.{read-file, file-read}
+use Rattle.grammar.specs.Reading.{readingOf}
+use Rattle.grammar.proofs.Files.{read-file, file-read}
 use Rattle.farm.specs.declared.Farm.{Farm}
 use Rattle.reader.specs.declared.FileAnswer.{FileAnswer}
 use Rattle.reader.specs.Files.{accepted, nothingRead, readFrom, fileMost, readOf}
 use Rattle.rules.specs.Rules.{FarmOf, KeepsRules}
-use Rattle.rules.proofs.Readings.{whole-thens}
+use Rattle.first_refusal.proofs.Readings.{whole-thens}
 use Rattle.rules.proofs.SaysRead.{says-read}
 use Rattle.rules.proofs.Answers.{Ran, accepts, breaks, wrong, missing, Answered, too-long, read, answered}
 

@@ -8,53 +8,26 @@ use lib.Dec.{ltb}
 use lib.ListN.{length, length-append}
 use borrow.Author.Tests.{ltb-true, ltb-false}
 use Rattle.base.specs.Each.{Each}
-use Rattle.csv.specs.Reading.{Reading, _then_, end, broken, readingOf, partsOf}
+use Rattle.grammar.specs.Reading.{Reading, _then_, end, broken, readingOf, partsOf}
 use Rattle.farm.specs.declared.Farm.{Farm}
 use Rattle.farm.specs.declared.Fault.{Fault}
 use Rattle.farm.specs.declared.Fault.the-variants.{FileTooLong, RecordBroken, InputMissing}
 use Rattle.farm.specs.Refusals.{number}
 use Rattle.reader.specs.declared.FileAnswer.{FileAnswer}
 use Rattle.reader.specs.Files.{Progress, refused, accepted, nothingRead, taken, readFrom, fileMost, readOf}
-use Rattle.rules.specs.Rules.{Record, FarmOf}
+use Rattle.first_refusal.specs.Records.{Record}
+use Rattle.first_refusal.proofs.Clean.{CleanOf, clean-none, clean-last}
+use Rattle.rules.specs.Rules.{FarmOf}
 use Rattle.rules.specs.Refusals.{Applies, Lacks}
 use Rattle.rules.proofs.Faults.{NoneBelow, none-at-all}
-use Rattle.rules.proofs.Readings.{thens, thens-append}
+use Rattle.first_refusal.proofs.Readings.{thens, thens-append}
 use Rattle.rules.proofs.Verdicts.{Inv, start, Verdict, refuses, goes-on, verdict}
 use Rattle.rules.proofs.FileEnd.{Ended, farm, lacking, finish}
 
 -- ---- records for which none of 3 to 11 applies
 
 abbrev pub Clean : List Record → Type 0
-Clean rs = (a : List Record) (cs : Record) (b : List Record) → rs ≡ a ++ (cs ∷ b) → (f : Fault) → Applies a cs f → ⊥
-
--- where a record stands in a list with one more at its end
-data Splits (rs : List Record) (cs : Record) (a : List Record) (c : Record) : Type 0 where
-  at-end : rs ≡ a → cs ≡ c → Splits rs cs a c
-  within : (b : List Record) → rs ≡ a ++ (c ∷ b) → Splits rs cs a c
-
-not-nil : {R : Type 0} (a : List Record) (c : Record) (b : List Record) → [] ≡ a ++ (c ∷ b) → R
-not-nil a c b e = absurd (omega (arith, ap length e, length-append a (c ∷ b)))
-
-splits : (rs : List Record) (cs : Record) (a : List Record) (c : Record) (b : List Record)
-    → rs ++ (cs ∷ []) ≡ a ++ (c ∷ b) → Splits rs cs a c
-splits [] cs [] c b e = at-end refl (cc)
-splits [] cs (x ∷ a) c b e = let d : [] ≡ a ++ (c ∷ b) = cc in not-nil a c b d
-splits (y ∷ rs) cs [] c b e = let d : y ≡ c = cc in within rs (ap (λ (x : Record). x ∷ rs) d)
-splits (y ∷ rs) cs (x ∷ a) c b e = go (splits rs cs a c b (cc))
-  where
-    go : Splits rs cs a c → Splits (y ∷ rs) cs (x ∷ a) c
-    go (at-end p q) = let d : y ≡ x = cc in at-end (cc) q
-    go (within b′ p) = let d : y ≡ x = cc in within b′ (cc)
-
-clean-none : Clean []
-clean-none a cs b e = not-nil a cs b e
-
-clean-last : (rs : List Record) (cs : Record) → Clean rs → ((f : Fault) → Applies rs cs f → ⊥) → Clean (rs ++ (cs ∷ []))
-clean-last rs cs clean here′ a c b e f x = go (splits rs cs a c b e)
-  where
-    go : Splits rs cs a c → ⊥
-    go (at-end p q) = here′ f (rw (p, q) x)
-    go (within b′ p) = clean a c b′ p f x
+Clean rs = CleanOf Applies rs
 
 -- ---- the answer to a reading
 
@@ -92,7 +65,7 @@ module _ (w : Reading) where
       go (goes-on below q on) again =
           let n : length (before ++ (cs ∷ [])) + 1 ≡ length before + 1 + 1 =
           omega (arith, length-append before (cs ∷ [])) in
-          let rest = again _ _ on (clean-last before cs clean (none-at-all below))
+          let rest = again _ _ on (clean-last Applies before cs clean (none-at-all below))
           (e ∙ sym (thens-append before (cs ∷ []) r)) in
           subst (Ran w) (ap (λ (k : ℕ). readFrom k (taken (length before + 1) p (partsOf cs)) r) n ∙ sym (q _)) rest
 
@@ -109,4 +82,5 @@ answered s = go (ltb fileMost (length s)) refl
     go : (t : Bool) → ltb fileMost (length s) ≡ t → Answered s (readOf s)
     go true e = rw (readOf, e) (too-long (ltb-true fileMost (length s) e))
     go false e = rw (readOf, e)
-        (read (ltb-false fileMost (length s) e) (run (readingOf s) [] nothingRead start clean-none (readingOf s) refl))
+        (read (ltb-false fileMost (length s) e)
+        (run (readingOf s) [] nothingRead start (clean-none Applies) (readingOf s) refl))

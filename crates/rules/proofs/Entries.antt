@@ -10,26 +10,27 @@ use lib.ListN.{length, getD}
 use borrow.Author.Tests.{eqb-true, eqb-false}
 use Rattle.base.specs.First.{first}
 use Rattle.base.proofs.Clash.{clash}
-use Rattle.csv.specs.Reading.{partsOf}
+use Rattle.grammar.specs.Reading.{partsOf}
 use Rattle.inputs.specs.declared.Kind.{Kind}
 use Rattle.inputs.specs.declared.Form.{Form}
-use Rattle.inputs.specs.declared.FoundInput.{FoundInput}
-use Rattle.inputs.specs.declared.FoundInput.the-variants.{At, Nowhere}
+use Rattle.finding.specs.declared.FoundInput.{FoundInput}
+use Rattle.finding.specs.declared.FoundInput.the-variants.{At, Nowhere}
 use Rattle.inputs.specs.Inputs.{formOf}
-use Rattle.inputs.specs.Find.{findInput}
-use Rattle.inputs.proofs.Finds.{find-input-at, find-input-of}
+use Rattle.finding.specs.Find.{findInput}
+use Rattle.finding.proofs.Finds.{find-input-at, find-input-of}
 use Rattle.farm.specs.declared.Given.{Given}
 use Rattle.farm.specs.declared.Fault.{Fault}
 use Rattle.farm.specs.declared.Fault.the-variants.{NotFourFields, BadLabel, NotInTheList, StandardForbidden, BadValue}
 use Rattle.farm.specs.Labels.{labelOk, labelOf}
 use Rattle.farm.specs.Refusals.{number}
-use Rattle.records.specs.declared.ValueRead.{ValueRead}
-use Rattle.records.specs.declared.ValueRead.the-variants.{Is, Forbidden, Unfit}
+use Rattle.number_values.specs.declared.ValueRead.{ValueRead}
+use Rattle.number_values.specs.declared.ValueRead.the-variants.{Is, Forbidden, Unfit}
 use Rattle.reader.specs.declared.FileAnswer.{FileAnswer}
-use Rattle.records.specs.Values.{valueOf}
+use Rattle.values.specs.Values.{valueOf}
 use Rattle.records.specs.Entries.{kindIn, slotIn, givenIn, entryTests}
 use Rattle.reader.specs.Files.{refused}
-use Rattle.rules.specs.Rules.{Record, GoodLabel, Names, ValueIs, RecordSays, says}
+use Rattle.first_refusal.specs.Records.{Record}
+use Rattle.rules.specs.Rules.{GoodLabel, Names, ValueIs, RecordSays, says}
 use Rattle.rules.specs.Refusals.{
   labelText,
   valueIn,

@@ -12,7 +12,7 @@ use Rattle.base.specs.Pick.{pick}
 use Rattle.base.specs.First.{Test, _when_, first}
 use Rattle.base.proofs.Clash.{clash}
 use Rattle.base.specs.Each.{Each, none, more}
-use Rattle.csv.specs.Reading.{partsOf}
+use Rattle.grammar.specs.Reading.{partsOf}
 use Rattle.inputs.specs.declared.Kind.{Kind}
 use Rattle.inputs.specs.Inputs.{sameKind}
 use Rattle.farm.specs.declared.Label.{Label}
@@ -21,15 +21,17 @@ use Rattle.farm.specs.declared.Herd.{Herd}
 use Rattle.farm.specs.declared.Farm.{Farm}
 use Rattle.farm.specs.declared.Fault.the-variants.{EarlierLabel, NoRoomForHerd, OtherKind, GivenAlready}
 use Rattle.farm.specs.Labels.{sameLabel, labelOf}
-use Rattle.checks.specs.Checks.{labelsOf, earlierLabel, herdsOf}
+use Rattle.herd_tests.specs.Tests.{labelsOf, earlierLabel}
+use Rattle.checks.specs.Checks.{herdsOf}
 use Rattle.farm.specs.Herds.{noHerd}
 use Rattle.reader.specs.declared.FileAnswer.{FileAnswer}
 use Rattle.records.specs.Entries.{kindIn, slotIn, givenIn}
 use Rattle.progress.specs.Herds.{withInput, newHerd, hasInput}
-use Rattle.progress.specs.Farms.{lackingWith}
+use Rattle.next_herd.specs.Farms.{lackingWith}
 use Rattle.reader.specs.Files.{Progress, refused, withHerd, closed, recordTests, taken}
 use Rattle.rules.specs.Lists.{Some, here, there, Apart, Pairs}
-use Rattle.rules.specs.Rules.{herdsMost, Record, GoodLabel, RecordSays, Gives, PartOf, Stand, farmOf}
+use Rattle.first_refusal.specs.Records.{Record}
+use Rattle.rules.specs.Rules.{herdsMost, GoodLabel, RecordSays, Gives, PartOf, Stand, farmOf}
 use Rattle.rules.proofs.Lists.{neither, apart-last}
 use Rattle.rules.proofs.Labels.{same-texts, other-label, own-label}
 use Rattle.rules.proofs.Entries.{reads}

@@ -24,7 +24,7 @@ use Rattle.farm.specs.declared.Fault.the-variants.{
   BufferTooShort,
 }
 use Rattle.farm.specs.Refusals.{number}
-use Rattle.rules.specs.Rules.{Record}
+use Rattle.first_refusal.specs.Records.{Record}
 use Rattle.rules.specs.Refusals.{
   Applies,
   not-four-fields,

@@ -16,11 +16,12 @@ use Rattle.inputs.specs.Inputs.{countOf}
 use Rattle.farm.specs.declared.Herd.{Herd}
 use Rattle.farm.specs.declared.Farm.{Farm}
 use Rattle.farm.specs.declared.Fault.the-variants.{InputMissing}
-use Rattle.checks.specs.Checks.{labelsOf, lacks}
+use Rattle.herd_tests.specs.Tests.{labelsOf, lacks}
 use Rattle.reader.specs.declared.FileAnswer.{FileAnswer}
 use Rattle.reader.specs.Files.{Progress, refused, accepted, closed, finished}
 use Rattle.rules.specs.Lists.{Some, here, there, Apart}
-use Rattle.rules.specs.Rules.{herdsMost, Record, Gives, PartOf, HerdOf, Stand, farmOf, FarmOf}
+use Rattle.first_refusal.specs.Records.{Record}
+use Rattle.rules.specs.Rules.{herdsMost, Gives, PartOf, HerdOf, Stand, farmOf, FarmOf}
 use Rattle.rules.specs.Refusals.{NamesInput, SameLabel, Lacks}
 use Rattle.rules.proofs.Lists.{each-append, each-front, each-back, meet, some-left, some-right}
 use Rattle.rules.proofs.Entries.{one-kind, one-slot, reads}

@@ -20,14 +20,15 @@ use Rattle.farm.specs.declared.Label.{Label}
 use Rattle.farm.specs.declared.Given.{Given}
 use Rattle.farm.specs.declared.Slot.{Slot}
 use Rattle.farm.specs.declared.Herd.{Herd}
-use Rattle.checks.specs.Checks.{lacksOne, lacks}
+use Rattle.herd_tests.specs.Tests.{lacksOne, lacks}
 use Rattle.farm.specs.Limits.{slots}
 use Rattle.farm.specs.Labels.{labelOf}
 use Rattle.farm.specs.Herds.{isMissing, noSlot}
 use Rattle.farm.proofs.Slots.{count-most}
 use Rattle.progress.specs.Herds.{withInput, newHerd, hasInput}
 use Rattle.rules.specs.Lists.{Some, here, there, Apart, Pairs}
-use Rattle.rules.specs.Rules.{Record, ValueIs, RecordSays, Gives, PartOf, HerdOf}
+use Rattle.first_refusal.specs.Records.{Record}
+use Rattle.rules.specs.Rules.{ValueIs, RecordSays, Gives, PartOf, HerdOf}
 use Rattle.rules.proofs.Lists.{neither, each-front, each-back, meet, apart-last, pairs-append, pairs-map, fellow}
 use Rattle.rules.proofs.Entries.{reads, one-given}
 

@@ -3,7 +3,6 @@ pub mod Labels
 pub mod Values
 pub mod Faults
 pub mod Entries
-pub mod Readings
 pub mod Herds
 pub mod Farms
 pub mod SaysRead
@@ -15,4 +14,3 @@ pub mod Accepts
 pub mod Passing
 pub mod Refuses
 pub mod Order
-pub mod Examples

@@ -7,6 +7,8 @@ use mathlib.Core.Logic.{_⊎_, inl, inr, ⊎-elim}
 use native.Mathlib.Omega.{arith}
 use lib.ListN.{length}
 use Rattle.base.specs.Each.{Each, none, more}
+use Rattle.first_refusal.specs.Records.{Record}
+use Rattle.first_refusal.proofs.Readings.{Split}
 use Rattle.rules.specs.Lists.{Some, here, there, Last, only, past, Apart, Pairs}
 
 -- ---- flags
@@ -143,3 +145,12 @@ pub fellow : {A B : Type 0} {R : A → B → Type 0} {Q : B → Type 0} {l : Lis
     → Fellow R Q
 fellow (Pairs.more r p) (here q) = record { one = _; of = _; pair = r; has = q }
 fellow (Pairs.more r p) (there s) = fellow p s
+
+-- ---- records
+
+-- what holds of each holds of one that stands there
+pub at-split : {P : Record → Type 0} {rs a : List Record} {c : Record} → Split rs a c → Each P rs → P c
+at-split {P} {rs} {a} {c} s e = go (each-back a (c ∷ s .after) (rw (s .is) at e))
+  where
+    go : {l : List Record} → Each P (c ∷ l) → P c
+    go (more p _) = p

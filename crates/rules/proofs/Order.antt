@@ -10,16 +10,17 @@ use Rattle.base.proofs.Clash.{clash}
 use Rattle.base.specs.Each.{Each, more}
 use Rattle.base.specs.Reordered.{Reordered, next, swap, chain}
 use Rattle.base.proofs.Reordered.{reordered-back, reordered-length, each-reordered}
-use Rattle.csv.specs.Grammar.{FileOf}
+use Rattle.grammar.specs.Grammar.{FileOf}
 use Rattle.csv.proofs.Promises.{one-reading}
 use Rattle.inputs.specs.declared.Kind.{Kind}
 use Rattle.farm.specs.declared.Given.{Given}
 use Rattle.farm.specs.declared.Herd.{Herd}
 use Rattle.farm.specs.declared.Farm.{Farm}
 use Rattle.farm.specs.Labels.{labelOf}
-use Rattle.checks.specs.Checks.{labelsOf}
+use Rattle.herd_tests.specs.Tests.{labelsOf}
 use Rattle.rules.specs.Lists.{Some, here, there, Apart, Pairs}
-use Rattle.rules.specs.Rules.{Record, RecordSays, Gives, HerdOf, Stand, KeepsRules, fileMost}
+use Rattle.first_refusal.specs.Records.{Record}
+use Rattle.rules.specs.Rules.{RecordSays, Gives, HerdOf, Stand, KeepsRules, fileMost}
 use Rattle.rules.specs.Refusals.{labelText, SameLabel}
 use Rattle.rules.proofs.Lists.{some-none, each-back}
 use Rattle.rules.proofs.Herds.{one-herd}

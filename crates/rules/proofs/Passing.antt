@@ -17,14 +17,17 @@ use Rattle.farm.specs.declared.Herd.{Herd}
 use Rattle.farm.specs.declared.Farm.{Farm}
 use Rattle.farm.specs.declared.Checked.the-variants.{Accepted}
 use Rattle.farm.specs.Labels.{labelOk, sameLabel}
-use Rattle.checks.specs.Checks.{labelsOf, fits, checkFarm}
+use Rattle.herd_tests.specs.Tests.{labelsOf}
+use Rattle.fits.specs.Fits.{fits}
+use Rattle.checks.specs.Checks.{checkFarm}
 use Rattle.checks.specs.Accepts.{Passes, GoodHerd, Distinct, GoodFarm}
 use Rattle.checks.proofs.Accepts.{good-farm}
 use Rattle.farm.specs.Herds.{isMissing, noSlot}
 use Rattle.farm.proofs.Slots.{count-most}
 use Rattle.reader.specs.Files.{accepted, readOf}
 use Rattle.rules.specs.Lists.{Apart}
-use Rattle.rules.specs.Rules.{Record, ValueIs, HerdOf, Stand, FarmOf}
+use Rattle.first_refusal.specs.Records.{Record}
+use Rattle.rules.specs.Rules.{ValueIs, HerdOf, Stand, FarmOf}
 use Rattle.rules.proofs.Lists.{fellow}
 use Rattle.rules.proofs.Labels.{good-ok}
 use Rattle.rules.proofs.Entries.{reads}

@@ -8,11 +8,12 @@ use native.Mathlib.Omega.{arith}
 use lib.ListN.{length, length-map}
 use Rattle.base.specs.Each.{Each, none, more}
 use Rattle.base.proofs.Each.{each-map}
-use Rattle.checks.specs.Checks.{labelsOf}
+use Rattle.herd_tests.specs.Tests.{labelsOf}
 use Rattle.farm.specs.declared.Herd.{Herd}
 use Rattle.farm.specs.Labels.{text, labelOf}
 use Rattle.rules.specs.Lists.{Some, here, there, Apart}
-use Rattle.rules.specs.Rules.{herdsMost, Record, GoodLabel, Gives, PartOf, Stand}
+use Rattle.first_refusal.specs.Records.{Record}
+use Rattle.rules.specs.Rules.{herdsMost, GoodLabel, Gives, PartOf, Stand}
 use Rattle.rules.specs.Refusals.{labelText, NamesInput, ManyLabels}
 use Rattle.rules.proofs.Lists.{meet, some-front, some-back, some-split, each-left}
 use Rattle.rules.proofs.Labels.{text-of, one-text}

@@ -1,29 +1,27 @@
 -- The first refusal: a file is refused with a number and a record exactly where that is the first refusal that applies,
 -- in 01's order; and a file is accepted exactly where none applies. Assumes nothing.
 use Prim.Native.Nat.{ℕ, suc, _+_, _<_, _≤_}
-use mathlib.Core.Path.{_≡_, refl, sym, ap, subst, _∙_}
+use mathlib.Core.Path.{_≡_, refl, sym, ap, _∙_}
 use mathlib.Core.Logic.{_↔_, _⊎_, inl, inr}
-use mathlib.Core.Bool.{Bool, true, false}
 use mathlib.Core.List.{List, _∷_, _++_}
 use native.Mathlib.Omega.{arith}
-use lib.Dec.{ltb}
 use lib.ListN.{length, length-append}
-use borrow.Author.Tests.{ltb-true, ltb-false}
 use Rattle.base.proofs.Clash.{clash}
 use Rattle.base.specs.Each.{Each}
-use Rattle.csv.specs.Reading.{Reading, _then_, end, broken, readingOf}
-use Rattle.csv.proofs.Files.{file-read, read-file, breaks-read, read-breaks}
+use Rattle.grammar.specs.Reading.{Reading, _then_, end, broken, readingOf}
+use Rattle.grammar.proofs.Files.{file-read, read-file, breaks-read, read-breaks}
 use Rattle.farm.specs.declared.Farm.{Farm}
 use Rattle.farm.specs.declared.Fault.{Fault}
 use Rattle.farm.specs.declared.Fault.the-variants.{FileTooLong, RecordBroken, InputMissing}
 use Rattle.farm.specs.Refusals.{number}
 use Rattle.reader.specs.declared.FileAnswer.{FileAnswer}
 use Rattle.reader.specs.Files.{refused, accepted, fileMost, readOf}
-use Rattle.rules.specs.Rules.{Record, KeepsRules}
+use Rattle.first_refusal.specs.Records.{Record, RecordAt}
+use Rattle.first_refusal.proofs.Order.{compare, Order, sooner, later, same, by-turn, One, one-of-first}
+use Rattle.rules.specs.Rules.{KeepsRules}
 use Rattle.rules.specs.Refusals.{
   Applies,
   Lacks,
-  RecordAt,
   AppliesAt,
   Sooner,
   too-long-first,
@@ -35,7 +33,7 @@ use Rattle.rules.specs.Refusals.{
 }
 use Rattle.rules.proofs.Faults.{one-fault, applies-within, NoneBelow}
 use Rattle.rules.proofs.Answers.{Clean, Ran, accepts, breaks, wrong, missing, Answered, too-long, read, answered}
-use Rattle.rules.proofs.Readings.{
+use Rattle.first_refusal.proofs.Readings.{
   thens,
   whole-thens,
   broken-thens,
@@ -45,8 +43,9 @@ use Rattle.rules.proofs.Readings.{
   at-end,
   at-break,
 }
-use Rattle.rules.proofs.Readings.{split-read, one-thens, end-not-broken, shorter, as-long, split-list, at-split}
-use Rattle.rules.proofs.Readings.{split-at, none-broken, same-records}
+use Rattle.first_refusal.proofs.Readings.{split-read, one-thens, end-not-broken, shorter, as-long, split-list}
+use Rattle.first_refusal.proofs.Readings.{split-at, none-broken, same-records}
+use Rattle.rules.proofs.Lists.{at-split}
 use Rattle.rules.proofs.Accepts.{accepts-exactly}
 
 -- ---- the order, by numbers
@@ -222,43 +221,18 @@ outcome {s} (read short r) = go r
 
 -- ---- there is one first refusal
 
-data Order (m : ℕ) (f : Fault) (n : ℕ) (g : Fault) : Type 0 where
-  sooner : Sooner m f n g → Order m f n g
-  later : Sooner n g m f → Order m f n g
-  same : m ≡ n → f ≡ g → Order m f n g
+by-records : (m n : ℕ) (f g : Fault) → number f ≤ 11 → number g ≤ 11 → Order Sooner m f n g
+by-records m n f g h k =
+    by-turn Sooner m n f g (number f) (number g)
+    (λ l. from-the-front {fault = f} {other = g} (omega arith) (omega arith) l)
+    (λ l. from-the-front {fault = g} {other = f} (omega arith) (omega arith) l)
+    (λ l. in-that-order {fault = f} {other = g} (omega arith) l)
+    (λ l. in-that-order {fault = g} {other = f} (omega arith) l) (one-fault f g)
 
-by-records : (m n : ℕ) (f g : Fault) → number f ≤ 11 → number g ≤ 11 → Order m f n g
-by-records m n f g h k = go (ltb m n) (ltb n m) refl refl
-  where
-    in-one : m ≡ n → Order m f n g
-    in-one e = pick′ (ltb (number f) (number g)) (ltb (number g) (number f)) refl refl
-      where
-        pick′ : (t u : Bool) → ltb (number f) (number g) ≡ t → ltb (number g) (number f) ≡ u → Order m f n g
-        pick′ true u et eu =
-            sooner (subst (λ (i : ℕ). Sooner m f i g) e
-            (in-that-order {fault = f} {other = g} (omega arith) (ltb-true (number f) (number g) et)))
-        pick′ false true et eu =
-            later (subst (λ (i : ℕ). Sooner i g m f) e
-            (in-that-order {fault = g} {other = f} (omega arith) (ltb-true (number g) (number f) eu)))
-        pick′ false false et eu =
-            let a = ltb-false (number f) (number g) et in
-            let b = ltb-false (number g) (number f) eu in
-            same e (one-fault f g (omega arith))
+by-herds : (m n : ℕ) → Order Sooner m InputMissing n InputMissing
+by-herds m n = compare m n (λ l. sooner (first-herd l)) (λ l. later (first-herd l)) (λ e. same e refl)
 
-    go : (t u : Bool) → ltb m n ≡ t → ltb n m ≡ u → Order m f n g
-    go true u et eu = sooner (from-the-front {fault = f} {other = g} (omega arith) (omega arith) (ltb-true m n et))
-    go false true et eu = later (from-the-front {fault = g} {other = f} (omega arith) (omega arith) (ltb-true n m eu))
-    go false false et eu = let a = ltb-false m n et in let b = ltb-false n m eu in in-one (omega arith)
-
-by-herds : (m n : ℕ) → Order m InputMissing n InputMissing
-by-herds m n = go (ltb m n) (ltb n m) refl refl
-  where
-    go : (t u : Bool) → ltb m n ≡ t → ltb n m ≡ u → Order m InputMissing n InputMissing
-    go true u et eu = sooner (first-herd (ltb-true m n et))
-    go false true et eu = later (first-herd (ltb-true n m eu))
-    go false false et eu = let a = ltb-false m n et in let b = ltb-false n m eu in same (omega arith) refl
-
-order : {m n : ℕ} {f g : Fault} → Rank m f → Rank n g → Order m f n g
+order : {m n : ℕ} {f g : Fault} → Rank m f → Rank n g → Order Sooner m f n g
 order before-all before-all = same refl refl
 order before-all (of-record {f = g} h _) = sooner (too-long-first {fault = g} (omega arith))
 order before-all after-all = sooner (too-long-first {fault = InputMissing} (omega arith))
@@ -269,17 +243,8 @@ order after-all before-all = later (too-long-first {fault = InputMissing} (omega
 order after-all (of-record {f = g} _ h) = later (then-missing {fault = g} (omega arith))
 order {m} {n} after-all after-all = by-herds m n
 
-pub record One (m : ℕ) (f : Fault) (n : ℕ) (g : Fault) : Type 0 where
-  pub at-record : m ≡ n
-  pub fault : f ≡ g
-
 pub one-first : {s : List ℕ} {m n : ℕ} {f g : Fault} → First s m f → First s n g → One m f n g
-one-first {s} {m} {n} {f} {g} a b = go (order (rank (a .applies)) (rank (b .applies)))
-  where
-    go : Order m f n g → One m f n g
-    go (sooner d) = absurd (b .none-sooner m f (a .applies) d)
-    go (later d) = absurd (a .none-sooner n g (b .applies) d)
-    go (same p q) = record { at-record = p; fault = q }
+one-first x y = one-of-first (λ a b. order (rank a) (rank b)) x y
 
 -- ---- the theorems
 

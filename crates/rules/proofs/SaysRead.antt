@@ -11,7 +11,7 @@ use borrow.Author.Tests.{lt-leb}
 use Rattle.base.specs.First.{first}
 use Rattle.base.specs.Each.{Each, none, more}
 use Rattle.base.proofs.Each.{each-map}
-use Rattle.csv.specs.Reading.{Reading, _then_, end, whole, partsOf}
+use Rattle.grammar.specs.Reading.{Reading, _then_, end, whole, partsOf}
 use Rattle.inputs.specs.declared.Kind.{Kind}
 use Rattle.inputs.specs.Inputs.{sameKind}
 use Rattle.farm.specs.declared.Label.{Label}
@@ -19,27 +19,18 @@ use Rattle.farm.specs.declared.Given.{Given}
 use Rattle.farm.specs.declared.Herd.{Herd}
 use Rattle.farm.specs.declared.Farm.{Farm}
 use Rattle.farm.specs.Labels.{sameLabel, labelOf}
-use Rattle.checks.specs.Checks.{labelsOf, lacks, earlierLabel, herdsOf}
+use Rattle.herd_tests.specs.Tests.{labelsOf, lacks, earlierLabel}
+use Rattle.checks.specs.Checks.{herdsOf}
 use Rattle.reader.specs.declared.FileAnswer.{FileAnswer}
 use Rattle.progress.specs.Herds.{withInput, newHerd, hasInput}
 use Rattle.reader.specs.Files.{Progress, accepted, nothingRead, closed, taken, finished, readFrom}
 use Rattle.rules.specs.Lists.{Apart, Pairs}
-use Rattle.rules.specs.Rules.{
-  herdsMost,
-  Record,
-  GoodLabel,
-  RecordSays,
-  Gives,
-  PartOf,
-  HerdOf,
-  Stand,
-  farmOf,
-  FarmOf,
-}
+use Rattle.first_refusal.specs.Records.{Record}
+use Rattle.rules.specs.Rules.{herdsMost, GoodLabel, RecordSays, Gives, PartOf, HerdOf, Stand, farmOf, FarmOf}
 use Rattle.rules.proofs.Lists.{each-append, each-front, each-back, pairs-append}
 use Rattle.rules.proofs.Labels.{own-label, not-none}
 use Rattle.rules.proofs.Entries.{reads}
-use Rattle.rules.proofs.Readings.{thens, thens-append, whole-thens}
+use Rattle.first_refusal.proofs.Readings.{thens, thens-append, whole-thens}
 use Rattle.rules.proofs.Herds.{own-kind, part-new, part-more, one-herd, all-part, agree, heads}
 use Rattle.rules.proofs.Farms.{
   herdTests,

@@ -14,22 +14,24 @@ use Rattle.base.specs.Text.{bytes}
 use Rattle.base.specs.Part.{part, sameBytes, lower, lowered}
 use Rattle.base.proofs.Clash.{clash}
 use Rattle.base.proofs.Holds.{same-eq}
-use Rattle.decimal.specs.declared.Number.{Number}
-use Rattle.decimal.specs.declared.Number.the-variants as numbers
-use Rattle.decimal.specs.Numbers.{Digit, Whole, IsNumber}
-use Rattle.decimal.specs.Reading.{numberOf}
-use Rattle.decimal.proofs.Agrees.{number-iff}
+use Rattle.digits.specs.declared.Number.{Number}
+use Rattle.digits.specs.declared.Number.the-variants as numbers
+use Rattle.numbers.specs.Numbers.{Digit, Whole, IsNumber}
+use Rattle.numbers.specs.Reading.{numberOf}
+use Rattle.numbers.proofs.Agrees.{number-iff}
 use Rattle.inputs.specs.declared.Form.{Form}
 use Rattle.inputs.specs.declared.Form.the-variants as forms
-use Rattle.names.specs.declared.Found.{Found}
-use Rattle.names.specs.declared.Found.the-variants.{At, Nowhere}
+use Rattle.words.specs.declared.Found.{Found}
+use Rattle.words.specs.declared.Found.the-variants.{At, Nowhere}
 use Rattle.names.specs.Names.{namesOf}
 use Rattle.names.specs.Find.{findName}
-use Rattle.names.proofs.Places.{find-text-at, find-text-of, names-once}
+use Rattle.words.proofs.Places.{find-text-at, find-text-of}
+use Rattle.names.proofs.Once.{names-once}
 use Rattle.farm.specs.declared.Given.{Given}
 use Rattle.farm.specs.declared.Given.the-variants.{Standard, Value, Signed}
-use Rattle.records.specs.declared.ValueRead.the-variants.{Is, Forbidden}
-use Rattle.records.specs.Values.{isStandard, numberRead, hasMinus, belowRead, aboveRead, signedRead, nameRead, valueOf}
+use Rattle.number_values.specs.declared.ValueRead.the-variants.{Is, Forbidden}
+use Rattle.number_values.specs.Numbers.{numberRead, hasMinus, belowRead, aboveRead, signedRead}
+use Rattle.values.specs.Values.{isStandard, nameRead, valueOf}
 use Rattle.rules.specs.Rules.{IsStandard, IsSigned, ValueIs}
 use Rattle.rules.specs.Refusals.{Forbids, forbids}
 

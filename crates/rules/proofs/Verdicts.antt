@@ -13,7 +13,7 @@ use Rattle.base.specs.Pick.{pick}
 use Rattle.base.specs.First.{first}
 use Rattle.base.proofs.Clash.{clash}
 use Rattle.base.specs.Each.{Each, none, more}
-use Rattle.csv.specs.Reading.{partsOf}
+use Rattle.grammar.specs.Reading.{partsOf}
 use Rattle.inputs.specs.declared.Kind.{Kind}
 use Rattle.inputs.specs.Inputs.{sameKind}
 use Rattle.farm.specs.declared.Given.{Given}
@@ -24,14 +24,15 @@ use Rattle.farm.specs.declared.Fault.{Fault}
 use Rattle.farm.specs.declared.Fault.the-variants.{EarlierLabel, NoRoomForHerd, OtherKind, GivenAlready}
 use Rattle.farm.specs.Labels.{sameLabel, labelOf}
 use Rattle.farm.specs.Refusals.{number}
-use Rattle.checks.specs.Checks.{labelsOf, lacks, earlierLabel}
+use Rattle.herd_tests.specs.Tests.{labelsOf, lacks, earlierLabel}
 use Rattle.farm.specs.Herds.{isMissing}
 use Rattle.reader.specs.declared.FileAnswer.{FileAnswer}
 use Rattle.progress.specs.Herds.{newHerd, withInput, hasInput}
-use Rattle.progress.specs.Farms.{lackingWith}
+use Rattle.next_herd.specs.Farms.{lackingWith}
 use Rattle.reader.specs.Files.{Progress, refused, nothingRead, closed, recordTests, taken}
 use Rattle.rules.specs.Lists.{Some, Last, Apart}
-use Rattle.rules.specs.Rules.{herdsMost, Record, RecordSays, Gives, PartOf, Stand, farmOf}
+use Rattle.first_refusal.specs.Records.{Record}
+use Rattle.rules.specs.Rules.{herdsMost, RecordSays, Gives, PartOf, Stand, farmOf}
 use Rattle.rules.specs.Refusals.{
   labelText,
   NamesInput,

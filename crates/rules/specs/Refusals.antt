@@ -5,7 +5,7 @@ use mathlib.Core.Path.{_≡_}
 use mathlib.Core.List.{List, [], _∷_, _++_}
 use lib.ListN.{length, getD}
 use Rattle.base.specs.Each.{Each}
-use Rattle.csv.specs.Grammar.{FileOf, Front, Before, Breaks}
+use Rattle.grammar.specs.Grammar.{FileOf, Breaks}
 use Rattle.inputs.specs.declared.Kind.{Kind}
 use Rattle.inputs.specs.declared.Form.{Form}
 use Rattle.inputs.specs.declared.Form.the-variants.{NoStandard}
@@ -27,8 +27,10 @@ use Rattle.farm.specs.declared.Fault.the-variants.{
   InputMissing,
 }
 use Rattle.farm.specs.Refusals.{number}
+use Rattle.first_refusal.specs.First.{FirstOf}
+use Rattle.first_refusal.specs.Records.{Record, RecordAt}
 use Rattle.rules.specs.Lists.{Some, Apart, Last}
-use Rattle.rules.specs.Rules.{Record, GoodLabel, Names, IsStandard, ValueIs, herdsMost, fileMost}
+use Rattle.rules.specs.Rules.{GoodLabel, Names, IsStandard, ValueIs, herdsMost, fileMost}
 
 -- ---- a record's fields; one that is not there is empty
 
@@ -89,13 +91,6 @@ pub record Lacks (rs : List Record) (cs : Record) : Type 0 where
 
 -- ---- a file's refusals
 
--- the file has this record behind these
-pub record RecordAt (s : List ℕ) (before : List Record) (cs : Record) : Type 0 where
-  pub left : List ℕ
-  pub past : List ℕ
-  pub behind : Before before s left
-  pub front : Front cs left past
-
 -- the refusal applies to the file, with this record number; 12 with each record of a herd that lacks an input
 pub data AppliesAt (s : List ℕ) : ℕ → Fault → Type 0 where
   too-long : fileMost < length s → AppliesAt s 0 FileTooLong
@@ -118,6 +113,5 @@ pub data Sooner : ℕ → Fault → ℕ → Fault → Type 0 where
   first-herd : {m n : ℕ} → m < n → Sooner m InputMissing n InputMissing
 
 -- the first refusal: it applies, and none that applies is sooner
-pub record First (s : List ℕ) (n : ℕ) (fault : Fault) : Type 0 where
-  pub applies : AppliesAt s n fault
-  pub none-sooner : (m : ℕ) (other : Fault) → AppliesAt s m other → Sooner m other n fault → ⊥
+abbrev pub First : List ℕ → ℕ → Fault → Type 0
+First s n fault = FirstOf (AppliesAt s) Sooner n fault

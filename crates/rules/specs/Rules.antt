@@ -1,7 +1,8 @@
 -- 01, The farm file, as statements about a file's records: what a value may be, what one record says, which records are
--- a herd's, and which farm they say. Which records a file has is the grammar of csv. Nothing here goes through a file;
--- proofs/Accepts.antt shows that the reader accepts exactly the files that keep these rules, each as the farm that its
--- records say. To be believed; the limits stand here a second time on purpose, apart from those that the code goes by.
+-- a herd's, and which farm they say. Which records a file has is the grammar of crate `grammar`. Nothing here goes
+-- through a file; proofs/Accepts.antt shows that the reader accepts exactly the files that keep these rules, each as
+-- the farm that its records say. To be believed; the limits stand here a second time on purpose, apart from those that
+-- the code goes by.
 use Prim.Native.Nat.{ℕ, _-_, _<_, _≤_}
 use mathlib.Core.Path.{_≡_}
 use mathlib.Core.List.{List, [], _∷_, _++_}
@@ -10,8 +11,8 @@ use lib.ListN.{length, getD, replicate}
 use Rattle.base.specs.Text.{bytes}
 use Rattle.base.specs.Part.{lowered}
 use Rattle.base.specs.Each.{Each}
-use Rattle.csv.specs.Grammar.{FileOf}
-use Rattle.decimal.specs.Numbers.{IsNumber}
+use Rattle.grammar.specs.Grammar.{FileOf}
+use Rattle.numbers.specs.Numbers.{IsNumber}
 use Rattle.names.specs.declared.Names.{Names as NameList}
 use Rattle.names.specs.Names.{namesOf, sizeOf}
 use Rattle.inputs.specs.declared.Kind.{Kind}
@@ -25,12 +26,9 @@ use Rattle.farm.specs.declared.Farm.{Farm}
 use Rattle.farm.specs.Limits.{slots}
 use Rattle.farm.specs.Labels.{labelOf}
 use Rattle.farm.specs.Herds.{noSlot, noHerd}
-use Rattle.checks.specs.Checks.{labelsOf}
+use Rattle.herd_tests.specs.Tests.{labelsOf}
+use Rattle.first_refusal.specs.Records.{Record}
 use Rattle.rules.specs.Lists.{Some, Apart, Pairs}
-
--- a record: the contents of its fields
-abbrev pub Record : Type 0
-Record = List (List ℕ)
 
 -- ---- limits
 

@@ -13,13 +13,13 @@ use mir.Facts.{toZ-ofZ}
 use borrow.Author.Tests.{eqb-false, le-ltb}
 use Rattle.base.specs.Pick.{pick}
 use Rattle.libc.specs.Io as io
-use Rattle.streams.specs.declared.Moved.{Moved}
-use Rattle.streams.specs.declared.Moved.the-variants.{Bytes, Nothing, Again, Failed}
+use Rattle.stream_steps.specs.declared.Moved.{Moved}
+use Rattle.stream_steps.specs.declared.Moved.the-variants.{Bytes, Nothing, Again, Failed}
 use Rattle.streams.specs.declared.Outcome.{Outcome}
 use Rattle.streams.specs.declared.Outcome.the-variants.{Whole, Broken}
-use Rattle.streams.specs.declared.Step.{Step}
-use Rattle.streams.specs.declared.Step.the-variants.{On, Stop}
-use Rattle.streams.specs.Steps.{faultOf, movedOf, onwardOf, afterCall, afterRead, afterWrite}
+use Rattle.stream_steps.specs.declared.Step.{Step}
+use Rattle.stream_steps.specs.declared.Step.the-variants as steps
+use Rattle.stream_steps.specs.Steps.{faultOf, movedOf, onwardOf, afterCall, afterRead, afterWrite}
 use Rattle.streams.specs.Within.{Counted, Within, All, Going}
 
 -- ---- one call
@@ -53,29 +53,30 @@ module _ (Ends : Outcome → Type 0) (done size : ℕ) (inside : done ≤ size) 
   onward-going : (n : ℕ) → 0 < n → n ≤ size - done → Going Ends done size (onwardOf done size n)
   onward-going n h k = rw (le-ltb size (done + n) (omega arith)) (go (eqb (done + n) size))
     where
-      go : (t : Bool) → Going Ends done size (pick t (Stop (Whole size)) (On (done + n)))
-      go true = Going.stop full
+      go : (t : Bool) → Going Ends done size (pick t (steps.Done size) (steps.On (done + n)))
+      go true = Going.done full
       go false = Going.on {n = done + n} (omega arith) (omega arith)
 
-  call-going : {none : Outcome} {m : Moved} → Ends none → Counted (size - done) m
+  call-going : {none : Step} {m : Moved} → Going Ends done size none → Counted (size - done) m
       → Going Ends done size (afterCall done size none m)
   call-going w (Counted.bytes {n} h k) = onward-going n h k
-  call-going w Counted.nothing = Going.stop w
+  call-going w Counted.nothing = w
   call-going w Counted.again = Going.wait
-  call-going w Counted.failed = Going.stop broken
+  call-going w Counted.failed = Going.broken broken
 
 -- of the rest of the slice
 module _ {done size rest : ℕ} {m : Moved} {r : Step} (inside : done ≤ size) (given : Counted rest m)
     (e : rest ≡ size - done) where
   pub read-goes : r ≡ afterRead done size m → Going (Within size) done size r
   read-goes q =
-      rw q (call-going (Within size) done size inside (Within.whole (omega arith)) Within.broken (Within.whole inside)
+      rw q (call-going (Within size) done size inside (Within.whole (omega arith)) Within.broken
+      (Going.done (Within.whole inside))
       (rw e at given))
 
   pub write-goes : 0 < size → r ≡ afterWrite done size m → Going (All size) done size r
   write-goes some q =
       let broken = All.broken some in
-      rw q (call-going (All size) done size inside All.whole broken broken (rw e at given))
+      rw q (call-going (All size) done size inside All.whole broken (Going.broken broken) (rw e at given))
 
 -- ---- a loop's turn, after which the slice is as long as before
 
@@ -84,25 +85,25 @@ abbrev pub left : ℕ → ℕ → ℕ → ℕ
 left size done patience = (size - done) * 20000001 + patience
 
 module _ {Ends : Outcome → Type 0} {done size : ℕ} where
-  further : {n : ℕ} → Going Ends done size (On n) → (done < n) × (n ≤ size)
+  further : {n : ℕ} → Going Ends done size (steps.On n) → (done < n) × (n ≤ size)
   further (Going.on h k) = (h, k)
 
-  ended : {o : Outcome} → Going Ends done size (Stop o) → Ends o
-  ended (Going.stop w) = w
+  ended : {n : ℕ} → Going Ends done size (steps.Done n) → Ends (Whole n)
+  ended (Going.done w) = w
 
   module _ {r : Step} (going : Going Ends done size r) where
-    module _ {n : ℕ} (e : r ≡ On n) {now : ℕ} (same : now ≡ size) where
+    module _ {n : ℕ} (e : r ≡ steps.On n) {now : ℕ} (same : now ≡ size) where
       pub on-less : (patience : ℕ) → left now n 20000000 < left size done patience
       on-less patience = let f = further (rw e at going) in omega arith
 
       pub on-inside : n ≤ now
       on-inside = let f = further (rw e at going) in omega arith
 
-module _ {done size : ℕ} {r : Step} {o : Outcome} (e : r ≡ Stop o) where
-  pub read-stops : {now : ℕ} → now ≡ size → Going (Within size) done size r → Within now o
-  read-stops same going = rw same (ended (rw e at going))
+module _ {done size : ℕ} {r : Step} {n : ℕ} (e : r ≡ steps.Done n) where
+  pub read-ends : {now : ℕ} → now ≡ size → Going (Within size) done size r → Within now (Whole n)
+  read-ends same going = rw same (ended (rw e at going))
 
-  pub write-stops : Going (All size) done size r → All size o
-  write-stops going = ended (rw e at going)
+  pub write-ends : Going (All size) done size r → All size (Whole n)
+  write-ends going = ended (rw e at going)
 
-pub ruleset turn-steps = (on-less, on-inside, read-stops, write-stops, Within.broken, All.broken)
+pub ruleset turn-steps = (on-less, on-inside, read-ends, write-ends, Within.broken, All.broken)

@@ -1,11 +1,11 @@
 -- What a read or a write can have given of a slice, and how a reading or a writing can go on and end.
 use Prim.Native.Nat.{ℕ, _<_, _≤_}
-use Rattle.streams.specs.declared.Moved.{Moved}
-use Rattle.streams.specs.declared.Moved.the-variants.{Bytes, Nothing, Again, Failed}
+use Rattle.stream_steps.specs.declared.Moved.{Moved}
+use Rattle.stream_steps.specs.declared.Moved.the-variants.{Bytes, Nothing, Again, Failed}
 use Rattle.streams.specs.declared.Outcome.{Outcome}
 use Rattle.streams.specs.declared.Outcome.the-variants.{Whole, Broken}
-use Rattle.streams.specs.declared.Step.{Step}
-use Rattle.streams.specs.declared.Step.the-variants.{On, Wait, Stop}
+use Rattle.stream_steps.specs.declared.Step.{Step}
+use Rattle.stream_steps.specs.declared.Step.the-variants as steps
 
 -- no more than the slice has
 pub data Counted (size : ℕ) : Moved → Type 0 where
@@ -25,7 +25,8 @@ pub data All (size : ℕ) : Outcome → Type 0 where
   broken : 0 < size → All size Broken
 
 -- a step that goes on goes further, and not past the end; one that stops does so with an outcome that may be
-pub data Going (Ends : Outcome → Type 0) (done size : ℕ) : Step → Type 0 where
-  on : {n : ℕ} → done < n → n ≤ size → Going Ends done size (On n)
-  wait : Going Ends done size Wait
-  stop : {o : Outcome} → Ends o → Going Ends done size (Stop o)
+pub data Going (Ends : Outcome → Type 0) (from size : ℕ) : Step → Type 0 where
+  on : {n : ℕ} → from < n → n ≤ size → Going Ends from size (steps.On n)
+  wait : Going Ends from size steps.Wait
+  done : {n : ℕ} → Ends (Whole n) → Going Ends from size (steps.Done n)
+  broken : Ends Broken → Going Ends from size steps.Broken

@@ -1,9 +1,9 @@
 // Lent buffers of all lengths: 13 below the listing's length, and nothing written; from it on the listing, and every
 // byte past it as it was. And herds past the last, whose listing is empty. The expected output is worked out from 01.
 use farm::Farm;
-use farm::faults;
-use listing::Written;
 use printing::tell;
+use views::View;
+use written::Written;
 ghost use Prim.Native.Nat.{_≤_};
 
 // What fills a buffer before a call; no listing here has it.
@@ -22,16 +22,18 @@ const TOTALS_LENGTH: usize = 597;
 // And that of the herd's cuts.
 const CUTS_LENGTH: usize = 1185;
 
+// And that of its notes: `P1`, five times `,no`, CRLF.
+const NOTES_LENGTH: usize = 19;
+
 const NUMBER_13: u64 = 13;
 
 // A writing call: of a record, of a file, or of a file's herd.
 enum Call {
-    Herd,
+    Herd(View),
     Totals,
     FileTotals,
-    FileHerd(usize),
-    HerdCuts,
-    FileHerdCuts(usize),
+    FileHerd(View, usize),
+    File(View),
     OfNoHerds,
 }
 
@@ -40,25 +42,19 @@ fn farm() -> Farm {
     answer.farm
 }
 
-fn write_herd(f: Farm, out: &mut [u8]) -> Written {
+fn write_herd(view: View, f: Farm, out: &mut [u8]) -> Written {
     let h = f.herds[0];
-    calls::herd_listing(h, out)
-}
-
-fn write_cuts(f: Farm, out: &mut [u8]) -> Written {
-    let h = f.herds[0];
-    calls::herd_cuts_listing(h, out)
+    calls::herd_view(view, h, out)
 }
 
 fn write_by(call: Call, out: &mut [u8]) -> Written {
     match call {
-        Call::Herd => write_herd(farm(), out),
+        Call::Herd(view) => write_herd(view, farm(), out),
         Call::Totals => calls::totals_listing(farm(), out),
         Call::FileTotals => calls::file_totals_listing(&PIGS, out),
-        Call::FileHerd(herd) => calls::file_herd_listing(&PIGS, herd, out),
-        Call::HerdCuts => write_cuts(farm(), out),
-        Call::FileHerdCuts(herd) => calls::file_herd_cuts_listing(&PIGS, herd, out),
-        Call::OfNoHerds => calls::file_herd_listing(b"", 0, out),
+        Call::FileHerd(view, herd) => calls::file_herd_view(view, &PIGS, herd, out),
+        Call::File(view) => calls::file_view(view, &PIGS, out),
+        Call::OfNoHerds => calls::file_herd_view(View::Figures, b"", 0, out),
     }
 }
 
@@ -90,7 +86,8 @@ fn marks(out: &[u8]) -> usize {
 fn is_13(written: Written) -> bool {
     match written {
         Written::Length(_) => false,
-        Written::Refused(fault, record) => faults::number_of(fault) == NUMBER_13 && record == 0,
+        Written::Refused(fault, record) => fault_numbers::number_of(fault) == NUMBER_13
+            && record == 0,
     }
 }
 
@@ -133,14 +130,32 @@ fn sizes(name: &[u8], call: Call, length: usize)
 }
 
 fn main() {
-    sizes(b"herd", Call::Herd, HERD_LENGTH);
-    sizes(b"herd of a file", Call::FileHerd(0), HERD_LENGTH);
+    sizes(b"herd", Call::Herd(View::Figures), HERD_LENGTH);
+    sizes(
+        b"herd of a file",
+        Call::FileHerd(View::Figures, 0),
+        HERD_LENGTH,
+    );
     sizes(b"totals", Call::Totals, TOTALS_LENGTH);
     sizes(b"totals of a file", Call::FileTotals, TOTALS_LENGTH);
-    sizes(b"cuts", Call::HerdCuts, CUTS_LENGTH);
-    sizes(b"cuts of a file", Call::FileHerdCuts(0), CUTS_LENGTH);
-    sizes(b"cuts past the last herd", Call::FileHerdCuts(1), 0);
-    sizes(b"past the last herd", Call::FileHerd(1), 0);
-    sizes(b"far past the last herd", Call::FileHerd(usize::MAX), 0);
+    sizes(b"cuts", Call::Herd(View::Cuts), CUTS_LENGTH);
+    sizes(
+        b"cuts of a file",
+        Call::FileHerd(View::Cuts, 0),
+        CUTS_LENGTH,
+    );
+    sizes(b"cuts past the last herd", Call::FileHerd(View::Cuts, 1), 0);
+    sizes(b"past the last herd", Call::FileHerd(View::Figures, 1), 0);
+    sizes(
+        b"far past the last herd",
+        Call::FileHerd(View::Figures, usize::MAX),
+        0,
+    );
     sizes(b"of no herds", Call::OfNoHerds, 0);
+    sizes(
+        b"the notes of a whole file",
+        Call::File(View::Notes),
+        NOTES_LENGTH,
+    );
+    sizes(b"no reasons", Call::File(View::Reasons), 0);
 }

@@ -5,6 +5,7 @@ use farm::Herd;
 use outputs::names;
 use outputs::total_names;
 use printing::tell;
+use views::View;
 
 const SHORT: usize = 8;
 
@@ -19,7 +20,7 @@ fn figures(h: Herd) {
 
 fn herd_listing(h: Herd) {
     let mut out = [b'#'; SHORT];
-    let written = calls::herd_listing(h, &mut out);
+    let written = calls::herd_view(View::Figures, h, &mut out);
     tell::written_line(written);
     tell::line(&out);
 }

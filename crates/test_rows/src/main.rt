@@ -1,5 +1,6 @@
 // 01, Herds on both sides of an edge: the rows that are run and not proved.
 use printing::tell;
+use views::View;
 
 const FILE_MOST: usize = 65536;
 
@@ -93,8 +94,13 @@ fn put_herds(out: &mut [u8], end: u8) -> usize {
     at
 }
 
+// So large an array comes from a function: where it is lent as it is made, every proof counts its elements.
+fn room() -> [u8; FILE_MOST] {
+    [0u8; FILE_MOST]
+}
+
 fn read_herds(end: u8) {
-    let mut file = [0u8; FILE_MOST];
+    let mut file = room();
     let n = put_herds(&mut file, end);
     let answer = calls::read_farm(base::part_of(&file, 0, n));
     let checked = answer.checked;
@@ -102,17 +108,21 @@ fn read_herds(end: u8) {
     tell::number(answer.farm.count as u64);
 }
 
+fn one_field() -> [u8; FILE_MOST + 1] {
+    [b'a'; FILE_MOST + 1]
+}
+
 // 10. 65,536 bytes are read, here as one field in place of four, and 65,537 are refusal 1; herd 64 is taken, herd 65 is
 // refusal 9.
 fn limits() {
-    let file = [b'a'; FILE_MOST + 1];
-    printing::print_figures(base::part_of(&file, 0, FILE_MOST));
-    printing::print_figures(&file);
+    let file = one_field();
+    printing::print_view(View::Figures, base::part_of(&file, 0, FILE_MOST));
+    printing::print_view(View::Figures, &file);
     read_herds(b'0' + 64);
     read_herds(b'0' + 65);
 }
 
 fn main() {
-    printing::print_figures(&ALWAYS_OUT);
+    printing::print_view(View::Figures, &ALWAYS_OUT);
     limits();
 }

@@ -2,7 +2,7 @@
 // its reasons, in records and in sentences, are printed, as the commands print them. The expected output is what the
 // second implementation gives.
 use packs::Packed;
-use why_lines::Wording;
+use views::View;
 
 // Longer than any file of the vectors.
 const CASE_MOST: usize = 66000;
@@ -12,19 +12,24 @@ fn run_one(file: &mut [u8]) -> bool {
     match packs::next_file(file) {
         Packed::File(n) => {
             let whole = base::part_of(file, 0, n);
-            printing::print_figures(whole);
-            printing::print_notes(whole);
-            printing::print_cuts(whole);
-            printing::print_why(whole, Wording::Record);
-            printing::print_why(whole, Wording::Sentence);
+            printing::print_view(View::Figures, whole);
+            printing::print_view(View::Notes, whole);
+            printing::print_view(View::Cuts, whole);
+            printing::print_view(View::Reasons, whole);
+            printing::print_view(View::Sentences, whole);
             true
         }
         Packed::End => false,
     }
 }
 
+// So large an array comes from a function: where it is lent as it is made, every proof counts its elements.
+fn room() -> [u8; CASE_MOST] {
+    [0u8; CASE_MOST]
+}
+
 fn main() {
-    let mut file = [0u8; CASE_MOST];
+    let mut file = room();
     let mut turns = u64::MAX;
     while turns > 0 && run_one(&mut file) {
         turns -= 1;

@@ -28,7 +28,8 @@ use Rattle.farm.specs.Limits.{herdsMost}
 use Rattle.farm.specs.declared.Herd.{Herd}
 use Rattle.farm.specs.declared.Farm.{Farm}
 use Rattle.farm.specs.declared.Checked.the-variants.{Accepted}
-use Rattle.checks.specs.Checks.{fits, checkHerd, checkFarm, herdsOf}
+use Rattle.fits.specs.Fits.{fits}
+use Rattle.checks.specs.Checks.{checkHerd, checkFarm, herdsOf}
 use Rattle.checks.specs.Accepts.{Passes}
 use Rattle.farm.specs.Herds.{noSlot}
 use Rattle.checks.proofs.Accepts.{passes, farm-count, farm-each}

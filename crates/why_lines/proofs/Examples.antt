@@ -3,7 +3,7 @@ use Prim.Native.Nat.{ℕ}
 use mathlib.Core.Path.{_≡_, refl}
 use Rattle.base.specs.Text.{bytes}
 use Rattle.decimal.specs.Writing.{width, wholeOf}
-use Rattle.listing.specs.Listing.{hasComma, labelField}
+use Rattle.line_parts.specs.Fields.{hasComma, labelField}
 use Rattle.reasons.specs.declared.Reason.{Reason}
 use Rattle.reasons.specs.declared.Reason.the-variants.{NotAvailable, Lowered}
 use Rattle.reasons.specs.declared.Why.{Why}

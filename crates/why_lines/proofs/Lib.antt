@@ -1,4 +1,5 @@
 pub mod LineSteps
 pub mod ReasonSteps
-pub mod FarmSteps
+pub mod HerdSteps
+pub mod Fits
 pub mod Examples

@@ -7,7 +7,7 @@ use Rattle.base.specs.Text.{bytes}
 use Rattle.base.specs.Wrote.{Wrote}
 use Rattle.base.proofs.Writes.{joined, none}
 use Rattle.decimal.specs.Writing.{wholeOf}
-use Rattle.listing.specs.Listing.{labelField}
+use Rattle.line_parts.specs.Fields.{labelField}
 use Rattle.reasons.specs.declared.Why.{Why}
 use Rattle.reasons.specs.declared.Told.{Told}
 use Rattle.reasons.specs.declared.Told.the-variants.{Because, NoYard}

@@ -1,4 +1,4 @@
--- 02, W2: a farm's reasons, of each herd with a yard, as a record: `Heifers,lowered,180,0.2`, label, quoted as in the
+-- 02, W2: the reason of a herd with a yard as a record: `Heifers,lowered,180,0.2`, label, quoted as in the
 -- listing, reason, days with both, the yard's share on those days; or as a sentence that an adviser can read aloud,
 -- with the chosen share too. CRLF after each; other herds have none. To be believed.
 use Prim.Native.Nat.{ℕ, _/_, _%_}
@@ -7,11 +7,9 @@ use mathlib.Core.List.{List, [], _++_}
 use Rattle.base.specs.Text.{bytes}
 use Rattle.decimal.specs.Writing.{wholeOf}
 use Rattle.farm.specs.declared.Herd.{Herd}
-use Rattle.farm.specs.declared.Farm.{Farm}
 use Rattle.farm.specs.Labels.{text}
-use Rattle.checks.specs.Checks.{herdsOf}
 use Rattle.typed.specs.Typed.{typedOf}
-use Rattle.listing.specs.Listing.{labelField, each}
+use Rattle.line_parts.specs.Fields.{labelField}
 use Rattle.reasons.specs.declared.Reason.{Reason}
 use Rattle.reasons.specs.declared.Reason.the-variants.{NoSuchDays, NotAvailable, AsChosen, Lowered}
 use Rattle.reasons.specs.declared.Why.{Why}
@@ -63,7 +61,7 @@ sharesWords w = tenthsOf (w .share) ++ bytes (because (w .reason)) ++ tenthsOf (
 unfoldable pub whySentence : List ℕ → Why → List ℕ
 whySentence label w = labelField label ++ daysWords (w .days) ++ sharesWords w
 
--- ---- a herd, and a farm
+-- ---- a herd
 
 abbrev pub whyText : Wording → List ℕ → Why → List ℕ
 whyText Record label w = whyRecord label w
@@ -75,7 +73,3 @@ toldText wording label NoYard = []
 
 abbrev pub herdWhy : Wording → Herd → List ℕ
 herdWhy wording h = toldText wording (text (h .label)) (toldOf (typedOf h))
-
--- one after the other
-unfoldable pub farmWhy : Wording → Farm → List ℕ
-farmWhy wording f = each (herdWhy wording) (herdsOf f)

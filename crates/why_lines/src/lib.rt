@@ -1,9 +1,9 @@
-// 02, W2: a farm's reasons, byte by byte, into a lent buffer: of each herd with a yard a record, or a sentence that can
-// be read aloud. No figure is worked out, and what reading has checked is not checked again.
+// 02, W2: a herd's reason, byte by byte, into a lent buffer: of a herd with a yard a record, or a sentence that can be
+// read aloud. No figure is worked out.
 use amounts::TENTHS;
-use farm::Farm;
+use farm::Herd;
 use farm::Label;
-use listing::labels;
+use line_parts::labels;
 use reasons::Reason;
 use reasons::Told;
 use reasons::Why;
@@ -13,13 +13,14 @@ ghost use lib.ListN.{length};
 ghost use Rattle.base.specs.Text.{bytes};
 ghost use Rattle.base.specs.Wrote.{Wrote};
 ghost use Rattle.decimal.specs.Writing.{wholeOf};
+ghost use Rattle.decimal.specs.Rooms.{digitsMost};
 ghost use Rattle.farm.specs.declared.Checked.the-variants.{Accepted};
 ghost use Rattle.farm.specs.Labels.{text};
-ghost use Rattle.checks.specs.Checks.{checkFarm};
+ghost use Rattle.checks.specs.Checks.{checkHerd};
 ghost use Rattle.why_lines.specs.Lines.{tenthsOf, reasonField, numbersOf, whyRecord, because, daysWords};
-ghost use Rattle.why_lines.specs.Lines.{sharesWords, whySentence, whyText, toldText, farmWhy};
-ghost use Rattle.why_lines.specs.Rooms.{longestWhole, longestTenths, longestReason, longestNumbers};
-ghost use Rattle.why_lines.specs.Rooms.{longestBecause, longestDays, longestShares, longestLine, whyRoom};
+ghost use Rattle.why_lines.specs.Lines.{sharesWords, whySentence, whyText, toldText, herdWhy};
+ghost use Rattle.why_lines.specs.Rooms.{longestTenths, longestReason, longestNumbers};
+ghost use Rattle.why_lines.specs.Rooms.{longestBecause, longestDays, longestShares, longestLine};
 
 // A reason's record, or its sentence.
 pub enum Wording {
@@ -27,28 +28,10 @@ pub enum Wording {
     Sentence,
 }
 
-// How long the parts of a sentence can be, which is longer than a record: a number, a share with its point, the words
-// of a reason.
-const WHOLE_MOST: usize = 20;
-
-const TENTHS_MOST: usize = WHOLE_MOST + 1 + WHOLE_MOST;
-
-const BECAUSE_MOST: usize = 56;
-
-// And the sentence: the label, the days between their words, the shares with the reason and the end.
-const DAYS_MOST: usize = 32 + WHOLE_MOST + 47;
-
-const SHARES_MOST: usize = TENTHS_MOST + BECAUSE_MOST + TENTHS_MOST + 3;
-
-const LINE_MOST: usize = labels::FIELD_MOST + DAYS_MOST + SHARES_MOST;
-
-// Room for the reasons of any farm.
-pub const ROOM: usize = farm::HERDS_MOST * LINE_MOST;
-
 // A whole number from `at` on; the end of it. So with every part of a line.
 fn put_number(out: &mut [u8], at: usize, n: u64) -> usize
-    requires { ⌜ at + longestWhole ≤ length (now out) ⌝ }
-    ensures { λ r. ⌜ Wrote (now (out .entry)) at (wholeOf n) (now (out .exit)) r × (r ≤ at + longestWhole) ⌝ }
+    requires { ⌜ at + digitsMost ≤ length (now out) ⌝ }
+    ensures { λ r. ⌜ Wrote (now (out .entry)) at (wholeOf n) (now (out .exit)) r × (r ≤ at + digitsMost) ⌝ }
 {
     decimal::put_whole(out, at, n)
 }
@@ -176,19 +159,16 @@ fn put_told(out: &mut [u8], at: usize, label: Label, told: Told, wording: Wordin
     }
 }
 
-// The reasons of an accepted farm, from the front of the buffer on.
-pub fn put_farm(out: &mut [u8], farm: Farm, wording: Wording) -> usize
-    requires { ⌜ (checkFarm farm ≡ Accepted) × (whyRoom ≤ length (now out)) ⌝ }
-    ensures { λ r. ⌜ Wrote (now (out .entry)) 0 (farmWhy wording farm) (now (out .exit)) r × (r ≤ whyRoom) ⌝ }
+// The line of an accepted herd, from `at` on; the end of it.
+pub fn put_herd(out: &mut [u8], at: usize, h: Herd, wording: Wording) -> usize
+    requires { ⌜ (checkHerd h ≡ Accepted) × (at + longestLine ≤ length (now out)) ⌝ }
+    ensures { λ r. ⌜ Wrote (now (out .entry)) at (herdWhy wording h) (now (out .exit)) r × (r ≤ at + longestLine) ⌝ }
 {
-    let count = farm.count;
-    let mut at = 0;
-    let mut i = 0;
-    while i < count {
-        let h = farm.herds[i];
-        let told = reasons::told_of(typed::typed_of(h));
-        at = put_told(out, at, h.label, told, wording);
-        i += 1;
-    }
-    at
+    put_told(
+        out,
+        at,
+        h.label,
+        herd_reasons::told_of(herd_inputs::typed_of(h)),
+        wording,
+    )
 }

@@ -1,7 +1,7 @@
 -- `bench_repeat::listed` is safe and ends: a farm that is read passes the record checks, so its listing may be put
 -- without them. Assumes nothing.
 use borrow.Author.Needs.{needs}
-use Rattle.whole.proofs.FileSteps.{passes}
+use Rattle.views.proofs.FileSteps.{passes}
 use Rattle.bench_repeat.proofs.listed.Statement.{statement}
 use Rattle.bench_repeat.proofs.listed.Tie as tie
 

@@ -9,7 +9,7 @@ use Rattle.farm.specs.Limits.{herdsMost}
 use Rattle.farm.specs.declared.Checked.the-variants.{Accepted}
 use Rattle.checks.specs.Checks.{herdsTests, herdsOf, checkFarm}
 use Rattle.farm.proofs.Left.{length-mapped}
-use Rattle.checks.proofs.LabelsSoFar.{no-labels-long}
+use Rattle.herd_tests.proofs.LabelsSoFar.{no-labels-long}
 use Rattle.checks.proofs.HerdSteps.{farm-steps}
 use Rattle.checks.proofs.check_farm.Statement.{statement}
 use Rattle.checks.proofs.check_farm.Tie as tie

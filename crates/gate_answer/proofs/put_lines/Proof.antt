@@ -12,6 +12,7 @@ put-lines-spec =
     (λ c κs. search needs)
     (λ c. search needs)
     (λ c κs. search needs)
+    (λ c κs. search needs)
     (λ c. search needs)
     (λ c. search (needs, line-steps))
     (λ c. search needs)

@@ -9,15 +9,16 @@ use lib.ListN.{length, getD}
 use Rattle.base.specs.Runs.{joined, starts}
 use Rattle.base.specs.Text.{bytes}
 use Rattle.base.proofs.Runs.{Run}
-use Rattle.base.proofs.Writes.{said}
+use Rattle.base.proofs.Writes.{said, part-is}
 use Rattle.inputs.specs.declared.Kind.{Kind}
 use Rattle.farm.specs.Labels.{text}
 use Rattle.outputs.specs.Names.{rows, number}
-use Rattle.listing.specs.Bounds.{longestOwner}
-use Rattle.listing.specs.HerdLines.{pathOf, linesOf}
-use Rattle.listing.specs.Numbered.{listed, ownerOf}
-use Rattle.listing.proofs.Answers.{part-is}
-use Rattle.listing.proofs.KindTables.{lines-run}
+use Rattle.line_parts.specs.Bounds.{longestOwner}
+use Rattle.line_parts.specs.Paths.{pathOf}
+use Rattle.line_parts.specs.Owners.{ownerOf}
+use Rattle.listing.specs.HerdLines.{linesOf}
+use Rattle.listing.specs.Numbered.{listed}
+use Rattle.listing.proofs.KindLines.{lines-run}
 use Rattle.listing.proofs.AsListed.{herd-known, herd-is}
 use borrow.Author.Needs.{needs}
 use Rattle.listing.proofs.put_herd_lines.Statement.{statement}

@@ -3,7 +3,8 @@
 use Prim.Native.Nat.{_+_, _-_, _≤_}
 use denote.Ref.{now}
 use lib.ListN.{length}
-use Rattle.mend.proofs.Rooms.{crs-few, changes-fit, mark-fits, mend-steps}
+use Rattle.spreadsheet.proofs.Starts.{crs-few, changes-fit}
+use Rattle.mend.proofs.Rooms.{mark-fits, mend-steps}
 use borrow.Author.Needs.{needs}
 use Rattle.mend.proofs.mend.Statement.{statement}
 use Rattle.mend.proofs.mend.Tie as tie

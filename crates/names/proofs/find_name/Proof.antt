@@ -1,12 +1,12 @@
 -- `names::find_name` meets its contract: the words of each list's text are its names. Assumes nothing.
 use borrow.Author.Needs.{needs}
-use Rattle.names.specs.Find.{wordsOf}
+use Rattle.words.specs.Find.{wordsOf, roomOf}
 use Rattle.names.proofs.Words.{find-words}
 use Rattle.names.proofs.find_name.Statement.{statement}
 use Rattle.names.proofs.find_name.Tie as tie
 
 pub find-name-spec : {M : Type 1} → statement M
-unfolding wordsOf
+unfolding wordsOf roomOf
 find-name-spec =
     tie.close
     (tie.spec

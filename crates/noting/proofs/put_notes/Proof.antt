@@ -6,8 +6,8 @@ use native.Mathlib.Omega.{arith}
 use lib.ListN.{length, drop}
 use Rattle.base.proofs.ToCome.{ToCome, begun}
 use Rattle.farm.proofs.Left.{left-at, left-end}
-use Rattle.listing.specs.Listing.{each}
-use Rattle.listing.proofs.OneByOne.{entry-put, all-entries-put}
+use Rattle.line_parts.specs.Fields.{each}
+use Rattle.line_parts.proofs.OneByOne.{entry-put, all-entries-put}
 use Rattle.noting.specs.Records.{noteField}
 use Rattle.noting.specs.Rooms.{longestNote}
 use borrow.Author.Needs.{needs}

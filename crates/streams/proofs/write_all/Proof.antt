@@ -47,14 +47,20 @@ loop-less-2 c = search needs
 loop-again-2 : tie.Need-loop-again-2 Inv-loop μ-loop
 loop-again-2 c = search needs
 
-enum-known-outcome : tie.Need-enum-known-outcome Inv-loop μ-loop
-enum-known-outcome c = search needs
+enum-known-n : tie.Need-enum-known-n Inv-loop μ-loop
+enum-known-n c = search needs
 
 returns-2 : tie.Need-returns-2 Inv-loop μ-loop
 returns-2 c = search (needs, turn-steps)
 
+enum-told-2 : tie.Need-enum-told-2 Inv-loop μ-loop
+enum-told-2 c = search needs
+
 returns-3 : tie.Need-returns-3 Inv-loop μ-loop
 returns-3 c = search (needs, turn-steps)
+
+returns-4 : tie.Need-returns-4 Inv-loop μ-loop
+returns-4 c = search (needs, turn-steps)
 
 pub write-all-spec : {M : Type 1} → statement M
 write-all-spec =
@@ -73,6 +79,8 @@ write-all-spec =
     sub-patience
     loop-less-2
     loop-again-2
-    enum-known-outcome
+    enum-known-n
     returns-2
-    returns-3)
+    enum-told-2
+    returns-3
+    returns-4)

@@ -12,6 +12,9 @@ Inv-loop log₀ turns₀ log turns = 66000 ≡ length log
 abbrev μ-loop : tie.MeasureT-loop
 μ-loop log₀ turns₀ log turns = turns
 
+log-room-requires : tie.Need-log-room-requires Inv-loop μ-loop
+log-room-requires c κs = search needs
+
 loop-holds : tie.Need-loop-holds Inv-loop μ-loop
 loop-holds c = search needs
 
@@ -42,6 +45,7 @@ main-spec =
     (tie.spec
     Inv-loop
     μ-loop
+    log-room-requires
     loop-holds
     slice-aggregate-run-one
     run-one-requires

@@ -12,6 +12,9 @@ Inv-loop file₀ turns₀ file turns = 66000 ≡ length file
 abbrev μ-loop : tie.MeasureT-loop
 μ-loop file₀ turns₀ file turns = turns
 
+room-requires : tie.Need-room-requires Inv-loop μ-loop
+room-requires c κs = search needs
+
 loop-holds : tie.Need-loop-holds Inv-loop μ-loop
 loop-holds c = search needs
 
@@ -42,6 +45,7 @@ main-spec =
     (tie.spec
     Inv-loop
     μ-loop
+    room-requires
     loop-holds
     slice-aggregate-run-one
     run-one-requires

@@ -1,6 +1,6 @@
--- `why_lines::put_number` meets its contract: a number has at most 20 digits. Assumes nothing.
+-- `why_lines::put_number` meets its contract: a number has at most so many digits. Assumes nothing.
 use native.Mathlib.Omega.{arith}
-use Rattle.decimal.proofs.Kilograms.{whole-text}
+use Rattle.decimal.proofs.Widths.{whole-text}
 use borrow.Author.Needs.{needs}
 use Rattle.why_lines.proofs.put_number.Statement.{statement}
 use Rattle.why_lines.proofs.put_number.Tie as tie

@@ -20,7 +20,13 @@ placed-requires-4 : tie.Need-placed-requires-4
 placed-requires-4 c κs = search needs
 
 returns : tie.Need-returns
-returns c = cc
+returns c =
+    rw (
+      c .before .before .before .placed .ensures,
+      c .before .before .placed2 .ensures,
+      c .before .placed3 .ensures,
+      c .placed4 .ensures,
+    )
 
 pub and-spec : {M : Type 1} → statement M
 and-spec =

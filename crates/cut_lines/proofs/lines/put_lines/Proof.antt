@@ -1,14 +1,14 @@
 -- `cut_lines::lines::put_lines` meets its contract: what is still to be written is the records of the numbers that are
--- left, and each takes at most its room. Assumes nothing.
-use Prim.Native.Nat.{_+_, _-_, _*_, _≤_}
+-- left. Assumes nothing.
+use Prim.Native.Nat.{_-_, _≤_, _<_}
 use native.Mathlib.Omega.{arith}
 use denote.Ref.{now}
-use lib.ListN.{length, getD, drop, length-take, length-drop}
+use lib.ListN.{length, getD, drop}
 use Rattle.base.specs.Part.{part}
 use Rattle.base.proofs.ToCome.{ToCome, begun}
-use Rattle.cut_lines.specs.Rooms.{longestLine}
+use Rattle.line_parts.proofs.Middles.{Stands, stands}
 use Rattle.cut_lines.specs.Numbered.{numbered}
-use Rattle.cut_lines.proofs.LineByLine.{Stands, stands, line-put, all-put}
+use Rattle.cut_lines.proofs.LineByLine.{line-room, line-put, all-put}
 use borrow.Author.Needs.{needs}
 use Rattle.cut_lines.proofs.lines.put_lines.Statement.{statement}
 use Rattle.cut_lines.proofs.lines.put_lines.Tie as tie
@@ -18,13 +18,12 @@ Inv-loop out₀ at owner middles starts offs bys lines next₀ k₀ out next k =
     (k ≤ length lines)
     × ToCome out₀ at (numbered owner middles starts offs bys lines) out
     (numbered owner middles starts offs bys (drop k lines)) next
-    × (next ≤ at + k * longestLine)
 
 abbrev μ-loop : tie.MeasureT-loop
 μ-loop out₀ at owner middles starts offs bys lines next₀ k₀ out next k = length lines - k
 
 loop-holds : tie.Need-loop-holds Inv-loop μ-loop
-loop-holds c = (search needs, begun, search needs)
+loop-holds c = (search needs, begun)
 
 mul-n : tie.Need-mul-n Inv-loop μ-loop
 mul-n c = search needs
@@ -37,9 +36,13 @@ abbrev begin : tie.At-loop Inv-loop μ-loop → tie.Start Inv-loop μ-loop
 begin l = l .before .before .before .before .before .before .before .before
 
 here : (c : tie.In-loop Inv-loop μ-loop) → let a = begin (c .before) .args in
-    Stands (now (a .middles)) (now (a .starts)) (now (a .cut-off)) (now (a .divisor))
-    (getD (now (a .lines)) (c .before .loop .k) 0)
-here c = stands (begin (c .before) .pre .0) _ (c .loop-test .taken)
+    let n = getD (now (a .lines)) (c .before .loop .k) 0 in
+    Stands (length (now (a .middles))) (length (now (a .cut-off))) (now (a .middles)) (now (a .starts)) n
+    × (n < length (now (a .divisor)))
+here c =
+    let known = begin (c .before) .pre .0 in
+    let s = stands (known .tabled) _ (c .loop-test .taken) in
+    (s, omega (arith, s .a-number, known .as-many))
 
 mul-from : tie.Need-mul-from Inv-loop μ-loop
 mul-from c = let s = here (c .before) in search needs
@@ -79,14 +82,11 @@ shared-slice-read-put-line-2 c =
     let s = here (c .before .before .before .before .before .before .before) in search needs
 
 put-line-requires : tie.Need-put-line-requires Inv-loop μ-loop
+unfolding part
 put-line-requires c κs =
     let l = c .before .before .before .before .before .before .before in
-    let s = here l in
-    let b = begin (l .before) in (
-      b .pre .1,
-      simp (length-take, length-drop) (omega arith),
-      omega (arith, b .pre .0 .few, b .pre .2, l .before .loop .inv .1 .same, l .before .loop .inv .2),
-    )
+    let b = begin (l .before) in
+    (b .pre .1, line-room _ _ _ _ _ _ _ (l .loop-test .taken) (l .before .loop .inv .1) (b .pre .2))
 
 add-k : tie.Need-add-k Inv-loop μ-loop
 add-k c = search needs
@@ -100,17 +100,14 @@ loop-again c =
     let p = c .before .before in
     let l = p .before .before .before .before .before .before .before .before in (
       search needs,
-      line-put _ _ _ _ _ _ _ (l .loop-test .taken) (l .before .loop .inv .1) (p .put-line .ensures .0),
-      omega (arith, l .before .loop .inv .2, p .put-line .ensures .1),
+      line-put _ _ _ _ _ _ _ (l .loop-test .taken) (l .before .loop .inv .1) (p .put-line .ensures),
     )
 
 same-length : tie.Need-same-length Inv-loop μ-loop
 same-length c = c .before .loop .inv .1 .same
 
 returns : tie.Need-returns Inv-loop μ-loop
-returns c =
-    let l = c .before in
-    (all-put _ _ _ _ _ _ _ (c .loop-test .left) (l .loop .inv .1), omega (arith, begin l .pre .0 .few, l .loop .inv .2))
+returns c = all-put _ _ _ _ _ _ _ (c .loop-test .left) (c .before .loop .inv .1)
 
 pub put-lines-spec : {M : Type 1} → statement M
 put-lines-spec =

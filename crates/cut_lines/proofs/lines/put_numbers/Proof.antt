@@ -1,12 +1,12 @@
--- `cut_lines::lines::put_numbers` meets its contract, by its calls, one after the other; each number has at most 20
--- digits. Assumes nothing.
-use Prim.Native.Nat.{_≤_}
+-- `cut_lines::lines::put_numbers` meets its contract, by its calls, one after the other. Assumes nothing.
+use Prim.Native.Nat.{_+_}
+use mathlib.Core.Path.{_≡_}
 use native.Mathlib.Omega.{arith}
 use lib.ListN.{length}
 use Rattle.base.proofs.Writes.{said, joined}
 use Rattle.decimal.specs.Writing.{wholeOf}
-use Rattle.decimal.proofs.Kilograms.{whole-text}
-use Rattle.cut_lines.proofs.LineByLine.{numbers-are}
+use Rattle.cut_lines.specs.Lines.{numbersOf}
+use Rattle.cut_lines.proofs.LineByLine.{numbers-are, numbers-length}
 use borrow.Author.Needs.{needs}
 use Rattle.cut_lines.proofs.lines.put_numbers.Statement.{statement}
 use Rattle.cut_lines.proofs.lines.put_numbers.Tie as tie
@@ -14,21 +14,19 @@ use Rattle.cut_lines.proofs.lines.put_numbers.Tie as tie
 abbrev begin : tie.After-put-whole → tie.Start
 begin a = a .before .before .before
 
-off : (s : tie.Start) → length (wholeOf (s .args .cut-off)) ≤ 20
-off s = whole-text (s .args .cut-off) (search needs)
-
-by : (s : tie.Start) → length (wholeOf (s .args .divisor)) ≤ 20
-by s = whole-text (s .args .divisor) (search needs)
+long : (s : tie.Start) → let a = s .args in
+    length (numbersOf (a .cut-off) (a .divisor)) ≡ length (wholeOf (a .cut-off)) + length (wholeOf (a .divisor)) + 3
+long s = numbers-length (s .args .cut-off) (s .args .divisor)
 
 put-whole-requires : tie.Need-put-whole-requires
-put-whole-requires c κs = omega (arith, off (c .before .before))
+put-whole-requires c κs = omega (arith, long (c .before .before))
 
 put-byte-requires : tie.Need-put-byte-requires
-put-byte-requires c κs = omega (arith, off (begin (c .before .before .before)))
+put-byte-requires c κs = omega (arith, long (begin (c .before .before .before)))
 
 put-whole-requires-2 : tie.Need-put-whole-requires-2
 put-whole-requires-2 c κs =
-    let s = begin (c .before .before .before .before .before .before .before) in omega (arith, off s, by s)
+    omega (arith, long (begin (c .before .before .before .before .before .before .before)))
 
 slice-aggregate-put : tie.Need-slice-aggregate-put
 slice-aggregate-put c = search needs
@@ -36,8 +34,7 @@ slice-aggregate-put c = search needs
 put-requires : tie.Need-put-requires
 put-requires c κs =
     let d = c .before .before .before .before in
-    let s = begin (d .before .before .before .before .before .before .before .before) in
-    omega (arith, off s, by s)
+    omega (arith, long (begin (d .before .before .before .before .before .before .before .before)))
 
 same-length : tie.Need-same-length
 same-length c = search needs
@@ -48,12 +45,9 @@ returns c =
     let d = e .before .before .before .before .before in
     let b = d .before .before .before .before in
     let a = b .before .before .before .before in
-    let s = begin a in (
-      said (numbers-are _ _)
-          (joined (joined (joined (a .put-whole .ensures) (b .put-byte .ensures)) (d .put-whole2 .ensures))
-          (e .put .ensures)),
-      omega (arith, off s, by s),
-    )
+    said (numbers-are _ _)
+    (joined (joined (joined (a .put-whole .ensures) (b .put-byte .ensures)) (d .put-whole2 .ensures))
+    (e .put .ensures))
 
 pub put-numbers-spec : {M : Type 1} → statement M
 put-numbers-spec =

@@ -19,23 +19,23 @@ loop-holds c = search (needs, line-steps)
 add-loop : tie.Need-add-loop Inv-loop μ-loop
 add-loop c = search needs
 
-mul-put-line : tie.Need-mul-put-line Inv-loop μ-loop
-mul-put-line c = search needs
+mul-put-pair : tie.Need-mul-put-pair Inv-loop μ-loop
+mul-put-pair c = search needs
 
-shared-slice-read-put-line : tie.Need-shared-slice-read-put-line Inv-loop μ-loop
-shared-slice-read-put-line c = search needs
+shared-slice-read-put-pair : tie.Need-shared-slice-read-put-pair Inv-loop μ-loop
+shared-slice-read-put-pair c = search needs
 
-add-put-line : tie.Need-add-put-line Inv-loop μ-loop
-add-put-line c = search needs
+add-put-pair : tie.Need-add-put-pair Inv-loop μ-loop
+add-put-pair c = search needs
 
-mul-put-line-2 : tie.Need-mul-put-line-2 Inv-loop μ-loop
-mul-put-line-2 c = search needs
+mul-put-pair-2 : tie.Need-mul-put-pair-2 Inv-loop μ-loop
+mul-put-pair-2 c = search needs
 
-shared-slice-read-put-line-2 : tie.Need-shared-slice-read-put-line-2 Inv-loop μ-loop
-shared-slice-read-put-line-2 c = search needs
+shared-slice-read-put-pair-2 : tie.Need-shared-slice-read-put-pair-2 Inv-loop μ-loop
+shared-slice-read-put-pair-2 c = search needs
 
-put-line-requires : tie.Need-put-line-requires Inv-loop μ-loop
-put-line-requires c κs = search (needs, line-steps)
+put-pair-requires : tie.Need-put-pair-requires Inv-loop μ-loop
+put-pair-requires c κs = search (needs, line-steps)
 
 add-i : tie.Need-add-i Inv-loop μ-loop
 add-i c = search needs
@@ -60,12 +60,12 @@ put-lines-spec =
     μ-loop
     loop-holds
     add-loop
-    mul-put-line
-    shared-slice-read-put-line
-    add-put-line
-    mul-put-line-2
-    shared-slice-read-put-line-2
-    put-line-requires
+    mul-put-pair
+    shared-slice-read-put-pair
+    add-put-pair
+    mul-put-pair-2
+    shared-slice-read-put-pair-2
+    put-pair-requires
     add-i
     loop-less
     loop-again

@@ -6,8 +6,8 @@ use lib.ListN.{length}
 use mir.Syntax.{w64}
 use mir.Val.{toZ, ofZ}
 use mir.Facts.{toZ-ofZ}
-use Rattle.decimal.specs.Writing.{kilogramsOf}
-use Rattle.decimal.proofs.Kilograms.{kilograms-short}
+use Rattle.kilogram_text.specs.Kilograms.{kilogramsOf}
+use Rattle.kilogram_text.proofs.Lengths.{kilograms-short}
 use borrow.Author.Needs.{needs}
 use Rattle.printing.proofs.tell.kilograms.Statement.{statement}
 use Rattle.printing.proofs.tell.kilograms.Tie as tie

@@ -1,0 +1,4 @@
+pub mod Cases
+pub mod Agrees
+pub mod Files
+pub mod Examples

@@ -1,0 +1,25 @@
+-- `herd_cuts::cattle_cuts` meets its contract: their rates are those of 2.35 or 2.20. Assumes nothing.
+use borrow.Author.Needs.{needs}
+use Rattle.cuts.proofs.Steps.{cattle-steps}
+use Rattle.herd_cuts.proofs.cattle_cuts.Statement.{statement}
+use Rattle.herd_cuts.proofs.cattle_cuts.Tie as tie
+
+tan-fraction-requires : tie.Need-tan-fraction-requires
+tan-fraction-requires c κs = search needs
+
+n-excretion-requires : tie.Need-n-excretion-requires
+n-excretion-requires c κs = search needs
+
+cattle-rates-requires : tie.Need-cattle-rates-requires
+cattle-rates-requires c κs = search needs
+
+outdoor-from-requires : tie.Need-outdoor-from-requires
+outdoor-from-requires c κs = search (needs, cattle-steps)
+
+returns : tie.Need-returns
+returns c = search (needs, cattle-steps)
+
+pub cattle-cuts-spec : {M : Type 1} → statement M
+cattle-cuts-spec =
+    tie.close
+    (tie.spec tan-fraction-requires n-excretion-requires cattle-rates-requires outdoor-from-requires returns)

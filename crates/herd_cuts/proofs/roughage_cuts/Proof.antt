@@ -1,0 +1,31 @@
+-- `herd_cuts::roughage_cuts` meets its contract: what is entered, or the standard, is within its range. Assumes
+-- nothing.
+use borrow.Author.Needs.{needs}
+use Rattle.cuts.proofs.Steps.{roughage-steps}
+use Rattle.herd_cuts.proofs.roughage_cuts.Statement.{statement}
+use Rattle.herd_cuts.proofs.roughage_cuts.Tie as tie
+
+n-excretion-animal-requires : tie.Need-n-excretion-animal-requires
+n-excretion-animal-requires c κs = search needs
+
+tan-fraction-requires : tie.Need-tan-fraction-requires
+tan-fraction-requires c κs = search needs
+
+n-excretion-requires : tie.Need-n-excretion-requires
+n-excretion-requires c κs = search (needs, roughage-steps)
+
+roughage-from-requires : tie.Need-roughage-from-requires
+roughage-from-requires c κs = search (needs, roughage-steps)
+
+returns : tie.Need-returns
+returns c = search (needs, roughage-steps)
+
+pub roughage-cuts-spec : {M : Type 1} → statement M
+roughage-cuts-spec =
+    tie.close
+    (tie.spec
+    n-excretion-animal-requires
+    tan-fraction-requires
+    n-excretion-requires
+    roughage-from-requires
+    returns)

@@ -1,0 +1,3 @@
+pub mod SlotSteps
+pub mod LabelSteps
+pub mod LabelsSoFar

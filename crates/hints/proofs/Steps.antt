@@ -1,0 +1,51 @@
+-- How far reading came, by cases. Assumes nothing.
+use Prim.Native.Nat.{ℕ}
+use mathlib.Core.Path.{_≡_, ap, sym, _∙_}
+use mathlib.Core.List.{List}
+use Rattle.farm.specs.declared.Fault.{Fault}
+use Rattle.farm.specs.declared.Checked.the-variants as checks
+use Rattle.farm.specs.Refusals as farms
+use Rattle.reader.specs.declared.FileAnswer.{FileAnswer}
+use Rattle.reader.specs.Files.{readOf}
+use Rattle.gate_days.specs.declared.LogFault.{LogFault}
+use Rattle.gate.specs.declared.LogAnswer.{LogAnswer}
+use Rattle.outdoors.specs.declared.Outdoors.{Outdoors}
+use Rattle.gate.specs.declared.LogAnswer.the-variants as answers
+use Rattle.gate_days.specs.Refusals as gates
+use Rattle.gate.specs.Logs.{readLog}
+use Rattle.hints.specs.declared.Input.{Input}
+use Rattle.hints.specs.declared.Input.the-variants.{Farm, Log}
+use Rattle.reach.specs.declared.Reach.{Reach}
+use Rattle.reach.specs.declared.Reach.the-variants.{Through}
+use Rattle.reach.specs.Reach.{reachOf}
+use Rattle.hints.specs.Hint.{checkedReach, answerReach, farmReach, logReach, readTo}
+
+module _ (s : List ℕ) (a : FileAnswer) (e : a ≡ readOf s) where
+  pub farm-through : a .checked ≡ checks.Accepted → Through ≡ farmReach s
+  unfolding farmReach
+  farm-through c = ap checkedReach (sym c ∙ ap (λ (x : FileAnswer). x .checked) e)
+
+  pub farm-refused : (fault : Fault) (n : ℕ) → a .checked ≡ checks.Refused fault n → (k : ℕ) → k ≡ farms.number fault
+      → (r : Reach) → r ≡ reachOf k n → r ≡ farmReach s
+  unfolding farmReach
+  farm-refused fault n c k ek r er =
+      er ∙ ap (λ (x : ℕ). reachOf x n) ek ∙ ap checkedReach (sym c ∙ ap (λ (x : FileAnswer). x .checked) e)
+
+module _ (s : List ℕ) (a : LogAnswer) (e : a ≡ readLog s) where
+  pub log-through : (o : Outdoors) → a ≡ answers.Gives o → Through ≡ logReach s
+  unfolding logReach
+  log-through o c = ap answerReach (sym c ∙ e)
+
+  pub log-refused : (fault : LogFault) (n : ℕ) → a ≡ answers.Refused fault n → (k : ℕ) → k ≡ gates.number fault
+      → (r : Reach) → r ≡ reachOf k n → r ≡ logReach s
+  unfolding logReach
+  log-refused fault n c k ek r er = er ∙ ap (λ (x : ℕ). reachOf x n) ek ∙ ap answerReach (sym c ∙ e)
+
+module _ (i : Input) (s : List ℕ) (r : Reach) where
+  pub read-farm : i ≡ Farm → r ≡ farmReach s → r ≡ readTo i s
+  read-farm e h = rw e h
+
+  pub read-log : i ≡ Log → r ≡ logReach s → r ≡ readTo i s
+  read-log e h = rw e h
+
+pub ruleset reach-steps = (farm-through, farm-refused, log-through, log-refused, read-farm, read-log)

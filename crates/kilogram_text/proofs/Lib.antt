@@ -1,0 +1,4 @@
+pub mod Signs
+pub mod Lengths
+pub mod Written
+pub mod Examples

@@ -1,0 +1,5 @@
+pub mod Fields
+pub mod Paths
+pub mod Bounds
+pub mod Owners
+pub mod Middles

@@ -1,0 +1,4 @@
+pub mod Lengths
+pub mod Amounts
+pub mod Lacking
+pub mod Rooms

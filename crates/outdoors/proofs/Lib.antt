@@ -1,0 +1,2 @@
+pub mod TallySteps
+pub mod Tallied

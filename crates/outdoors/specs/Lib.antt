@@ -1,0 +1,2 @@
+pub mod Outdoors
+pub mod Tallies

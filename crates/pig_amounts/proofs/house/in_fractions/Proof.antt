@@ -1,0 +1,34 @@
+-- `pig_amounts::house::in_fractions` meets its contract: the solid fraction is the rest. Assumes nothing.
+use borrow.Author.Needs.{needs}
+use Rattle.pig_house.proofs.Fractions.{are-fractions}
+use Rattle.pig_amounts.proofs.house.in_fractions.Statement.{statement}
+use Rattle.pig_amounts.proofs.house.in_fractions.Tie as tie
+
+share-liquid-requires : tie.Need-share-liquid-requires
+share-liquid-requires c κs = search needs
+
+all-or-nothing-requires : tie.Need-all-or-nothing-requires
+all-or-nothing-requires c κs = search needs
+
+all-or-nothing-requires-2 : tie.Need-all-or-nothing-requires-2
+all-or-nothing-requires-2 c κs = search needs
+
+sub-t7 : tie.Need-sub-t7
+sub-t7 c = search needs
+
+sub-t8 : tie.Need-sub-t8
+sub-t8 c = search needs
+
+returns : tie.Need-returns
+returns c = search (needs, are-fractions)
+
+pub in-fractions-spec : {M : Type 1} → statement M
+in-fractions-spec =
+    tie.close
+    (tie.spec
+    share-liquid-requires
+    all-or-nothing-requires
+    all-or-nothing-requires-2
+    sub-t7
+    sub-t8
+    returns)

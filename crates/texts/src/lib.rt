@@ -1,0 +1,172 @@
+// The texts that the program prints beside its answers. Made by docs/tables; docs/refusals.txt and docs/help.txt
+// have what they say.
+
+// A refusal in words, by its number; there is none of the number 0.
+pub const WORDS: [u8; 780] = *b"\
+the file has more than 65,536 bytes\
+a record breaks RFC 4180\
+a record has not four fields, or in a gate's log not three\
+bad label: not 1 to 16 bytes from 32 to 126, or a quote among them\
+module and input name are not in the list\
+`standard` as inp_n_excretion or tan_fraction of cattle or pigs, or as inp_n_excretion of dairy cows\
+the value can't be read or is out of range; in a gate's log also hours above 24 together\
+the label of an earlier herd, not the current one\
+a new label after 64 herds\
+a record of another kind than its herd\
+the input was given already in this herd\
+the file is read through, and a herd lacks an input\
+a lent buffer is shorter than what is to be written (library calls)\
+the date of a gate's log can't be read or is not the next one, or the log ends before 31 December\
+";
+
+pub const WORDS_STARTS: [usize; 16] = [
+    0,
+    0,
+    35,
+    59,
+    117,
+    183,
+    224,
+    324,
+    412,
+    461,
+    487,
+    525,
+    565,
+    616,
+    683,
+    780,
+];
+
+// The last number.
+pub const REFUSALS: u64 = 14;
+
+// The pages of help, one for each command.
+pub const PAGES: [u8; 3779] = *b"\
+usage: urvendlo [COMMAND] [OPTION..] [FILE]\n\
+\n\
+Reads a farm file, which is FILE or standard input (also as -), and prints\n\
+\n\
+\x20 figures  each herd's flows of nitrogen and ammonia, then the farm's totals;\n\
+\x20          done also where no command is given\n\
+\x20 notes    each herd's notes, yes or no, on what an adviser should look at\n\
+\x20 cuts     what each division that is rounded down cut off, and its divisor\n\
+\x20 chart    the figures as a picture, an SVG\n\
+\x20 why      why each yard has its share on days with both yard and pasture\n\
+\x20 gate     the days and hours of a pasture gate's log, read in place of a farm\n\
+\x20 mend     the file without what spreadsheets do to it\n\
+\x20 changes  what mending changes in the file\n\
+\x20 help     this text; help COMMAND tells more of one\n\
+\x20 version  which program this is, and which kit proves it\n\
+\n\
+\x20 -o FILE  what is printed goes to FILE, all of it or nothing; a refused file\n\
+\x20          leaves FILE as it was\n\
+\x20 --words  of the command why: sentences in place of records\n\
+\x20 --       what follows is a file, whatever it is called\n\
+\n\
+The status is 0 where the answer was printed, 1 where the file was refused,\n\
+2 for wrong usage, unreadable input or failed output.\n\
+\n\
+The bare program, target/bin/urvendlo, needs neither ./urvendlo nor the kit:\n\
+urvendlo [--status-fd N] [COMMAND] [NAME] < FILE. NAME is for messages. The\n\
+digit of the status goes to the descriptor N; the program's own is always 0.\n\
+chart, version and -o are of ./urvendlo alone.\n\
+usage: urvendlo [figures] [-o FILE] [FILE]\n\
+\n\
+A line a figure, herd after herd and then the totals: LABEL,MODULE,NAME and\n\
+kilograms of nitrogen a year, with three decimals. A refused file gets the\n\
+line refused,NUMBER,RECORD, and standard error has it in words.\n\
+\n\
+\x20 $ urvendlo examples/farm.csv\n\
+\x20 Heifers,Livestock::OtherCattle::Excretion,n_excretion,960.000\n\
+usage: urvendlo notes [-o FILE] [FILE]\n\
+\n\
+A line a herd: LABEL and five times yes or no: N entered off its standard, TAN\n\
+entered off its standard, a free factor that is not 0, a share of the yard that\n\
+is lowered, a factor of the housing that is above 1 and counts as 1.\n\
+\n\
+\x20 $ urvendlo notes examples/farm.csv\n\
+\x20 Heifers,no,no,no,yes,no\n\
+usage: urvendlo cuts [-o FILE] [FILE]\n\
+\n\
+A line a division that is rounded down: LABEL,MODULE,NAME, what was cut off,\n\
+and the divisor.\n\
+\n\
+\x20 $ urvendlo cuts examples/odd.csv\n\
+\x20 Heifers,Livestock::OtherCattle::Excretion,tan_excretion,0,10000\n\
+usage: urvendlo chart [-o FILE] [FILE]\n\
+\n\
+The figures as an SVG, which any browser shows: of each herd a bar of its\n\
+nitrogen and a bar of its ammonia, by place. It needs Python 3.\n\
+\n\
+\x20 $ urvendlo chart -o farm.svg examples/farm.csv\n\
+usage: urvendlo why [--words] [-o FILE] [FILE]\n\
+\n\
+A line a herd with a yard: LABEL, the reason (no_such_days, not_available,\n\
+as_chosen or lowered), the days with both yard and pasture, and the yard's\n\
+share on them. With --words a sentence in place of the line.\n\
+\n\
+\x20 $ urvendlo why examples/shares.csv\n\
+\x20 Heifers,lowered,180,0.2\n\
+usage: urvendlo gate [-o FILE] [LOG]\n\
+\n\
+LOG has a record a day of one year: date, hours on pasture, hours on the yard.\n\
+Three lines: the inputs of a farm file that it gives.\n\
+\n\
+\x20 $ urvendlo gate examples/gate/2024.csv\n\
+\x20 grazing_days,200\n\
+usage: urvendlo mend [-o FILE] [FILE]\n\
+\n\
+The file without the byte order mark in front, and with a CR before each bare\n\
+LF outside quotes; nothing else is changed. To 262,144 bytes. The new file may\n\
+replace the old one with -o, and never with >.\n\
+\n\
+\x20 $ urvendlo mend -o farm.csv farm.csv\n\
+usage: urvendlo changes [-o FILE] [FILE]\n\
+\n\
+A line a change that mending makes: KIND,PLACE, with the kind 1 for the mark\n\
+that is dropped, 2 for a CR that is put in, and the place in the old file.\n\
+\n\
+\x20 $ urvendlo changes examples/spreadsheet.csv\n\
+\x20 1,0\n\
+usage: urvendlo version\n\
+\n\
+The commit of this program, and the kit that proves it, where there is one.\n\
+";
+
+pub const PAGES_STARTS: [usize; 11] = [
+    0,
+    1443,
+    1798,
+    2130,
+    2365,
+    2593,
+    2916,
+    3148,
+    3431,
+    3678,
+    3779,
+];
+
+// The numbers of the pages, and the last of them.
+pub const HELP: usize = 0;
+
+pub const FIGURES: usize = 1;
+
+pub const NOTES: usize = 2;
+
+pub const CUTS: usize = 3;
+
+pub const CHART: usize = 4;
+
+pub const WHY: usize = 5;
+
+pub const GATE: usize = 6;
+
+pub const MEND: usize = 7;
+
+pub const CHANGES: usize = 8;
+
+pub const VERSION: usize = 9;
+
+pub const PAGE_LAST: usize = 9;

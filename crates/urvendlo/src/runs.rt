@@ -1,0 +1,145 @@
+// What each command does: the file is read, the answer printed, and of a refusal it is said what there is to say.
+use console::Ended;
+use console::messages;
+use farm::Fault;
+use gate::LogAnswer;
+use gate_days::LogFault;
+use hints::Input;
+use printing::Printed;
+use printing::input;
+use streams::Outcome;
+use views::View;
+ghost use Prim.Native.Nat.{_+_};
+ghost use mathlib.Core.Path.{_≡_};
+ghost use lib.ListN.{length};
+ghost use Rattle.gate.specs.Logs.{logMost};
+ghost use Rattle.streams.specs.Within.{Within};
+
+// A refused file: the refusal in words, and the command `mend` where that helps.
+fn refused(kind: Input, s: &[u8], name: usize, number: u64, record: usize) -> Ended {
+    messages::refused(name, number, record);
+    let changes = hints::hint(kind, s);
+    if changes > 0 {
+        messages::hinted(name, changes);
+    }
+    Ended::Refused
+}
+
+fn farm_refused(s: &[u8], name: usize, fault: Fault, record: usize) -> Ended {
+    refused(
+        Input::Farm,
+        s,
+        name,
+        fault_numbers::number_of(fault),
+        record,
+    )
+}
+
+fn log_refused(s: &[u8], name: usize, fault: LogFault, record: usize) -> Ended {
+    refused(
+        Input::Log,
+        s,
+        name,
+        gate_days::faults::number_of(fault),
+        record,
+    )
+}
+
+fn answer_farm(view: View, s: &[u8], name: usize) -> Ended {
+    match printing::print_view(view, s) {
+        Printed::Listed => Ended::Printed,
+        Printed::Refused(fault, record) => farm_refused(s, name, fault, record),
+        Printed::Broken => messages::unwritten(),
+    }
+}
+
+fn farm_room() -> [u8; input::INPUT_MOST] {
+    [0u8; input::INPUT_MOST]
+}
+
+// A farm file on standard input.
+pub fn of_farm(view: View, name: usize) -> Ended {
+    let mut file = farm_room();
+    match input::read_file(&mut file) {
+        Outcome::Whole(n) => answer_farm(view, base::part_of(&file, 0, n), name),
+        Outcome::Broken => messages::unread(),
+    }
+}
+
+// One byte more than a log may have, so that a longer one is seen.
+const LOG_INPUT_MOST: usize = gate::LOG_MOST + 1;
+
+// The whole log; or, of a longer one, so much that it is refused as too long.
+fn read_log(log: &mut [u8]) -> Outcome
+    requires { ⌜ length (now log) ≡ logMost + 1 ⌝ }
+    ensures { λ r. ⌜ Within (length (now (log .exit))) r ⌝ }
+{
+    streams::read_all(log)
+}
+
+fn end_log(answer: LogAnswer, s: &[u8], name: usize) -> Ended {
+    match answer {
+        LogAnswer::Gives(_) => Ended::Printed,
+        LogAnswer::Refused(fault, record) => log_refused(s, name, fault, record),
+    }
+}
+
+fn answer_log(s: &[u8], name: usize) -> Ended {
+    let put = gate_answer::answer_of(s);
+    let ended = put.answer;
+    let bytes = put.bytes;
+    match streams::write_all(base::part_of(&bytes, 0, put.length)) {
+        Outcome::Whole(_) => end_log(ended, s, name),
+        Outcome::Broken => messages::unwritten(),
+    }
+}
+
+fn log_room() -> [u8; LOG_INPUT_MOST] {
+    [0u8; LOG_INPUT_MOST]
+}
+
+// A gate's log on standard input.
+pub fn of_log(name: usize) -> Ended {
+    let mut log = log_room();
+    match read_log(&mut log) {
+        Outcome::Whole(n) => answer_log(base::part_of(&log, 0, n), name),
+        Outcome::Broken => messages::unread(),
+    }
+}
+
+fn if_printed(printed: bool) -> Ended {
+    if printed {
+        return Ended::Printed;
+    }
+    Ended::Failed
+}
+
+fn mending_room() -> [u8; mend_print::INPUT_MOST] {
+    [0u8; mend_print::INPUT_MOST]
+}
+
+// The file on standard input, mended.
+pub fn of_mending() -> Ended {
+    let mut file = mending_room();
+    match mend_print::read_file(&mut file) {
+        mend_print::Input::File(n) => if_printed(mend_print::print_mended(base::part_of(
+            &file,
+            0,
+            n,
+        ))),
+        mend_print::Input::Failed => Ended::Failed,
+    }
+}
+
+// What mending changes in it.
+pub fn of_changes() -> Ended {
+    let mut file = mending_room();
+    match mend_print::read_file(&mut file) {
+        mend_print::Input::File(n) => if_printed(mend_print::print_changes(base::part_of(
+            &file,
+            0,
+            n,
+        ))),
+        mend_print::Input::Failed => Ended::Failed,
+    }
+}

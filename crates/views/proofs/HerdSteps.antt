@@ -1,0 +1,62 @@
+-- What was written of a herd is what the view lists of it, and no view lists more than its room. Assumes nothing.
+use native.Mathlib.Omega.{arith}
+use Prim.Native.Nat.{ℕ, _+_, _≤_}
+use mathlib.Core.Path.{_≡_}
+use mathlib.Core.List.{List}
+use Rattle.base.specs.Wrote.{Wrote}
+use Rattle.farm.specs.declared.Herd.{Herd}
+use Rattle.listing_room.specs.Bounds.{herdRoom}
+use Rattle.figure_lines.specs.Lines.{listingOf}
+use Rattle.noting.specs.Records.{herdNotes}
+use Rattle.noting.specs.Rooms.{longestRecord}
+use Rattle.cut_lines.specs.Lines.{herdCutLines}
+use Rattle.cut_lines.specs.Rooms.{longestCuts}
+use Rattle.why_lines.specs.declared.Wording.the-variants.{Record, Sentence}
+use Rattle.why_lines.specs.Lines.{herdWhy}
+use Rattle.why_lines.specs.Rooms.{longestLine}
+use Rattle.views.specs.declared.View.{View}
+use Rattle.views.specs.declared.View.the-variants.{Figures, Notes, Cuts, Reasons, Sentences}
+use Rattle.views.specs.Views.{herdText}
+use Rattle.views.specs.Rooms.{herdViewRoom}
+
+module _ (v : View) (h : Herd) (old new : List ℕ) (at r : ℕ) where
+  pub figures-put : v ≡ Figures → Wrote old at (listingOf h) new r → Wrote old at (herdText v h) new r
+  unfolding herdText
+  figures-put e w = rw e w
+
+  pub notes-put : v ≡ Notes → Wrote old at (herdNotes h) new r → Wrote old at (herdText v h) new r
+  unfolding herdText
+  notes-put e w = rw e w
+
+  pub cuts-put : v ≡ Cuts → Wrote old at (herdCutLines h) new r → Wrote old at (herdText v h) new r
+  unfolding herdText
+  cuts-put e w = rw e w
+
+  pub reasons-put : v ≡ Reasons → Wrote old at (herdWhy Record h) new r → Wrote old at (herdText v h) new r
+  unfolding herdText
+  reasons-put e w = rw e w
+
+  pub sentences-put : v ≡ Sentences → Wrote old at (herdWhy Sentence h) new r → Wrote old at (herdText v h) new r
+  unfolding herdText
+  sentences-put e w = rw e w
+
+module _ (at r : ℕ) where
+  pub figures-within : r ≤ at + herdRoom → r ≤ at + herdViewRoom
+  figures-within b = omega (arith, b)
+
+  pub notes-within : r ≤ at + longestRecord → r ≤ at + herdViewRoom
+  notes-within b = omega (arith, b)
+
+  pub cuts-within : r ≤ at + longestCuts → r ≤ at + herdViewRoom
+  cuts-within b = omega (arith, b)
+
+  pub why-within : r ≤ at + longestLine → r ≤ at + herdViewRoom
+  why-within b = omega (arith, b)
+
+pub ruleset figures-steps = (figures-put, figures-within)
+
+pub ruleset notes-steps = (notes-put, notes-within)
+
+pub ruleset cuts-steps = (cuts-put, cuts-within)
+
+pub ruleset why-steps = (reasons-put, sentences-put, why-within)

@@ -1,0 +1,4 @@
+pub mod HerdSteps
+pub mod FarmSteps
+pub mod FileSteps
+pub mod OutputSteps

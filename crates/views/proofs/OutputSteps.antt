@@ -1,0 +1,36 @@
+-- What the program prints: what was listed, or the refusal's line in its place. Assumes nothing.
+use Prim.Native.Nat.{ℕ, _≤_}
+use mathlib.Core.Path.{_≡_}
+use mathlib.Core.List.{List}
+use native.Mathlib.Omega.{arith}
+use Rattle.base.specs.Wrote.{Wrote}
+use Rattle.base.proofs.Clash.{clash}
+use Rattle.farm.specs.declared.Fault.{Fault}
+use Rattle.farm.specs.Refusals.{number}
+use Rattle.refusal_line.specs.Lines.{refusalLine}
+use Rattle.refusal_line.specs.Rooms.{lineRoom}
+use Rattle.written.specs.declared.Written.{Written}
+use Rattle.written.specs.declared.Written.the-variants.{Length, Refused}
+use Rattle.views.specs.declared.View.{View}
+use Rattle.views.specs.Program.{outputOf, PutFile, listed, refused, PutOutput}
+
+pub prints-listed : (v : View) (s old mid : List ℕ) (put : Written) → PutFile v s old mid put → (n : ℕ)
+    → put ≡ Length n → PutOutput v s old mid (record { ended = Length n; length = n })
+unfolding outputOf
+prints-listed v s old mid (Length m) (listed k w h) n e =
+    let d : m ≡ n = cc in
+    record { bytes = rw (k, ← d) w; room = omega (arith, d); ended = rw k }
+prints-listed v s old mid (Refused fault m) (refused k) n e = clash cc
+
+pub prints-refused : (v : View) (s old mid : List ℕ) (put : Written) → PutFile v s old mid put → (fault : Fault) (n : ℕ)
+    → put ≡ Refused fault n → (new : List ℕ) (k : ℕ)
+    → Wrote mid 0 (refusalLine (number fault) n) new k → k ≤ lineRoom
+    → PutOutput v s old new (record { ended = Refused fault n; length = k })
+unfolding outputOf
+prints-refused v s old mid (Length m) (listed r w h) fault n e new k w′ b = clash cc
+prints-refused v s old mid (Refused f m) (refused r) fault n e new k w′ b =
+    let c : f ≡ fault = cc in
+    let d : m ≡ n = cc in
+    record { bytes = rw (r, c, d) w′; room = omega (arith, b); ended = rw (r, c, d) }
+
+pub ruleset output-steps = (prints-listed, prints-refused)

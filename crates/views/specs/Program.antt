@@ -1,0 +1,53 @@
+-- 01, The listing: "The program reads a farm file from standard input and prints each herd, then the totals, or
+-- `refused,NUMBER,RECORD` and CRLF." So goes every command: it prints what its view lists of an accepted farm, or that
+-- line. To be believed: `outputOf` is what a command prints for a file's bytes, `programOutput` what the program does
+-- where none is named.
+use Prim.Native.Nat.{ℕ, _≤_}
+use mathlib.Core.Path.{_≡_}
+use mathlib.Core.List.{List}
+use Rattle.base.specs.Wrote.{Wrote}
+use Rattle.farm.specs.declared.Farm.{Farm}
+use Rattle.farm.specs.declared.Fault.{Fault}
+use Rattle.farm.specs.declared.Checked.{Checked}
+use Rattle.farm.specs.declared.Checked.the-variants as checks
+use Rattle.farm.specs.Refusals.{number}
+use Rattle.reader.specs.Files.{readOf}
+use Rattle.written.specs.declared.Written.{Written}
+use Rattle.written.specs.declared.Written.the-variants.{Length, Refused}
+use Rattle.refusal_line.specs.Lines.{refusalLine}
+use Rattle.views.specs.declared.View.{View}
+use Rattle.views.specs.declared.View.the-variants.{Figures}
+use Rattle.views.specs.declared.Output.{Output}
+use Rattle.views.specs.Views.{viewed}
+use Rattle.views.specs.Rooms.{viewRoom}
+
+abbrev pub printed : View → Checked → Farm → List ℕ
+printed view checks.Accepted f = viewed view f
+printed view (checks.Refused fault record′) f = refusalLine (number fault) record′
+
+unfoldable pub outputOf : View → List ℕ → List ℕ
+outputOf view s = printed view (readOf s .checked) (readOf s .farm)
+
+-- "each herd, then the totals"
+abbrev pub programOutput : List ℕ → List ℕ
+programOutput s = outputOf Figures s
+
+-- ---- how the code says that a file is listed or refused; no reader has to believe it
+
+pub data PutFile (view : View) (s old : List ℕ) : List ℕ → Written → Type 0 where
+  listed : {new : List ℕ} {n : ℕ} → readOf s .checked ≡ checks.Accepted
+      → Wrote old 0 (viewed view (readOf s .farm)) new n
+      → n ≤ viewRoom → PutFile view s old new (Length n)
+  refused : {fault : Fault} {n : ℕ} → readOf s .checked ≡ checks.Refused fault n
+      → PutFile view s old old (Refused fault n)
+
+-- ---- what the program prints was put from the front of the buffer on, and how reading ended is told
+
+abbrev pub endedOf : Checked → ℕ → Written
+endedOf checks.Accepted n = Length n
+endedOf (checks.Refused fault record′) n = Refused fault record′
+
+pub record PutOutput (view : View) (s old new : List ℕ) (r : Output) : Type 0 where
+  pub bytes : Wrote old 0 (outputOf view s) new (r .length)
+  pub room : r .length ≤ viewRoom
+  pub ended : r .ended ≡ endedOf (readOf s .checked) (r .length)

@@ -1,0 +1,22 @@
+// A file's bytes in, what a view lists of its farm out: read once, and listed straight from what was read.
+use crate::View;
+use crate::farms;
+use farm::Checked;
+use written::Written;
+ghost use Prim.Native.Nat.{_≤_};
+ghost use lib.ListN.{length};
+ghost use Rattle.views.specs.Rooms.{viewRoom};
+ghost use Rattle.views.specs.Program.{PutFile};
+
+// The view of the file's farm; or the refusal, and nothing is written.
+pub fn put_file(s: &[u8], out: &mut [u8], view: View) -> Written
+    requires { ⌜ viewRoom ≤ length (now out) ⌝ }
+    ensures { λ r. ⌜ PutFile view (now (s .entry)) (now (out .entry)) (now (out .exit)) r ⌝ }
+{
+    let answer = farm_file::read(s);
+    let checked = answer.checked;
+    match checked {
+        Checked::Accepted => Written::Length(farms::put_view(out, answer.farm, view)),
+        Checked::Refused(fault, record) => Written::Refused(fault, record),
+    }
+}

@@ -1,0 +1,26 @@
+// What the program prints for a file: what the command's view lists of its farm, or the refusal's line. No call of the
+// library does so: there a refusal leaves the lent buffer as it was.
+use crate::Output;
+use crate::View;
+use crate::files;
+use written::Written;
+ghost use Prim.Native.Nat.{_≤_};
+ghost use lib.ListN.{length};
+ghost use Rattle.views.specs.Rooms.{viewRoom};
+ghost use Rattle.views.specs.Program.{PutOutput};
+
+pub fn put_output(s: &[u8], out: &mut [u8], view: View) -> Output
+    requires { ⌜ viewRoom ≤ length (now out) ⌝ }
+    ensures { λ r. ⌜ PutOutput view (now (s .entry)) (now (out .entry)) (now (out .exit)) r ⌝ }
+{
+    match files::put_file(s, out, view) {
+        Written::Length(n) => Output {
+            ended: Written::Length(n),
+            length: n,
+        },
+        Written::Refused(fault, record) => Output {
+            ended: Written::Refused(fault, record),
+            length: fault_line::put_line(out, fault, record),
+        },
+    }
+}

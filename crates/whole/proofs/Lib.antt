@@ -1,7 +1,0 @@
-pub mod Amounts
-pub mod Lacking
-pub mod Rooms
-pub mod FarmSteps
-pub mod RefusalLine
-pub mod FileSteps
-pub mod AnswerRoom
