@@ -1502,7 +1502,7 @@ class Doubles(unittest.TestCase):
         self.assertEqual(left, [-51_000, -50_994, -51])
 
 
-@unittest.skipUnless(DOCUMENT in os.environ, f"{DOCUMENT} does not name the text of 001")
+@unittest.skipUnless(os.environ.get(DOCUMENT), f"{DOCUMENT} does not name the text of 001")
 class PrintedNumbers(unittest.TestCase):
     """The table of printed numbers against the document itself."""
 
