@@ -1,10 +1,13 @@
-// The yardstick of the benchmark: Urvendlo's job in plain C, written for speed. A farm file on standard input; its listing, or its refusal,
-// on standard output, in the same bytes.
+// The yardstick of the benchmark: Urvendlo's job in plain C, written for speed, of all four kinds of herd. A farm file
+// on standard input; what `urvendlo figures` prints for it, its listing or its refusal, on standard output, in the same
+// bytes.
 //
 //   peer           one farm file
-//   peer cases     farm files one after the other, each behind its length in four bytes, the lowest first
-//   peer repeat    a mode, how often in eight digits, and a farm file: repeats the work inside the process and prints one checksum,
-//                  as the program `repeat` does. The mode is w for the whole job, r for reading alone, l for listing alone
+//   peer cases     farm files one after the other, each behind its length in four bytes, the lowest first: for each what
+//                  `figures`, `notes`, `cuts`, `why` and `why --words` print, as crates/test_vectors does
+//   peer repeat    a mode, how often in eight digits, and a farm file: repeats the work inside the process and prints one
+//                  checksum, as the program `bench_repeat` does. The mode is w for the whole job, r for reading alone, l
+//                  for what comes after reading: figures and listing
 #include <stdint.h>
 #include <stdio.h>
 #include <stdlib.h>
@@ -17,8 +20,8 @@ enum { FILE_MOST = 65536, HERDS_MOST = 64, SLOTS = 9, LABEL_MOST = 16 };
 
 enum kind { ROUGHAGE, CATTLE, PIGS, DAIRY };
 
-// The slots of each kind, in the order of 01's list; dairy cows have those of cattle. LEFT is what the free factor leaves, in percent: 100
-// less it.
+// The slots of each kind, in the order of 01's list; dairy cows have those of cattle. LEFT is what the free factor
+// leaves, in percent: 100 less it.
 enum { R_CATEGORY, R_ANIMALS, R_EXCRETION, R_TAN, R_LEFT, R_DAYS, R_HOURS };
 enum { C_ANIMALS, C_EXCRETION, C_TAN, C_YARD_DAYS, C_YARD, C_FLOOR, C_LEFT, C_DAYS, C_HOURS };
 enum { P_ANIMALS, P_EXCRETION, P_TAN, P_HOUSING, P_SCRUBBER, P_FLOOR, P_AIR, P_LEFT };

@@ -1,6 +1,6 @@
--- A portion of an amount: so many shares of it, of so many that make the whole, with one cut (01, Steps and cuts). The
--- housing has two cuts that are not of this form: c_grazing cuts a sum, and nh3_nhousing has a factor that was cut
--- itself.
+-- A portion of an amount: so many shares of it, of so many that make the whole, with one cut (01, Steps and cuts). Some
+-- cuts are not of this form: c_grazing cuts a sum, and nh3_nhousing and tan_air_scrubber have factors that were cut
+-- themselves.
 use Prim.Native.Nat.{ℕ}
 use Rattle.amounts.specs.Arithmetic.{Arithmetic}
 

@@ -1,5 +1,5 @@
-// The units of the formulas, and a portion of an amount with one cut. Every division of the formulas is that of
-// `portion` or of `portion_to_twice`, but for c_grazing, which cuts a sum.
+// The units of the formulas, and a portion of an amount with one cut. Every division that a herd's formulas make is that
+// of `portion` or of `portion_to_twice`, but for c_grazing, which cuts a sum (crate `housing`).
 use cut::Quotient;
 ghost use Rattle.amounts.specs.Bounds.{Modest, Fit, PortionOf, FitTwice, TwiceOf, PortionsOf};
 

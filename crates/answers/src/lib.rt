@@ -1,4 +1,5 @@
-// A record's figures, or its refusal. Nothing is asked of the record beforehand.
+// A herd's record answered with its figures, notes and cuts, a farm's with its totals, or either with its refusal.
+// Nothing is asked of the record beforehand.
 use farm::Checked;
 use farm::Farm;
 use farm::Herd;

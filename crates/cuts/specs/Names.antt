@@ -1,5 +1,5 @@
--- 02, W7: the names of the cuts, once: a row a name, in the order of their numbers, which is that of the listing, "a
--- factor's cuts before the figure that they enter". A cut that gives a figure has the figure's name and section. Where
+-- 02, W7: the names of the cuts, once: a row a name, in the order of their numbers, which is that of the listing, a
+-- factor's cuts before the figure that they enter. A cut that gives a figure has the figure's name and section. Where
 -- one output is cut more than once, the name is the output's, a colon and the factor that was just multiplied in. To be
 -- believed: the rows.
 use Prim.Native.Nat.{ℕ}

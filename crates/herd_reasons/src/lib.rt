@@ -67,7 +67,7 @@ pub fn why_of(o: Outdoor) -> Why
     }
 }
 
-// A kind with the module `Outdoor` has a clause here, and nowhere else.
+// A kind with the module `Outdoor` is told the reason; the others have no yard.
 pub fn told_of(inputs: Inputs) -> Told
     requires { ⌜ Sound inputs ⌝ }
     ensures { λ r. ⌜ r ≡ toldOf inputs ⌝ }

@@ -1,4 +1,5 @@
-// When mending is worth trying on a refused file: where the mended file is accepted, or refused further on.
+// When mending is worth trying on a refused farm file, or a refused log: where the mended file is accepted, or refused
+// further on.
 use farm::Checked;
 use gate::LogAnswer;
 use gate::logs;

@@ -1,5 +1,5 @@
-// 2.33, 2.60 and 2.86: what a free factor leaves of the emission, in percent: 1 less the factor. A factor below zero
-// makes more of it (02, W3).
+// 2.18, 2.33, 2.60 and 2.86: what a free factor leaves of the emission, in percent: 1 less the factor. A factor below
+// zero makes more of it (02, W3).
 use amounts::PERCENT;
 ghost use Prim.Native.Nat.{_+_, _≤_};
 ghost use lib.IntN.{natAbs};

@@ -1,4 +1,4 @@
--- 2.52 to 2.60, what the names of a pig house stand for: the values of the Technical Parameters, by the page's decimals
+-- 2.52 to 2.59, what the names of a pig house stand for: the values of the Technical Parameters, by the page's decimals
 -- (crate `page`). To be believed.
 use Prim.Native.Nat.{ℕ, _*_}
 use Rattle.kinds.specs.declared.HousingType.{HousingType}

@@ -1,6 +1,6 @@
-// 02, W2: why the yard's share is what it is on days with both grazing and yard. The first of four reasons whose fact
-// holds in the herd's record is given, with the number of such days, and the share follows from it. Crate
-// `herd_reasons` finds it.
+// 02, W2: what is told of why a yard has its share on days with both yard and pasture: the first of four reasons whose
+// fact holds in the herd's record, the number of such days, and the shares. The definitions in specs/ say which, and
+// crate `herd_reasons` finds it.
 use farm::Fault;
 
 // In 02's order.

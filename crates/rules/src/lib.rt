@@ -1,2 +1,2 @@
-// The file rules of 01 as statements about a file's records, and the theorems that what the reader is defined to answer
-// means them. No code.
+// Theorems only: the file rules and the refusals of 01 as statements about a file's records, and that what the reader is
+// defined to answer is just what they ask.

@@ -1,5 +1,5 @@
 // The two constant tables of the model: what an animal excretes by standard (2.84), and the growth of the housing's
-// emission with the hours on pasture (2.87).
+// emission with the hours on pasture (2.87). And the standards of a dairy cow (2.2).
 ghost use mathlib.Core.Path.{_≡_};
 ghost use Rattle.tables.specs.Standards.{standardOf};
 ghost use Rattle.tables.specs.Growth.{withinDay, kOf};

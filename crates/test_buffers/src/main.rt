@@ -12,8 +12,15 @@ const MARK: u8 = b'#';
 const ROOM: usize = 2048;
 
 // 01's example file, and the lengths of its herd's listing and of its totals'.
-const PIGS: [u8; 548] =
-    *b"P1,Livestock::FatteningPigs::Excretion,animals,10\r\nP1,Livestock::FatteningPigs::Excretion,inp_n_excretion,13\r\nP1,Livestock::FatteningPigs::Excretion,tan_fraction,70\r\nP1,Livestock::FatteningPigs::Housing::Type,housing_type,Outdoor\r\nP1,Livestock::FatteningPigs::Housing::AirScrubber,air_scrubber,none\r\nP1,Livestock::FatteningPigs::Housing::MitigationOptions,mitigation_housing_floor,none\r\nP1,Livestock::FatteningPigs::Housing::MitigationOptions,mitigation_housing_air,none\r\nP1,Livestock::FatteningPigs::Housing::CFreeFactor,free_correction_factor,0\r\n";
+const PIGS: [u8; 548] = *b"\
+P1,Livestock::FatteningPigs::Excretion,animals,10\r\n\
+P1,Livestock::FatteningPigs::Excretion,inp_n_excretion,13\r\n\
+P1,Livestock::FatteningPigs::Excretion,tan_fraction,70\r\n\
+P1,Livestock::FatteningPigs::Housing::Type,housing_type,Outdoor\r\n\
+P1,Livestock::FatteningPigs::Housing::AirScrubber,air_scrubber,none\r\n\
+P1,Livestock::FatteningPigs::Housing::MitigationOptions,mitigation_housing_floor,none\r\n\
+P1,Livestock::FatteningPigs::Housing::MitigationOptions,mitigation_housing_air,none\r\n\
+P1,Livestock::FatteningPigs::Housing::CFreeFactor,free_correction_factor,0\r\n";
 
 const HERD_LENGTH: usize = 1344;
 

@@ -5,8 +5,14 @@ use views::View;
 const FILE_MOST: usize = 65536;
 
 // 9. Roughage 365 days, 24 hours.
-const ALWAYS_OUT: [u8; 459] =
-    *b"D1,Livestock::RoughageConsuming::Excretion,animalcategory,fallow_deer\r\nD1,Livestock::RoughageConsuming::Excretion,animals,10\r\nD1,Livestock::RoughageConsuming::Excretion,inp_n_excretion,standard\r\nD1,Livestock::RoughageConsuming::Excretion,tan_fraction,standard\r\nD1,Livestock::RoughageConsuming::Housing::CFreeFactor,free_correction_factor,0\r\nD1,Livestock::RoughageConsuming::Grazing,grazing_days,365\r\nD1,Livestock::RoughageConsuming::Grazing,grazing_hours,24\r\n";
+const ALWAYS_OUT: [u8; 459] = *b"\
+D1,Livestock::RoughageConsuming::Excretion,animalcategory,fallow_deer\r\n\
+D1,Livestock::RoughageConsuming::Excretion,animals,10\r\n\
+D1,Livestock::RoughageConsuming::Excretion,inp_n_excretion,standard\r\n\
+D1,Livestock::RoughageConsuming::Excretion,tan_fraction,standard\r\n\
+D1,Livestock::RoughageConsuming::Housing::CFreeFactor,free_correction_factor,0\r\n\
+D1,Livestock::RoughageConsuming::Grazing,grazing_days,365\r\n\
+D1,Livestock::RoughageConsuming::Grazing,grazing_hours,24\r\n";
 
 // src from `at` on, where there is room for it, and the place past it.
 fn add(out: &mut [u8], at: usize, src: &[u8]) -> usize {

@@ -1,6 +1,7 @@
 -- A reason as it is printed: its record, its sentence, and a record whose label has a comma. Assumes nothing.
 use Prim.Native.Nat.{ℕ}
 use mathlib.Core.Path.{_≡_, refl}
+use mathlib.Core.List.{_++_}
 use Rattle.base.specs.Text.{bytes}
 use Rattle.decimal.specs.Writing.{width, wholeOf}
 use Rattle.line_parts.specs.Fields.{hasComma, labelField}
@@ -21,6 +22,7 @@ unfolding whyRecord numbersOf tenthsOf labelField hasComma wholeOf width
 comma-told = refl
 
 pub heifers-in-words : whySentence (bytes "Heifers") (why Lowered 180 6 2)
-    ≡ bytes "Heifers: with both yard and pasture on 180 of 365 days, the yard's share on such days is 0.2, lowered from the chosen share of 0.6.\r\n"
+    ≡ bytes "Heifers: with both yard and pasture on 180 of 365 days, the yard's share on such days is 0.2, "
+    ++ bytes "lowered from the chosen share of 0.6.\r\n"
 unfolding whySentence daysWords sharesWords tenthsOf labelField hasComma wholeOf width
 heifers-in-words = refl
