@@ -17,15 +17,15 @@ use Rattle.grammar.specs.Reading.{
   readingOf,
 }
 
-record Example : Type 0 where
-  file : List ℕ
-  reads : Reading
+pub record Example : Type 0 where
+  pub file : List ℕ
+  pub reads : Reading
 
 infix 4 _says_
 abbrev _says_ : List ℕ → Reading → Example
 f says r = record { file = f; reads = r }
 
-abbrev examples : List Example
+abbrev pub examples : List Example
 examples =
     (bytes "" says end)
     ∷ (bytes "\r\n" says ([] ∷ []) then end)
@@ -43,6 +43,6 @@ examples =
     ∷ (bytes "a,b,c,d,e,f\n\r\n" says Reading.broken)
     ∷ []
 
-worked : map (λ (e : Example). readingOf (e .file)) examples ≡ map (λ (e : Example). e .reads) examples
+pub worked : map (λ (e : Example). readingOf (e .file)) examples ≡ map (λ (e : Example). e .reads) examples
 unfolding readingOf readingFrom atStart inPlain inQuotes pastQuote pastCR
 worked = refl

@@ -6,7 +6,7 @@ use Rattle.base.specs.Text.{bytes}
 use Rattle.decimal.specs.Writing.{width, wholeOf}
 use Rattle.kilogram_text.specs.Kilograms.{thousandthsOf, sign, kilogramsOf}
 
-written :
+pub written :
     kilogramsOf (pos 130000) ∷ kilogramsOf (pos 715) ∷ kilogramsOf (pos 0) ∷ kilogramsOf (negsuc 5225)
     ∷ kilogramsOf (negsuc 0) ∷ []
     ≡ bytes "130.000" ∷ bytes "0.715" ∷ bytes "0.000" ∷ bytes "-5.226" ∷ bytes "-0.001" ∷ []

@@ -14,14 +14,14 @@ abbrev read : String → ℕ → ℕ → Number
 read text decimals most = numberOf (bytes text) decimals most
 
 -- grams a head up to 200 kilograms, and tenths of an hour up to 24 hours
-taken :
+pub taken :
     read "0" 3 200000 ∷ read "27.999" 3 200000 ∷ read "13" 3 200000 ∷ read "200.000" 3 200000 ∷ read "0.5" 1 240
     ∷ read "24" 1 240 ∷ []
     ≡ Value 0 ∷ Value 27999 ∷ Value 13000 ∷ Value 200000 ∷ Value 5 ∷ Value 240 ∷ []
 unfolding fractionFrom pointFrom wholeFrom zeroFrom anyNumberOf numberOf
 taken = refl
 
-refused :
+pub refused :
     read "" 3 9 ∷ read "00" 0 9 ∷ read "01" 0 9 ∷ read "1." 1 99 ∷ read ".5" 1 99 ∷ read "-1" 0 9 ∷ read "1.0" 0 9
     ∷ read "0.25" 1 99 ∷ read "24.1" 1 240 ∷ []
     ≡ Unreadable ∷ Unreadable ∷ Unreadable ∷ Unreadable ∷ Unreadable ∷ Unreadable ∷ Unreadable ∷ Unreadable ∷ Unreadable
