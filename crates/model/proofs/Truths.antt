@@ -1,8 +1,9 @@
 -- The truths of the sections (proofs/Truths of `excretion`, `yard`, `pasture`, `housing` and `pig_house`) said of every
--- accepted record, over its figures by name; and that a farm's totals do not depend on the order of its herds. Assumes
--- nothing.
+-- accepted record, over its figures by name; and that a farm's totals keep 2.1's equations and do not depend on the
+-- order of its herds. Assumes nothing.
 use Prim.Native.Nat.{ℕ, _-_, _*_, _/_, _≤_, _<_}
 use mathlib.Core.Path.{_≡_, refl, sym, ap, subst, _∙_}
+use mathlib.Core.List.{map}
 use native.Mathlib.Nat.{le-refl, mul-le-mul-left, div-mul-le-self}
 use native.Mathlib.Omega.{arith}
 use borrow.Author.Needs.{zero≤}
@@ -72,7 +73,9 @@ use Rattle.typed.proofs.Sound.{typed-sound}
 use Rattle.outputs.specs.declared.Figures.{Figures}
 use Rattle.outputs.specs.Sections.{FiguresIn}
 use Rattle.outputs.specs.Grams.{gramsOf, figure}
+use Rattle.outputs.specs.Equations.{Adds}
 use Rattle.outputs.proofs.Adding.{totals-in-any-order}
+use Rattle.outputs.proofs.Equations.{totals-add}
 use Rattle.herd.specs.Herd.{ofRoughage, ofPigs, outdoorFrom, pigsFrom, pigsThrough, pigsOn, figuresIn, figuresOf}
 use Rattle.herd.proofs.Made.{Made, of-roughage, of-outdoor, of-pigs, made}
 use Rattle.model.specs.Answers.{herdFigures, farmAnswer}
@@ -330,6 +333,10 @@ unfolding figuresOf
 house-not-below-zero h = not-below (figuresIn cutting (typedOf h))
 
 -- ---- a farm
+
+pub farm-totals-add : (f : Farm) → checkFarm f ≡ Accepted → Adds (map herdFigures (herdsOf f)) (farmAnswer f .totals)
+unfolding farmAnswer
+farm-totals-add f e = rw e (totals-add (map herdFigures (herdsOf f)))
 
 pub herds-in-any-order : (f g : Farm) → checkFarm f ≡ Accepted → checkFarm g ≡ Accepted
     → Reordered (herdsOf f) (herdsOf g)

@@ -1,8 +1,9 @@
 -- 01, Herds on both sides of an edge: the rows marked (P), as one table under one statement (`edges` of
 -- proofs/Edges.antt). With them the c of row 9, which a program runs: no figure shows it, since nothing goes into the
 -- housing there. Then the rows of the notes (crate `notes`, specs/Rows), 01's example of a cut that is no rounding to
--- nearest, a row for each share and each floor, rows of three pig houses (02, W1), of free factors below zero (02, W3),
--- and of dairy cows (02, W9). To be believed.
+-- nearest, a row for each share and each floor, rows of a roughage herd on pasture and of entered N and TAN, of three
+-- pig houses (02, W1), of free factors below zero (02, W3), of dairy cows (02, W9), and all totals of a farm (2.1). To
+-- be believed.
 use Prim.Native.Nat.{ℕ}
 use Prim.Native.String.{String}
 use mathlib.Core.Path.{_≡_}
@@ -11,7 +12,8 @@ use lib.IntN.{ℤ, pos, negsuc}
 use Rattle.tables.specs.Standards.{_kg, _g}
 use Rattle.tables.specs.Growth.{kOf}
 use Rattle.amounts.specs.Arithmetic.{cutting}
-use Rattle.kinds.specs.declared.Entered.the-variants.{Standard}
+use Rattle.kinds.specs.declared.Entered.{Entered}
+use Rattle.kinds.specs.declared.Entered.the-variants.{Standard, Number}
 use Rattle.kinds.specs.declared.ExerciseYard.{ExerciseYard}
 use Rattle.kinds.specs.declared.ExerciseYard.the-variants.{NotAvailable, NotSupplied, Partly, Exclusively}
 use Rattle.kinds.specs.declared.Floor.{Floor}
@@ -23,7 +25,7 @@ use Rattle.kinds.specs.declared.Inputs.{Inputs}
 use Rattle.housing.specs.Housing.{«c_grazing»}
 use Rattle.notes.specs.Rows as notes
 use Rattle.notes.specs.Rows.{Row, told, _gets_, below, cattle, dairyCows, outdoors, roughage, pigsIn, pigs, category}
-use Rattle.outputs.specs.Grams.{figure}
+use Rattle.outputs.specs.Grams.{figure, total, totalsOf}
 use Rattle.herd.specs.Herd.{figuresOf}
 
 -- what a line is about: grams, notes by name, or a factor in billionths
@@ -43,6 +45,10 @@ Holds e = e .given ≡ e .said
 -- a herd's figure under a name
 abbrev gives : Inputs → String → ℤ → Edge
 gives i t z = record { given = grams (figure t (figuresOf i)); said = grams z }
+
+-- the total of these herds under a name
+abbrev adds : List Inputs → String → ℤ → Edge
+adds l t z = record { given = grams (total t (totalsOf (map figuresOf l))); said = grams z }
 
 -- a herd's notes
 abbrev noted : Row → Edge
@@ -76,6 +82,14 @@ deer free days hours = roughage (category "fallow_deer") Standard Standard free 
 abbrev fallowDeer : Inputs
 fallowDeer = deer (pos 0) 0 0
 
+-- on pasture for 200 days of 12 hours
+abbrev grazingDeer : Inputs
+grazingDeer = deer (pos 0) 200 120
+
+-- 10 red deer, whose standards are 40 kg and 0.4: the N and the TAN as entered
+abbrev redDeer : Entered → Entered → Inputs
+redDeer n tan = roughage (category "red_deer") n tan (pos 0) 0 0
+
 abbrev outdoorPigs : Inputs
 outdoorPigs = pigs (13 kg) 7000 housed.Outdoor
 
@@ -104,6 +118,10 @@ litterTwice = pigsIn (13 kg) 7000 housed.DeepLitter scrubber.None air.None (belo
 -- 02, W9: 10 dairy cows of 112 kg at the TAN of 2.2, 1,120,000 g N and 616,000 g TAN
 abbrev milked : Inputs
 milked = dairyCows 10 (112 kg) Standard (outdoors 365 Exclusively Solid (pos 0) 200 120)
+
+-- a farm with yard, pasture and housing: row 1, the deer on pasture, and the filter's house
+abbrev threeHerds : List Inputs
+threeHerds = C Partly 200 ∷ grazingDeer ∷ filterHouse ∷ []
 
 -- ---- the table
 
@@ -183,6 +201,26 @@ further =
     ∷ gives (onFloor Unpaved Partly 0) "nh3_nyard" (pos 30660)
     ∷ gives (onFloor Perforated Partly 0) "nh3_nyard" (pos 15330)
     ∷ gives (onFloor Paddock Partly 0) "nh3_nyard" (pos 6132)
+    -- 2.84 to 2.88, with pasture: c is 1.234680284, and ef_nh3_nhousing cut(c × 0.275), 0.339537078
+    ∷ gives grazingDeer "n_into_grazing" (pos 54794)
+    ∷ gives grazingDeer "tan_into_grazing" (pos 21917)
+    ∷ gives grazingDeer "nh3_ngrazing" (pos 2739)
+    ∷ gives grazingDeer "n2_ngrazing" (pos 0)
+    ∷ gives grazingDeer "no_ngrazing" (pos 301)
+    ∷ gives grazingDeer "n2o_ngrazing" (pos 547)
+    ∷ gives grazingDeer "n_remain_grazing" (pos 51207)
+    ∷ gives grazingDeer "tan_remain_grazing" (pos 18330)
+    ∷ gives grazingDeer "n_into_housing" (pos 145206)
+    ∷ gives grazingDeer "tan_into_housing" (pos 58083)
+    ∷ gives grazingDeer "nh3_nhousing" (pos 19721)
+    ∷ gives grazingDeer "n_outhousing" (pos 125485)
+    ∷ gives grazingDeer "tan_outhousing" (pos 38362)
+    ∷ c-at 200 120 1234680284
+    -- 2.84: what is entered counts, and not the standard
+    ∷ gives (redDeer (Number (28 kg)) Standard) "n_excretion" (pos 280000)
+    ∷ gives (redDeer (Number (28 kg)) Standard) "tan_excretion" (pos 112000)
+    ∷ gives (redDeer Standard (Number 5000)) "n_excretion" (pos 400000)
+    ∷ gives (redDeer Standard (Number 5000)) "tan_excretion" (pos 200000)
     -- a conventional house with an acid scrubber: 0.243 × 0.1 of the TAN is emitted
     ∷ gives acidHouse "nh3_nhousing" (pos 2211)
     ∷ gives acidHouse "tan_air_scrubber" (pos 0)
@@ -238,6 +276,25 @@ further =
     ∷ gives milked "tan_remain_grazing" (pos 117548)
     ∷ gives milked "n_into_housing" (pos 448001)
     ∷ gives milked "tan_into_housing" (pos 246401)
+    -- 2.1: the totals of three herds, of which each brings its figures above
+    ∷ adds threeHerds "n_excretion" (pos 1060000)
+    ∷ adds threeHerds "tan_excretion" (pos 609000)
+    ∷ adds threeHerds "n_into_housing" (pos 699206)
+    ∷ adds threeHerds "tan_into_housing" (pos 403483)
+    ∷ adds threeHerds "n_into_yard" (pos 146000)
+    ∷ adds threeHerds "tan_into_yard" (pos 87600)
+    ∷ adds threeHerds "n_into_grazing" (pos 214794)
+    ∷ adds threeHerds "tan_into_grazing" (pos 117917)
+    ∷ adds threeHerds "nh3_nhousing" (pos 45221)
+    ∷ adds threeHerds "nh3_nyard" (pos 61320)
+    ∷ adds threeHerds "nh3_ngrazing" (pos 10707)
+    ∷ adds threeHerds "nh3_nhousing_and_yard" (pos 106541)
+    ∷ adds threeHerds "nh3_nlivestock" (pos 117248)
+    ∷ adds threeHerds "n2_ngrazing" (pos 0)
+    ∷ adds threeHerds "no_ngrazing" (pos 1181)
+    ∷ adds threeHerds "n2o_ngrazing" (pos 3747)
+    ∷ adds threeHerds "n_remain_grazing" (pos 199159)
+    ∷ adds threeHerds "tan_remain_grazing" (pos 102282)
     ∷ []
 
 abbrev pub table : List Edge

@@ -45,7 +45,7 @@ total-alone l t h =
     ∙ +ℤ-idl (signedTotal (λ f. figure t f) l)
 
 -- each name of a list is such a total
-totals-alone : (l : List Figures) (ts : List String) → T (all isAlone ts)
+pub totals-alone : (l : List Figures) (ts : List String) → T (all isAlone ts)
     → Each (λ t. total t (totalsOf l) ≡ signedTotal (λ f. figure t f) l) ts
 totals-alone l [] h = none
 totals-alone l (t ∷ ts) h =

@@ -3,3 +3,4 @@ pub mod ByNumber
 pub mod Adding
 pub mod Bounds
 pub mod Alone
+pub mod Equations

@@ -1,3 +1,4 @@
 pub mod Sections
 pub mod Names
 pub mod Grams
+pub mod Equations
