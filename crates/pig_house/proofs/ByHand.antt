@@ -1,6 +1,10 @@
--- Four pig houses worked out by hand from 2.51 to 2.62, with the decimals of the page: into each go 1,069,425 g N with
--- 748,597 g TAN. Amounts are chosen so that another order of the products, or a cut left out, gives another gram.
--- Assumes nothing.
+-- Five pig houses worked out by hand from 2.51 to 2.62, with the decimals of the page. The factors come out exactly, so
+-- the order of the products shows in tan_air_scrubber alone: share_indoor × red_air_scrubber × tan_excretion ×
+-- ef_housing_indoor_before_air_scrubber, each product cut. Every order in which that last factor comes earlier, and one
+-- cut at the end, gives `worked-label` another gram. share_indoor × tan_excretion × red_air_scrubber, and then that
+-- factor, gives `worked-label-lighter` another one. red_air_scrubber × tan_excretion × share_indoor, and then it, gives
+-- no herd another: share_indoor is a half or 1, and half of a cut number, cut, is half of the number, cut. Assumes
+-- nothing.
 use mathlib.Core.Path.{_≡_, refl}
 use Prim.Native.Nat.{ℕ}
 use lib.IntN.{ℤ, pos}
@@ -17,18 +21,12 @@ use Rattle.housing.specs.Housing.{HousingIn}
 use Rattle.pig_house.specs.PigHouse.{PigHouseIn, pigHousing, pigHouse}
 use Rattle.pig_house.specs.NxOx.{NxOxIn, nxOx}
 
--- the grams
-abbrev n : ℕ
-n = 1_069_425
-
-abbrev tan : ℕ
-tan = 748_597
-
-abbrev herd : HousingType → AirScrubber → HousingAir → ℤ → Pigs
-herd t s a free =
+-- 97 pigs by the grams a head, with 70 percent TAN
+abbrev herd : ℕ → HousingType → AirScrubber → HousingAir → ℤ → Pigs
+herd grams t s a free =
     record {
       animals = 97;
-      «inp_n_excretion» = 11_025;
+      «inp_n_excretion» = grams;
       «tan_fraction» = 7000;
       «housing_type» = t;
       «air_scrubber» = s;
@@ -37,9 +35,9 @@ herd t s a free =
       «free_correction_factor» = free;
     }
 
--- a house by its figures: nh3_nhousing, and what leaves it, N and TAN
-abbrev through : ℕ → ℕ → ℕ → HousingIn cutting
-through nh3 nOut tanOut =
+-- a house by its figures: what goes into it, N and TAN, nh3_nhousing, and what leaves it, N and TAN
+abbrev through : ℕ → ℕ → ℕ → ℕ → ℕ → HousingIn cutting
+through n tan nh3 nOut tanOut =
     record {
       «n_into_housing» = n;
       «tan_into_housing» = tan;
@@ -71,16 +69,16 @@ gases n2s nos n2os n2l nol n2ol =
       «n2o_nliquid» = n2ol;
     }
 
--- the three parts of a worked house
+-- the three parts of a worked house, into which all that the herd excretes goes
 pub record Worked (p : Pigs) (house : HousingIn cutting) (q : PigHouseIn cutting) (x : NxOxIn cutting) : Type 0 where
-  pub housing : pigHousing cutting p tan n tan ≡ house
-  pub pig-house : pigHouse cutting p tan n tan ≡ q
-  pub nxox : nxOx cutting (p .«housing_type») n ≡ x
+  pub housing : let tan = house .«tan_into_housing» in pigHousing cutting p tan (house .«n_into_housing») tan ≡ house
+  pub pig-house : let tan = house .«tan_into_housing» in pigHouse cutting p tan (house .«n_into_housing») tan ≡ q
+  pub nxox : nxOx cutting (p .«housing_type») (house .«n_into_housing») ≡ x
 
 -- ef_nh3_nhousing is 0.243 × 0.1, 0.024 3; the acid keeps nothing
 pub worked-conventional :
-    Worked (herd housed.SlurryConventional scrubber.Acid air.None (pos 0))
-    (through 18_190 1_051_235 730_407)
+    Worked (herd 11_025 housed.SlurryConventional scrubber.Acid air.None (pos 0))
+    (through 1_069_425 748_597 18_190 1_051_235 730_407)
     (fractions 0 1_051_235 730_407 0 0)
     (gases 0 0 0 21_388 2_138 2_138)
 worked-conventional = record { housing = refl; pig-house = refl; nxox = refl }
@@ -88,25 +86,34 @@ worked-conventional = record { housing = refl; pig-house = refl; nxox = refl }
 -- before the scrubber 0.486 × 0.93 × 0.8, 0.361 584; ef_nh3_nhousing is 0.5 × 0.3 × that + 0.5 × 0.486 × 0.93,
 -- 0.280 227 6; the filter keeps 0.35 of the TAN, 262,008 g, times 0.361 584
 pub worked-label :
-    Worked (herd housed.SlurryLabel scrubber.Biotrickling air.LowImpulsAirSupply (pos 7))
-    (through 209_777 764_911 444_083)
+    Worked (herd 11_025 housed.SlurryLabel scrubber.Biotrickling air.LowImpulsAirSupply (pos 7))
+    (through 1_069_425 748_597 209_777 764_911 444_083)
     (fractions 94_737 764_911 444_083 0 0)
     (gases 0 0 0 21_388 2_138 2_138)
 worked-label = record { housing = refl; pig-house = refl; nxox = refl }
 
+-- the same house with 11,008 g a head: the filter keeps 0.35 of the TAN, 261,605 g, times 0.361 584; 0.7 of half the
+-- TAN, cut, would be 261,604 g
+pub worked-label-lighter :
+    Worked (herd 11_008 housed.SlurryLabel scrubber.Biotrickling air.LowImpulsAirSupply (pos 7))
+    (through 1_067_776 747_443 209_454 763_730 443_397)
+    (fractions 94_592 763_730 443_397 0 0)
+    (gases 0 0 0 21_355 2_135 2_135)
+worked-label-lighter = record { housing = refl; pig-house = refl; nxox = refl }
+
 -- before the scrubber 0.34 × 0.88, 0.299 2; ef_nh3_nhousing is 0.5 × 0.3 × that + 0.5 × that, 0.194 48; the filter
 -- keeps 262,008 g times 0.299 2
 pub worked-label-open :
-    Worked (herd housed.SlurryLabelOpen scrubber.Biotrickling air.None (pos 12))
-    (through 145_587 845_446 524_618)
+    Worked (herd 11_025 housed.SlurryLabelOpen scrubber.Biotrickling air.None (pos 12))
+    (through 1_069_425 748_597 145_587 845_446 524_618)
     (fractions 78_392 845_446 524_618 0 0)
     (gases 0 0 0 21_388 2_138 2_138)
 worked-label-open = record { housing = refl; pig-house = refl; nxox = refl }
 
 -- ef_nh3_nhousing is 0.486 × 0.65 × 0.8, 0.252 72; all leaves the house as solid manure
 pub worked-deep-litter :
-    Worked (herd housed.DeepLitter scrubber.None air.LowImpulsAirSupply (pos 35))
-    (through 189_185 880_240 559_412)
+    Worked (herd 11_025 housed.DeepLitter scrubber.None air.LowImpulsAirSupply (pos 35))
+    (through 1_069_425 748_597 189_185 880_240 559_412)
     (fractions 0 0 0 880_240 559_412)
     (gases 53_471 10_694 10_694 0 0 0)
 worked-deep-litter = record { housing = refl; pig-house = refl; nxox = refl }
