@@ -1,3 +1,4 @@
 pub mod Modest
 pub mod Truths
 pub mod Growing
+pub mod ByHand

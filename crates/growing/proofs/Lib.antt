@@ -3,3 +3,4 @@ pub mod Alike
 pub mod Herd
 pub mod Farm
 pub mod Examples
+pub mod Rising
