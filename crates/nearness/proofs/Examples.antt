@@ -6,7 +6,7 @@ use mathlib.Core.Path.{_≡_, refl}
 use mathlib.Core.List.{List, [], _∷_, _++_, map}
 use Prim.Native.Nat.{ℕ, zero, suc, _*_, _<_}
 use Prim.Native.String.{String}
-use lib.Dec.{T, eqb, leb, ltb, le→leb, lit<, lit≤}
+use lib.Dec.{T, eqb, leb, le→leb, lit<, lit≤}
 use lib.ListN.{replicate, drop}
 use lib.IntN.{ℤ, pos, negsuc, _-ℤ_, _*ℤ_, natAbs}
 use Rattle.base.specs.Pick.{pick}
@@ -46,10 +46,18 @@ use Rattle.herd.specs.Herd.{figuresIn, figuresOf}
 use Rattle.notes.specs.Rows.{below}
 use Rattle.model.specs.Edges.{C, row4}
 use Rattle.nearness.specs.ByName.{said, saidOf, saidAt}
-use Rattle.nearness.specs.Promised.{promised, widened, widenedTotals, promisedAt, promisedOfTotal}
+use Rattle.nearness.specs.Promised.{
+  promised,
+  widened,
+  widenedTotals,
+  promisedAt,
+  promisedOfTotal,
+  widest,
+  promisedInTotal,
+}
 use Rattle.nearness.specs.Exact.{exact, exactOf, exactAt, exactFigure, exactOfTotal}
 use Rattle.nearness.proofs.Herd.{within-herd, within-figure}
-use Rattle.nearness.proofs.Farm.{within-farm, within-total}
+use Rattle.nearness.proofs.Farm.{within-farm, within-totals, within-total}
 
 -- what is off by more than e is not within e: the test computes
 off : (e : ℕ) (x : ℤ) (q : Frac) → Within e x q → T (leb (natAbs (x *ℤ pos (q .den) -ℤ q .num)) (e * q .den))
@@ -94,10 +102,6 @@ pub house-names-last : drop 17 texts
 house-names-last = refl
 
 -- a total has the widest bound of its addends: forty grams a herd where a figure of a pig house enters it, else ten
-abbrev widest : List ℕ → ℕ
-widest [] = 0
-widest (b ∷ bs) = pick (ltb (widest bs) b) b (widest bs)
-
 pub promised-of-totals : (p : PigHerd)
     → map (λ (t : Total). widest (map (said promised (widened (Pigs p))) (t .addends))) totals
     ≡ saidOf promised widenedTotals totalTexts
@@ -108,6 +112,24 @@ pub roughage-in-totals : (r : RoughageHerd)
     → map (λ (t : Total). widest (map (said promised (widened (Roughage r))) (t .addends))) totals
     ≡ map (λ (grams : ℕ). pick (eqb grams 40) 20 grams) (saidOf promised widenedTotals totalTexts)
 roughage-in-totals r = refl
+
+-- herd by herd, in the order of the totals: wider for nh3_nhousing, nh3_nhousing_and_yard and nh3_nlivestock, and only
+-- of the herds whose housing enters them
+abbrev inTotals : Inputs → List ℕ
+inTotals i = map (λ t. promisedInTotal i (totalNumber t)) totalTexts
+
+pub roughage-by-herd : (r : RoughageHerd)
+    → inTotals (Roughage r) ≡ replicate 8 10 ++ (20 ∷ 10 ∷ 10 ∷ 20 ∷ 20 ∷ replicate 5 10)
+unfolding promisedInTotal promisedAt
+roughage-by-herd r = refl
+
+pub cattle-by-herd : (c : CattleHerd) → inTotals (Cattle c) ≡ replicate 18 10
+unfolding promisedInTotal promisedAt
+cattle-by-herd c = refl
+
+pub pigs-by-herd : (p : PigHerd) → inTotals (Pigs p) ≡ replicate 8 10 ++ (40 ∷ 10 ∷ 10 ∷ 40 ∷ 40 ∷ replicate 5 10)
+unfolding promisedInTotal promisedAt
+pigs-by-herd p = refl
 
 pub totals-widened : map (λ t. promisedOfTotal (totalNumber t)) ("nh3_nhousing" ∷ "nh3_nyard" ∷ []) ≡ 40 ∷ 10 ∷ []
 unfolding promisedOfTotal
@@ -260,6 +282,12 @@ pub largest-housed : Within 200 (total "nh3_nhousing" (totalsOf (map figuresOf l
     (exactOfTotal largest (totalNumber "nh3_nhousing"))
 unfolding promisedOfTotal
 largest-housed = within-total (λ i. i) largest largest-sound "nh3_nhousing"
+
+-- herd by herd it is 20 for the deer, 10 for each herd of cattle and 40 for each of pigs
+pub largest-housed-by-herd : Within 120 (total "nh3_nhousing" (totalsOf (map figuresOf largest)))
+    (exactOfTotal largest (totalNumber "nh3_nhousing"))
+unfolding promisedInTotal promisedAt
+largest-housed-by-herd = within-totals (λ i. i) largest largest-sound (totalNumber "nh3_nhousing")
 
 -- ---- half of the promise would be broken: this herd's housing NH3 is more than 4 grams off, and what leaves its
 -- housing more than 5

@@ -1,6 +1,7 @@
--- Demand 3 for a farm: each total of herds that pass the checks lies within what is promised of it, times the number of
--- herds. A total brings in each herd's own errors. Assumes nothing.
-use Prim.Native.Nat.{ℕ, _+_, _*_, zero-le}
+-- Demand 3 for a farm: each total of herds that pass the checks lies within what is promised of each herd's part in it,
+-- added up; and so within what is promised of the total, times the number of herds. A total brings in each herd's own
+-- errors. Assumes nothing.
+use Prim.Native.Nat.{ℕ, _+_, _*_, _≤_, zero-le}
 use Prim.Native.String.{String}
 use mathlib.Core.Path.{_≡_, refl, sym, ap, _∙_}
 use mathlib.Core.Bool.{Bool, true, false}
@@ -13,8 +14,8 @@ use Rattle.base.specs.Each.{Each, none, more}
 use Rattle.base.proofs.Each.{each-of, each-map}
 use Rattle.cut.specs.Frac.{Frac, _⊕_, Within}
 use Rattle.cut.specs.Total.{addUp, signedTotal, exactTotal}
-use Rattle.cut.proofs.Near.{near-whole, near-weaken}
-use Rattle.cut.proofs.Totals.{addUp-map, TotalNear, near-signed-total, near-total-add, total-within}
+use Rattle.cut.proofs.Near.{near-whole, near-weaken, within-weaken}
+use Rattle.cut.proofs.Totals.{addUp-map, TotalNear, near-signed-total, near-total-add, total-most, total-within}
 use Rattle.kinds.specs.declared.Inputs.{Inputs}
 use Rattle.kinds.specs.Sound.{Sound}
 use Rattle.outputs.specs.declared.Figures.{Figures}
@@ -23,10 +24,10 @@ use Rattle.outputs.specs.Names.{totals, totalNumber, addends}
 use Rattle.outputs.specs.Grams.{at, total, farmTotal, totalsOf}
 use Rattle.outputs.proofs.ByNumber.{by-number-at, by-number-past}
 use Rattle.herd.specs.Herd.{figuresOf}
-use Rattle.nearness.specs.Promised.{promisedOfTotal}
+use Rattle.nearness.specs.Promised.{promisedOfTotal, promisedInTotal, promisedByHerd}
 use Rattle.nearness.specs.Errors.{Errors, errorsAt, totalErrors}
 use Rattle.nearness.specs.Exact.{exactAt, exactOfTotal}
-use Rattle.nearness.proofs.Table.{kept-total}
+use Rattle.nearness.proofs.Table.{kept-in-total, in-total-le}
 use Rattle.nearness.proofs.Herd.{near-herd}
 
 -- as near as each herd's errors together allow
@@ -59,12 +60,20 @@ module _ (l : List Inputs) (s : Each Sound l) where
   unfolding totalErrors farmTotal exactOfTotal
   near-farm t = near-from (record { near = near-weaken zero-le zero-le (near-whole 0) }) (getD addends t [])
 
+pub within-herds : (l : List Inputs) → Each Sound l → (t : ℕ)
+    → Within (promisedByHerd l t) (farmTotal (map figuresOf l) t) (exactOfTotal l t)
+within-herds l s t =
+    total-within (λ i. promisedInTotal i t)
+    (each-of (λ i. kept-in-total i t .kept-below) l) (each-of (λ i. kept-in-total i t .kept-above) l)
+    (near-farm l s t)
+
+-- which is no more than the total has for each of its herds
+by-herd-le : (l : List Inputs) (t : ℕ) → promisedByHerd l t ≤ promisedOfTotal t * length l
+by-herd-le l t = total-most (λ i. promisedInTotal i t) (promisedOfTotal t) (each-of (λ i. in-total-le i t) l)
+
 pub within-farm : (l : List Inputs) → Each Sound l → (t : ℕ)
     → Within (promisedOfTotal t * length l) (farmTotal (map figuresOf l) t) (exactOfTotal l t)
-within-farm l s t =
-    total-within (promisedOfTotal t)
-    (each-of (λ i. kept-total i t .kept-below) l) (each-of (λ i. kept-total i t .kept-above) l)
-    (near-farm l s t)
+within-farm l s t = within-weaken (by-herd-le l t) (within-herds l s t)
 
 -- ---- as the calls have them: the totals of records, each with its inputs
 
@@ -88,13 +97,17 @@ module _ {A : Type 0} (inputs : A → Inputs) where
   all-sound (more s ss) = more s (all-sound ss)
 
   pub within-totals : (l : List A) → Each (λ a. Sound (inputs a)) l → (t : ℕ)
-      → Within (promisedOfTotal t * length l) (at (totalsFrom l .grams) t) (exactOfTotal (map inputs l) t)
+      → Within (promisedByHerd (map inputs l) t) (at (totalsFrom l .grams) t) (exactOfTotal (map inputs l) t)
   within-totals l s t =
-      rw (totals-at (map (λ a. figuresOf (inputs a)) l) t, ← map-map figuresOf inputs l, ← length-map l inputs)
-      (within-farm (map inputs l) (all-sound s) t)
+      rw (totals-at (map (λ a. figuresOf (inputs a)) l) t, ← map-map figuresOf inputs l)
+      (within-herds (map inputs l) (all-sound s) t)
+
+  pub by-herd-most : (l : List A) (t : ℕ) → promisedByHerd (map inputs l) t ≤ promisedOfTotal t * length l
+  by-herd-most l t = rw (← length-map l inputs) (by-herd-le (map inputs l) t)
 
   -- under its name
   pub within-total : (l : List A) → Each (λ a. Sound (inputs a)) l → (t : String)
       → Within (promisedOfTotal (totalNumber t) * length l) (total t (totalsFrom l))
       (exactOfTotal (map inputs l) (totalNumber t))
-  within-total l s t = within-totals l s (totalNumber t)
+  within-total l s t =
+      within-weaken (by-herd-most l (totalNumber t)) (within-totals l s (totalNumber t))

@@ -1,6 +1,7 @@
 -- The tables of errors and of bounds, by tests that compute: the errors of each figure, and of what a herd brings into
--- each total, keep what is promised of it; and every entry is of a name. No kind of herd has both a yard and a housing
--- whose NH3 is counted, so NH3 from three sources keeps it too. Assumes nothing.
+-- each total, keep what is promised of it; no herd is promised more than the total for each of its herds; and every
+-- entry is of a name. No kind of herd has both a yard and a housing whose NH3 is counted, so NH3 from three sources keeps
+-- it too. Assumes nothing.
 use Prim.Native.Nat.{ℕ, zero, suc, _*_, _≤_}
 use Prim.Native.String.{String}
 use mathlib.Core.Bool.{Bool, true, false, _&&_}
@@ -9,12 +10,22 @@ use lib.Dec.{T, leb, leb→le}
 use lib.ListN.{getD}
 use lib.Text.{eqt}
 use Rattle.base.specs.Pick.{pick}
+use Rattle.base.specs.Runs.{all}
 use Rattle.base.proofs.Table.{both-left, both-right}
+use Rattle.base.proofs.Runs.{all-getD}
 use Rattle.kinds.specs.declared.Inputs.{Inputs}
 use Rattle.kinds.specs.declared.Inputs.the-variants as kinds
 use Rattle.outputs.specs.Names.{texts, totalTexts, addends}
 use Rattle.nearness.specs.ByName.{Entry, saidOf}
-use Rattle.nearness.specs.Promised.{promised, widened, widenedTotals, promisedAt, promisedOfTotal}
+use Rattle.nearness.specs.Promised.{
+  promised,
+  widened,
+  widenedTotals,
+  promisedAt,
+  promisedOfTotal,
+  promisedTogether,
+  promisedInTotal,
+}
 use Rattle.nearness.specs.Errors.{millionths, Errors, exactly, errorsOf, errorsAt, together, totalErrors}
 
 -- ---- errors keep bounds
@@ -33,22 +44,22 @@ is-kept grams e t =
     let above = leb (e .above) (grams * millionths) in
     record { kept-below = leb→le _ _ (both-left below above t); kept-above = leb→le _ _ (both-right below above t) }
 
--- the errors of each of a list keep the bound that stands in its place
-module _ {X : Type 0} (errors : X → Errors) where
-  abbrev keep : List ℕ → List X → Bool
-  keep [] [] = true
-  keep [] (x ∷ xs) = false
-  keep (b ∷ bs) [] = false
-  keep (b ∷ bs) (x ∷ xs) = keeps b (errors x) && keep bs xs
+-- each of a list fits the bound that stands in its place
+module _ {X : Type 0} (fits : ℕ → X → Bool) where
+  abbrev fit : List ℕ → List X → Bool
+  fit [] [] = true
+  fit [] (x ∷ xs) = false
+  fit (b ∷ bs) [] = false
+  fit (b ∷ bs) (x ∷ xs) = fits b x && fit bs xs
 
   -- and past the last, what is promised of the others
-  kept-at : (bs : List ℕ) (xs : List X) → T (keep bs xs) → (d : X) → T (keeps promised (errors d)) → (n : ℕ)
-      → Kept (getD bs n promised) (errors (getD xs n d))
-  kept-at [] [] t d k n = is-kept promised (errors d) k
-  kept-at [] (x ∷ xs) t d k n = absurd t
-  kept-at (b ∷ bs) [] t d k n = absurd t
-  kept-at (b ∷ bs) (x ∷ xs) t d k zero = is-kept b (errors x) (both-left (keeps b (errors x)) (keep bs xs) t)
-  kept-at (b ∷ bs) (x ∷ xs) t d k (suc n) = kept-at bs xs (both-right (keeps b (errors x)) (keep bs xs) t) d k n
+  fit-at : (bs : List ℕ) (xs : List X) → T (fit bs xs) → (d : X) → T (fits promised d) → (n : ℕ)
+      → T (fits (getD bs n promised) (getD xs n d))
+  fit-at [] [] t d k n = k
+  fit-at [] (x ∷ xs) t d k n = absurd t
+  fit-at (b ∷ bs) [] t d k n = absurd t
+  fit-at (b ∷ bs) (x ∷ xs) t d k zero = both-left (fits b x) (fit bs xs) t
+  fit-at (b ∷ bs) (x ∷ xs) t d k (suc n) = fit-at bs xs (both-right (fits b x) (fit bs xs) t) d k n
 
 abbrev bounds : Inputs → List ℕ
 bounds i = saidOf promised (widened i) texts
@@ -59,26 +70,46 @@ errors i = saidOf exactly (errorsOf i) texts
 abbrev totalBounds : List ℕ
 totalBounds = saidOf promised widenedTotals totalTexts
 
-figures-keep : (i : Inputs) → T (keep (λ e. e) (bounds i) (errors i))
+figures-keep : (i : Inputs) → T (fit keeps (bounds i) (errors i))
 figures-keep (kinds.Roughage r) = tt
 figures-keep (kinds.Cattle c) = tt
 figures-keep (kinds.Pigs p) = tt
 
-totals-keep : (i : Inputs) → T (keep (together i) totalBounds addends)
-unfolding errorsAt
+-- a figure's errors keep what is promised of it
+pub promise-kept : (i : Inputs) (n : ℕ) → Kept (promisedAt i n) (errorsAt i n)
+unfolding promisedAt errorsAt
+promise-kept i n = is-kept _ _ (fit-at keeps (bounds i) (errors i) (figures-keep i) exactly tt n)
+
+-- ---- totals
+
+-- the errors of these figures of a herd together keep the widest of their bounds
+abbrev keepTogether : Inputs → List ℕ → Bool
+keepTogether i ns = keeps (promisedTogether i ns) (together i ns)
+
+totals-keep : (i : Inputs) → T (all (keepTogether i) addends)
+unfolding promisedAt errorsAt
 totals-keep (kinds.Roughage r) = tt
 totals-keep (kinds.Cattle c) = tt
 totals-keep (kinds.Pigs p) = tt
 
--- a figure's errors keep what is promised of it
-pub promise-kept : (i : Inputs) (n : ℕ) → Kept (promisedAt i n) (errorsAt i n)
-unfolding promisedAt errorsAt
-promise-kept i n = kept-at (λ e. e) (bounds i) (errors i) (figures-keep i) exactly tt n
-
 -- what a herd brings into a total keeps what is promised of that
-pub kept-total : (i : Inputs) (t : ℕ) → Kept (promisedOfTotal t) (totalErrors i t)
-unfolding promisedOfTotal totalErrors
-kept-total i t = kept-at (together i) totalBounds addends (totals-keep i) [] tt t
+pub kept-in-total : (i : Inputs) (t : ℕ) → Kept (promisedInTotal i t) (totalErrors i t)
+unfolding promisedInTotal totalErrors
+kept-in-total i t = is-kept _ _ (all-getD (keepTogether i) addends (totals-keep i) [] tt t)
+
+-- and no kind of herd is promised more than the total for each of its herds
+abbrev isMost : Inputs → ℕ → List ℕ → Bool
+isMost i grams ns = leb (promisedTogether i ns) grams
+
+totals-most : (i : Inputs) → T (fit (isMost i) totalBounds addends)
+unfolding promisedAt
+totals-most (kinds.Roughage r) = tt
+totals-most (kinds.Cattle c) = tt
+totals-most (kinds.Pigs p) = tt
+
+pub in-total-le : (i : Inputs) (t : ℕ) → promisedInTotal i t ≤ promisedOfTotal t
+unfolding promisedInTotal promisedOfTotal
+in-total-le i t = leb→le _ _ (fit-at (isMost i) totalBounds addends (totals-most i) [] tt t)
 
 -- ---- every entry is of a name
 

@@ -1,11 +1,15 @@
--- Demand 3 in numbers: within how many grams of its exact value each figure of a herd lies, and each total for each of
--- its herds.
+-- Demand 3 in numbers: within how many grams of its exact value each figure of a herd lies, and each total, herd by herd
+-- and for each of its herds.
 use Prim.Native.Nat.{ℕ}
 use Prim.Native.String.{String}
-use mathlib.Core.List.{List, [], _∷_}
+use mathlib.Core.List.{List, [], _∷_, map}
+use lib.Dec.{ltb}
+use lib.ListN.{getD}
+use Rattle.base.specs.Pick.{pick}
+use Rattle.cut.specs.Total.{total}
 use Rattle.kinds.specs.declared.Inputs.{Inputs}
 use Rattle.kinds.specs.declared.Inputs.the-variants as kinds
-use Rattle.outputs.specs.Names.{texts, totalTexts}
+use Rattle.outputs.specs.Names.{texts, totalTexts, addends}
 use Rattle.nearness.specs.ByName.{Entry, saidAt}
 
 -- of every figure and total that no table below names
@@ -55,3 +59,21 @@ promisedAt i n = saidAt promised (widened i) texts n
 
 unfoldable pub promisedOfTotal : ℕ → ℕ
 promisedOfTotal t = saidAt promised widenedTotals totalTexts t
+
+-- ---- herd by herd: a herd has 40 or 20 grams in a total only where such a figure of its own enters it, and else 10
+
+abbrev pub widest : List ℕ → ℕ
+widest [] = 0
+widest (b ∷ bs) = pick (ltb (widest bs) b) b (widest bs)
+
+-- of these figures of a herd together: the widest of their bounds
+abbrev pub promisedTogether : Inputs → List ℕ → ℕ
+promisedTogether i ns = widest (map (promisedAt i) ns)
+
+-- of what a herd brings into a total
+unfoldable pub promisedInTotal : Inputs → ℕ → ℕ
+promisedInTotal i t = promisedTogether i (getD addends t [])
+
+-- and so of a total of these herds
+abbrev pub promisedByHerd : List Inputs → ℕ → ℕ
+promisedByHerd l t = total (λ i. promisedInTotal i t) l

@@ -1,7 +1,7 @@
 -- Demand 3: for every record that a call accepts, each figure that it gives lies within what is promised of its exact
--- value, and each total within what is promised of it for each herd; below zero too. And so for every herd and the
--- totals of a file that is read. What is promised is a table (crate `nearness`, specs/Promised): 10 grams, but for the
--- names with a row of their own. Assumes nothing.
+-- value, and each total within what is promised of its herds, herd by herd, and so within what is promised of it for
+-- each herd; below zero too. And so for every herd and the totals of a file that is read. What is promised is a table
+-- (crate `nearness`, specs/Promised): 10 grams, but for the names with a row of their own. Assumes nothing.
 use Prim.Native.Nat.{ℕ, _*_}
 use mathlib.Core.Path.{_≡_, sym, _∙_}
 use mathlib.Core.List.{List, map}
@@ -9,6 +9,7 @@ use lib.ListN.{length}
 use Rattle.base.specs.Each.{Each}
 use Rattle.base.proofs.Each.{each-map}
 use Rattle.cut.specs.Frac.{Within}
+use Rattle.cut.proofs.Near.{within-weaken}
 use Rattle.farm.specs.declared.Herd.{Herd}
 use Rattle.farm.specs.declared.Farm.{Farm}
 use Rattle.farm.specs.declared.Checked.the-variants.{Accepted}
@@ -21,10 +22,10 @@ use Rattle.typed.specs.Typed.{typedOf}
 use Rattle.typed.proofs.Sound.{typed-sound}
 use Rattle.outputs.specs.Grams.{at}
 use Rattle.model.specs.Answers.{herdAnswer, farmAnswer}
-use Rattle.nearness.specs.Promised.{promisedAt, promisedOfTotal}
+use Rattle.nearness.specs.Promised.{promisedAt, promisedOfTotal, promisedByHerd}
 use Rattle.nearness.specs.Exact.{exactAt, exactOfTotal}
 use Rattle.nearness.proofs.Herd.{within-herd}
-use Rattle.nearness.proofs.Farm.{within-totals}
+use Rattle.nearness.proofs.Farm.{within-totals, by-herd-most}
 use Rattle.contracts.proofs.RecordSteps.{herd-checked, herd-figured, farm-checked}
 
 -- ---- a herd's record: every figure, by its number
@@ -44,16 +45,25 @@ demand-3-herd h e n =
 abbrev pub typedHerds : Farm → List Inputs
 typedHerds f = map typedOf (herdsOf f)
 
+-- herd by herd: 40 grams for a herd of pigs and 20 for one of roughage where its housing enters the total, else 10
+abbrev pub TotalsWithinByHerd : Farm → Type 0
+TotalsWithinByHerd f = (t : ℕ)
+    → Within (promisedByHerd (typedHerds f) t) (at (farmAnswer f .totals .grams) t) (exactOfTotal (typedHerds f) t)
+
+pub demand-3-by-herd : (f : Farm) → farmAnswer f .checked ≡ Accepted → TotalsWithinByHerd f
+unfolding farmAnswer
+demand-3-by-herd f e t =
+    let p : checkFarm f ≡ Accepted = sym (farm-checked f) ∙ e in
+    rw p (within-totals typedOf (herdsOf f) (each-map typed-sound (farm-each f p)) t)
+
+-- and so for each herd as much as for the widest
 abbrev pub TotalsWithin : Farm → Type 0
 TotalsWithin f = (t : ℕ)
     → Within (promisedOfTotal t * length (herdsOf f)) (at (farmAnswer f .totals .grams) t)
     (exactOfTotal (typedHerds f) t)
 
 pub demand-3-farm : (f : Farm) → farmAnswer f .checked ≡ Accepted → TotalsWithin f
-unfolding farmAnswer
-demand-3-farm f e t =
-    let p : checkFarm f ≡ Accepted = sym (farm-checked f) ∙ e in
-    rw p (within-totals typedOf (herdsOf f) (each-map typed-sound (farm-each f p)) t)
+demand-3-farm f e t = within-weaken (by-herd-most typedOf (herdsOf f) t) (demand-3-by-herd f e t)
 
 -- ---- a file: the farm that is read passes the record checks, so both hold of it
 
@@ -62,3 +72,6 @@ demand-3-file-herds s f e = each-map (λ h p. demand-3-herd h (herd-checked h �
 
 pub demand-3-file-totals : (s : List ℕ) (f : Farm) → readOf s ≡ accepted f → TotalsWithin f
 demand-3-file-totals s f e = demand-3-farm f (farm-checked f ∙ accepted-passes s f e)
+
+pub demand-3-file-by-herd : (s : List ℕ) (f : Farm) → readOf s ≡ accepted f → TotalsWithinByHerd f
+demand-3-file-by-herd s f e = demand-3-by-herd f (farm-checked f ∙ accepted-passes s f e)
