@@ -1,7 +1,8 @@
 -- The formulas of the model are written once, over an arithmetic that says what an amount is and what dividing one
--- does. Three are used: `cutting`, on whole grams with every division rounded down, which the code computes; `exact` of
+-- does. Four are used: `cutting`, on whole grams with every division rounded down, which the code computes; `exact` of
 -- crate `nearness`, on fractions with nothing cut off, which says what the exact value of a figure is (01, Steps and
--- cuts; demand 3); and `dividing`, beside this page, which tells what was divided by what (02, W7).
+-- cuts; demand 3); and two beside this page that tell of divisions (02, W7): `dividing`, by which one an amount was
+-- made, and `collecting`, all that were made on the way to it.
 use Prim.Native.Nat.{ℕ, _+_, _-_, _*_}
 use lib.IntN.{ℤ, pos, _-ℤ_}
 use Rattle.cut.specs.Cut.{_cutBy_, least}
