@@ -1,9 +1,9 @@
 -- 01, Herds on both sides of an edge: the rows marked (P), as one table under one statement (`edges` of
 -- proofs/Edges.antt). With them the c of row 9, which a program runs: no figure shows it, since nothing goes into the
 -- housing there. Then the rows of the notes (crate `notes`, specs/Rows), 01's example of a cut that is no rounding to
--- nearest, a row for each share and each floor, rows of a roughage herd on pasture and of entered N and TAN, of three
--- pig houses (02, W1), of free factors below zero (02, W3), of dairy cows (02, W9), and all totals of a farm (2.1). To
--- be believed.
+-- nearest, a row for each share and each floor, rows of days with both that are not all, of roughage herds on pasture
+-- and of entered N and TAN, of three pig houses (02, W1), of free factors below zero (02, W3), of dairy cows (02, W9),
+-- and all totals of a farm (2.1). To be believed.
 use Prim.Native.Nat.{ℕ}
 use Prim.Native.String.{String}
 use mathlib.Core.Path.{_≡_}
@@ -22,6 +22,7 @@ use Rattle.kinds.specs.declared.HousingType.the-variants as housed
 use Rattle.kinds.specs.declared.AirScrubber.the-variants as scrubber
 use Rattle.kinds.specs.declared.HousingAir.the-variants as air
 use Rattle.kinds.specs.declared.Inputs.{Inputs}
+use Rattle.kinds.specs.declared.Inputs.the-variants as kinds
 use Rattle.housing.specs.Housing.{«c_grazing»}
 use Rattle.notes.specs.Rows as notes
 use Rattle.notes.specs.Rows.{Row, told, _gets_, below, cattle, dairyCows, outdoors, roughage, pigsIn, pigs, category}
@@ -100,6 +101,23 @@ fiveGrams = cattle 1 (5 g) 0 (outdoors 365 NotSupplied Solid (pos 0) 365 240)
 -- 5 grams of N, 4 of them TAN, on yard and pasture a fifth of the year each
 abbrev fourOfFive : Inputs
 fourOfFive = cattle 1 (5 g) 8000 (outdoors 365 Partly Solid (pos 0) 365 60)
+
+-- yard and pasture for a part of the year each, and 135 days with both
+abbrev overlapping : Inputs
+overlapping = cattle 10 (73100 g) 6000 (outdoors 300 Exclusively Solid (pos 0) 200 75)
+
+-- so much TAN that a billionth of the factor shows: 10,000 red deer of 200 kg, all of it TAN, free factor −25
+abbrev manyDeer : Inputs
+manyDeer =
+    kinds.Roughage (record {
+      animalcategory = category "red_deer";
+      animals = 10000;
+      «inp_n_excretion» = Number (200 kg);
+      «tan_fraction» = Number 10000;
+      «free_correction_factor» = below 25;
+      «grazing_days» = 100;
+      «grazing_hours» = 80;
+    })
 
 -- 02, W1: three pig houses with 130,000 g N and 91,000 g TAN
 abbrev acidHouse : Inputs
@@ -196,6 +214,13 @@ further =
     ∷ gives (C NotSupplied 0) "n_into_yard" (pos 73000)
     ∷ gives (C Partly 0) "n_into_yard" (pos 146000)
     ∷ gives (C Exclusively 0) "n_into_yard" (pos 438000)
+    -- one cut for the days with both and the others together: 1260 of 3650 on the yard, 1730 × 7.5 of 87600 on pasture
+    ∷ gives overlapping "n_into_yard" (pos 252345)
+    ∷ gives overlapping "tan_into_yard" (pos 151407)
+    ∷ gives overlapping "n_into_grazing" (pos 108273)
+    ∷ gives overlapping "tan_into_grazing" (pos 64963)
+    ∷ gives overlapping "n_into_housing" (pos 370382)
+    ∷ gives overlapping "tan_into_housing" (pos 222230)
     -- its floors: 1 less 0, 0.5, 0.75, 0.9
     ∷ gives (onFloor Solid Partly 0) "nh3_nyard" (pos 61320)
     ∷ gives (onFloor Unpaved Partly 0) "nh3_nyard" (pos 30660)
@@ -216,6 +241,10 @@ further =
     ∷ gives grazingDeer "n_outhousing" (pos 125485)
     ∷ gives grazingDeer "tan_outhousing" (pos 38362)
     ∷ c-at 200 120 1234680284
+    -- the factor is cut(c × 0.275), and then cut(× 1.25): 0.370036463, and a billionth more in the other order or with
+    -- one cut
+    ∷ gives manyDeer "tan_into_housing" (pos 1817351599)
+    ∷ gives manyDeer "nh3_nhousing" (pos 672486357)
     -- 2.84: what is entered counts, and not the standard
     ∷ gives (redDeer (Number (28 kg)) Standard) "n_excretion" (pos 280000)
     ∷ gives (redDeer (Number (28 kg)) Standard) "tan_excretion" (pos 112000)
@@ -251,6 +280,8 @@ further =
     ∷ gives (freed (below 42) Solid Partly 0) "nh3_nyard" (pos 87074)
     ∷ gives (freed (below 43) Solid Partly 0) "nh3_nyard" (pos 87600)
     ∷ gives (freed (below 43) Solid Partly 0) "tan_outyard_liquid" (pos 0)
+    -- which is one of the whole factor: 0.7 × 0.5 × 2 is below 1
+    ∷ gives (freed (below 100) Unpaved Partly 0) "nh3_nyard" (pos 61320)
     -- the ceiling of the housing: 1.44 would be emitted
     ∷ gives (deer (below 100) 365 239) "tan_into_housing" (pos 334)
     ∷ gives (deer (below 100) 365 239) "nh3_nhousing" (pos 334)

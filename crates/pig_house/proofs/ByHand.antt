@@ -1,4 +1,4 @@
--- Five pig houses worked out by hand from 2.51 to 2.62, with the decimals of the page. The factors come out exactly, so
+-- Six pig houses worked out by hand from 2.51 to 2.62, with the decimals of the page. The factors come out exactly, so
 -- the order of the products shows in tan_air_scrubber alone: share_indoor × red_air_scrubber × tan_excretion ×
 -- ef_housing_indoor_before_air_scrubber, each product cut. Every order in which that last factor comes earlier, and one
 -- cut at the end, gives `worked-label` another gram. share_indoor × tan_excretion × red_air_scrubber, and then that
@@ -7,7 +7,7 @@
 -- nothing.
 use mathlib.Core.Path.{_≡_, refl}
 use Prim.Native.Nat.{ℕ}
-use lib.IntN.{ℤ, pos}
+use lib.IntN.{ℤ, pos, negsuc}
 use Rattle.amounts.specs.Arithmetic.{cutting}
 use Rattle.kinds.specs.declared.HousingType.{HousingType}
 use Rattle.kinds.specs.declared.HousingType.the-variants as housed
@@ -82,6 +82,15 @@ pub worked-conventional :
     (fractions 0 1_051_235 730_407 0 0)
     (gases 0 0 0 21_388 2_138 2_138)
 worked-conventional = record { housing = refl; pig-house = refl; nxox = refl }
+
+-- before the scrubber 0.243 × 1.25, 0.303 75; ef_nh3_nhousing is 0.3 × that, 0.091 125; all is indoors, so the filter
+-- keeps 0.7 of the TAN, 524,017 g, times 0.303 75
+pub worked-conventional-filter :
+    Worked (herd 11_025 housed.SlurryConventional scrubber.Biotrickling air.None (negsuc 24))
+    (through 1_069_425 748_597 68_215 842_040 521_212)
+    (fractions 159_170 842_040 521_212 0 0)
+    (gases 0 0 0 21_388 2_138 2_138)
+worked-conventional-filter = record { housing = refl; pig-house = refl; nxox = refl }
 
 -- before the scrubber 0.486 × 0.93 × 0.8, 0.361 584; ef_nh3_nhousing is 0.5 × 0.3 × that + 0.5 × 0.486 × 0.93,
 -- 0.280 227 6; the filter keeps 0.35 of the TAN, 262,008 g, times 0.361 584
