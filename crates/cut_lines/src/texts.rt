@@ -1,5 +1,6 @@
 // What stands in a line of cuts between its owner and its numbers, by the number of the name, one after the other, and
-// where each starts. A constant table is built anew at each use: a call builds it once and lends it.
+// where each starts. A constant table is built anew at each use: a call builds it once and lends it. Made by
+// docs/tables from the rows of cuts/specs/Names.antt.
 use cuts::names;
 
 pub const MIDDLES: [u8; 868] = *b"\
@@ -30,9 +31,10 @@ pub const MIDDLES: [u8; 868] = *b"\
 ::NxOx,n2o_nsolid,\
 ::NxOx,n2_nliquid,\
 ::NxOx,no_nliquid,\
-::NxOx,n2o_nliquid,";
+::NxOx,n2o_nliquid,\
+";
 
-pub const STARTS: [usize; names::COUNT + 1] = [
+pub const STARTS: [usize; 29] = [
     0,
     26,
     45,
@@ -65,7 +67,7 @@ pub const STARTS: [usize; names::COUNT + 1] = [
 ];
 
 // The names, in the order in which they are listed.
-pub const LINES: [usize; names::COUNT] = [
+pub const LINES: [usize; 28] = [
     names::TAN_EXCRETION,
     names::N_INTO_YARD,
     names::TAN_INTO_YARD,

@@ -1,4 +1,6 @@
-// The names of a herd's cuts by number (specs/Names.antt, rows): `cuts.cut_off[names::TAN_EXCRETION]`.
+// The names of a herd's cuts by number: `cuts.cut_off[names::TAN_EXCRETION]`. Made by docs/tables from the rows of
+// specs/Names.antt.
+
 pub const TAN_EXCRETION: usize = 0;
 
 pub const N_INTO_YARD: usize = 1;

@@ -1,14 +1,12 @@
-// The line list of 01, The listing, once: the texts of a line and the lines of each listing, by number. Texts and lists
-// stand one after the other in a table, with where each starts. A constant table is built anew at each use: a call
-// builds it once and lends it.
+// The lines of 01, The listing: the texts of a line and the lines of each listing, by number. Texts and lists stand one
+// after the other in a table, with where each starts. A constant table is built anew at each use: a call builds it once
+// and lends it. Made by docs/tables from specs/HerdLines.antt, specs/Numbered.antt (listed) and
+// outputs/specs/Names.antt.
 use outputs::names;
 use outputs::total_names;
 
-// The lists of lines: roughage, the kinds with a yard, pigs.
-const LISTS: usize = 3;
-
 pub const LINES: [usize; 55] = [
-    // roughage
+    // Roughage
     names::N_EXCRETION,
     names::TAN_EXCRETION,
     names::N_INTO_GRAZING,
@@ -24,7 +22,7 @@ pub const LINES: [usize; 55] = [
     names::NH3_NHOUSING,
     names::N_OUTHOUSING,
     names::TAN_OUTHOUSING,
-    // cattle and dairy cows
+    // Cattle and DairyCow
     names::N_EXCRETION,
     names::TAN_EXCRETION,
     names::N_INTO_YARD,
@@ -42,7 +40,7 @@ pub const LINES: [usize; 55] = [
     names::TAN_REMAIN_GRAZING,
     names::N_INTO_HOUSING,
     names::TAN_INTO_HOUSING,
-    // pigs
+    // Pigs
     names::N_EXCRETION,
     names::TAN_EXCRETION,
     names::N_INTO_GRAZING,
@@ -68,7 +66,7 @@ pub const LINES: [usize; 55] = [
     names::N2O_NLIQUID,
 ];
 
-pub const LINE_STARTS: [usize; LISTS + 1] = [0, 15, 32, 55];
+pub const LINE_STARTS: [usize; 4] = [0, 15, 32, 55];
 
 // What stands in a herd's line between its owner and its amount, by the number of the name.
 pub const MIDDLES: [u8; 734] = *b"\
@@ -102,9 +100,10 @@ pub const MIDDLES: [u8; 734] = *b"\
 ::NxOx,n2o_nsolid,\
 ::NxOx,n2_nliquid,\
 ::NxOx,no_nliquid,\
-::NxOx,n2o_nliquid,";
+::NxOx,n2o_nliquid,\
+";
 
-pub const STARTS: [usize; names::COUNT + 1] = [
+pub const STARTS: [usize; 32] = [
     0,
     24,
     50,
@@ -143,7 +142,7 @@ pub const STARTS: [usize; names::COUNT + 1] = [
 pub const TOTAL_OWNER: [u8; 10] = *b",Livestock";
 
 // The totals' lines.
-pub const TOTAL_LINES: [usize; total_names::COUNT] = [
+pub const TOTAL_LINES: [usize; 18] = [
     total_names::N_EXCRETION,
     total_names::TAN_EXCRETION,
     total_names::N_INTO_HOUSING,
@@ -183,9 +182,10 @@ pub const TOTAL_MIDDLES: [u8; 280] = *b"\
 ,no_ngrazing,\
 ,n2o_ngrazing,\
 ,n_remain_grazing,\
-,tan_remain_grazing,";
+,tan_remain_grazing,\
+";
 
-pub const TOTAL_STARTS: [usize; total_names::COUNT + 1] = [
+pub const TOTAL_STARTS: [usize; 19] = [
     0,
     13,
     28,

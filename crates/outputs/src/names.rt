@@ -1,4 +1,6 @@
-// The names of a herd's figures by number (specs/Names.antt, rows): `figures.grams[names::N_EXCRETION]`.
+// The names of a herd's figures by number: `figures.grams[names::N_EXCRETION]`. Made by docs/tables from the rows of
+// specs/Names.antt.
+
 pub const N_EXCRETION: usize = 0;
 
 pub const TAN_EXCRETION: usize = 1;

@@ -1,4 +1,6 @@
-// The names of a farm's totals by number (specs/Names.antt, totals): `totals.grams[total_names::NH3_NLIVESTOCK]`.
+// The names of a farm's totals by number: `totals.grams[total_names::NH3_NLIVESTOCK]`. Made by docs/tables from the
+// totals of specs/Names.antt.
+
 pub const N_EXCRETION: usize = 0;
 
 pub const TAN_EXCRETION: usize = 1;

@@ -1,4 +1,6 @@
 // Figures added up number by number, and the totals of 2.1 from the sums, each the sum of its addends.
+mod total_addends; // the addends of each total, by number
+
 use outputs::Figures;
 use outputs::Totals;
 use outputs::names;
@@ -32,62 +34,15 @@ pub fn no_figures() -> Figures
     }
 }
 
-// The addends of each total by the numbers of their names, one total after the other, and where each total's start.
-const ADDENDS: [usize; 21] = [
-    names::N_EXCRETION,
-    names::TAN_EXCRETION,
-    names::N_INTO_HOUSING,
-    names::TAN_INTO_HOUSING,
-    names::N_INTO_YARD,
-    names::TAN_INTO_YARD,
-    names::N_INTO_GRAZING,
-    names::TAN_INTO_GRAZING,
-    names::NH3_NHOUSING,
-    names::NH3_NYARD,
-    names::NH3_NGRAZING,
-    names::NH3_NHOUSING,
-    names::NH3_NYARD,
-    names::NH3_NHOUSING,
-    names::NH3_NYARD,
-    names::NH3_NGRAZING,
-    names::N2_NGRAZING,
-    names::NO_NGRAZING,
-    names::N2O_NGRAZING,
-    names::N_REMAIN_GRAZING,
-    names::TAN_REMAIN_GRAZING,
-];
-
-const STARTS: [usize; total_names::COUNT + 1] = [
-    0,
-    1,
-    2,
-    3,
-    4,
-    5,
-    6,
-    7,
-    8,
-    9,
-    10,
-    11,
-    13,
-    16,
-    17,
-    18,
-    19,
-    20,
-    21,
-];
-
 fn total(f: Figures, t: usize) -> i64
     requires { ⌜ To figureMost (f .grams) × (t < length totals) ⌝ }
     ensures { λ r. ⌜ r ≡ totalAt (f .grams) t ⌝ }
 {
-    let end = STARTS[t + 1];
-    let mut k = STARTS[t];
+    let end = total_addends::STARTS[t + 1];
+    let mut k = total_addends::STARTS[t];
     let mut sum = 0;
     while k < end {
-        let n = ADDENDS[k];
+        let n = total_addends::ADDENDS[k];
         let g = f.grams[n];
         sum = cut::plus(sum, g);
         k += 1;

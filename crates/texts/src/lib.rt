@@ -1,5 +1,4 @@
-// The texts that the program prints beside its answers. Made by docs/tables; docs/refusals.txt and docs/help.txt
-// have what they say.
+// The texts that the program prints beside its answers. Made by docs/tables from docs/refusals.txt and docs/help.txt.
 
 // A refusal in words, by its number; there is none of the number 0.
 pub const WORDS: [u8; 780] = *b"\

@@ -1,0 +1,292 @@
+"""The sources that docs/tables makes: what the code needs beside the rows of a list, and so is not written by hand.
+
+From the lists of definitions come number constants, texts and where each starts; from docs/refusals.txt and
+docs/help.txt the texts of the program. A list is read where it stands in its crate's specs/, and what is no row of it
+is a fault, so that no row is passed over. The proofs hold what is made to the definitions, as if it were written by
+hand.
+"""
+
+import re
+import textwrap
+from collections import namedtuple
+from pathlib import Path
+
+ROOT = Path(__file__).resolve().parent.parent
+CRATES = ROOT / "crates"
+
+faults = []
+
+
+def made():
+    """The text of each source that is made, by its path."""
+    sources = {
+        "outputs/src/names.rt": output_numbers,
+        "outputs/src/total_names.rt": total_numbers,
+        "sums/src/total_addends.rt": addends,
+        "listing/src/texts.rt": listing_texts,
+        "cuts/src/names.rt": cut_numbers,
+        "cut_lines/src/texts.rt": cut_texts,
+        "texts/src/lib.rt": program_texts,
+    }
+    return {CRATES / path: source() for path, source in sources.items()}
+
+
+# ---- lists of definitions
+
+DEFINITION = re.compile(r"^(\S.*?) =((?: .*)?\n(?: +.*\n)*)", re.M)
+
+
+def definitions(page):
+    """What stands behind each `name =` of a page, or `name argument =`, on one line."""
+    return {head: " ".join(body.split()) for head, body in DEFINITION.findall((CRATES / page).read_text())}
+
+
+def rows(page, name, row):
+    """The rows of a list: of each what the pattern's groups are."""
+    body = definitions(page).get(name)
+    if body is None:
+        faults.append(f"crates/{page}: it has no list `{name}`")
+        return []
+    left = re.sub(row, "", body)
+    if re.sub(r"∷|\+\+|\[\]|[() ]", "", left):
+        faults.append(f"crates/{page}: not a row of `{name}`: {left}")
+    return re.findall(row, body)
+
+
+def texts(page, name):
+    """A list of texts: those that stand in it, and those of the lists that it names."""
+    found = rows(page, name, r'"([^"]*)"|(\w+)')
+    return [text for its_own, named in found for text in ([its_own] if its_own else texts(page, named))]
+
+
+# ---- parts of a source
+
+WIDTH = 120
+ARRAY_WIDTH = 60
+
+
+def source(says, *items, uses=()):
+    """A source: what it is for, what it uses, and its items, with a line between each two."""
+    return "\n".join([comment(says) + "".join(f"use {used};\n" for used in uses), *items])
+
+
+def comment(says):
+    return "".join(f"// {line}\n" for line in textwrap.wrap(says, WIDTH - 3))
+
+
+def constants(numbers, type="usize"):
+    return "\n".join(f"pub const {name}: {type} = {number};\n" for name, number in numbers)
+
+
+def numbered(names, says):
+    """A constant for each name, its place; and how many there are, which is what `says` is said of."""
+    places = constants((constant(name), place) for place, name in enumerate(names))
+    return f"{places}\n{comment(says)}{constants([('COUNT', len(names))])}"
+
+
+def constant(name):
+    return re.sub(r"\W", "_", name).upper()
+
+
+def array(name, type, entries, says=""):
+    """A table on one line, or with a line for each entry."""
+    line = ", ".join(map(str, entries))
+    if len(line) + 2 > ARRAY_WIDTH:
+        line = "\n" + "".join(f"    {entry},\n" for entry in entries)
+    return f"{comment(says)}pub const {name}: [{type}; {len(entries)}] = [{line}];\n"
+
+
+def starts(lists):
+    """Where each starts when they stand one after the other, and where the last ends."""
+    return [sum(map(len, lists[:place])) for place in range(len(lists) + 1)]
+
+
+def text_table(name, starts_name, table, says=""):
+    """Texts one after the other, and where each starts."""
+    literal = "".join(as_literal(line) for text in table for line in text.splitlines(keepends=True))
+    whole = f"{comment(says)}pub const {name}: [u8; {starts(table)[-1]}] = *b\"\\\n{literal}\";\n"
+    return whole + "\n" + array(starts_name, "usize", starts(table))
+
+
+def as_literal(line):
+    """A line as it stands in a text of Rattle, on a line of its own; a space in front would be passed over."""
+    escaped = line.replace("\\", "\\\\").replace('"', '\\"').replace("\n", "\\n")
+    return re.sub("^ ", r"\\x20", escaped) + "\\\n"
+
+
+# ---- the output list
+
+OUTPUTS = "outputs/specs/Names.antt"
+Named = namedtuple("Named", "text section")
+
+
+def output_names():
+    """The names of a herd's figures, each with its section."""
+    sections = rows(OUTPUTS, "rows", r'section "(\w+)" \([^()]*\) (\w+)')
+    field = r'(?:amount|rest) "(\w+)" \([^()]*\)'
+    return [Named(text, section) for section, fields in sections for text in rows(OUTPUTS, fields, field)]
+
+
+def totals():
+    """The totals, each with its addends."""
+    found = rows(OUTPUTS, "totals", r'alone "(\w+)"|"(\w+)" adds \(((?:"\w+" ∷ )+)\[\]\)')
+    return {alone or total: re.findall(r"\w+", several) or [alone] for alone, total, several in found}
+
+
+def output_numbers():
+    return source(
+        "The names of a herd's figures by number: `figures.grams[names::N_EXCRETION]`. Made by docs/tables from the rows"
+        " of specs/Names.antt.",
+        numbered([name.text for name in output_names()], "How many names there are."),
+    )
+
+
+def total_numbers():
+    return source(
+        "The names of a farm's totals by number: `totals.grams[total_names::NH3_NLIVESTOCK]`. Made by docs/tables from"
+        " the totals of specs/Names.antt.",
+        numbered(totals(), "How many totals there are."),
+    )
+
+
+def addends():
+    lists = list(totals().values())
+    return source(
+        "The addends of each total by the numbers of their names, one total after the other, and where each total's"
+        " start. Made by docs/tables from the totals of outputs/specs/Names.antt.",
+        array("ADDENDS", "usize", [f"names::{constant(name)}" for names in lists for name in names]),
+        array("STARTS", "usize", starts(lists)),
+        uses=["outputs::names"],
+    )
+
+
+# ---- the listing
+
+LINES = "listing/specs/HerdLines.antt"
+LISTS = "listing/specs/Numbered.antt"
+LISTING = "listing/specs/Listing.antt"
+
+
+def lists_of_lines():
+    """The lists of lines, each with the kinds that have it."""
+    page = definitions(LISTS)
+    kinds = {head.split()[1]: int(number) for head, number in page.items() if head.startswith("listNumber ")}
+    firsts = re.findall(r"(\w+) ∷", page["listed"])
+    return [([k for k in kinds if kinds[k] == place], texts(LINES, f"linesOf {kind}")) for place, kind in enumerate(firsts)]
+
+
+def lines(kinds, names):
+    """The numbers of a list's names, with a comment before the first."""
+    first, *others = [f"names::{constant(name)}" for name in names]
+    return [f"// {' and '.join(kinds)}\n    {first}", *others]
+
+
+def middles(names):
+    """What stands in a line between its owner and its amount."""
+    return [f"::{name.section},{name.text}," for name in names]
+
+
+def listing_texts():
+    lists = lists_of_lines()
+    [path] = texts(LISTING, "totalPath")
+    return source(
+        "The lines of 01, The listing: the texts of a line and the lines of each listing, by number. Texts and lists"
+        " stand one after the other in a table, with where each starts. A constant table is built anew at each use: a"
+        " call builds it once and lends it. Made by docs/tables from specs/HerdLines.antt, specs/Numbered.antt (listed)"
+        " and outputs/specs/Names.antt.",
+        array("LINES", "usize", [line for kinds, names in lists for line in lines(kinds, names)]),
+        array("LINE_STARTS", "usize", starts([names for _, names in lists])),
+        text_table(
+            "MIDDLES",
+            "STARTS",
+            middles(output_names()),
+            "What stands in a herd's line between its owner and its amount, by the number of the name.",
+        ),
+        comment("What the totals' lines begin with: an empty label, and the path.")
+        + f'pub const TOTAL_OWNER: [u8; {len(path) + 1}] = *b",{path}";\n',
+        array("TOTAL_LINES", "usize", [f"total_names::{constant(name)}" for name in totals()], "The totals' lines."),
+        text_table(
+            "TOTAL_MIDDLES",
+            "TOTAL_STARTS",
+            [f",{name}," for name in totals()],
+            "What stands in a line of the totals between its owner and its amount, by the number of the total.",
+        ),
+        uses=["outputs::names", "outputs::total_names"],
+    )
+
+
+# ---- the list of cuts
+
+CUTS = "cuts/specs/Names.antt"
+
+
+def cut_names():
+    """The names of a herd's cuts. One that gives a figure has the figure's section, a factor that of its maker."""
+    figures = dict(output_names())
+    makers = {head: re.search(r'section = "(\w+)"', body) for head, body in definitions(CUTS).items()}
+    found = rows(CUTS, "rows", r'(\w+) "([\w:]+)"(?: \([^()]*\))?')
+    return [Named(text, figures[text] if maker == "figure" else makers[f"{maker} t f"][1]) for maker, text in found]
+
+
+def cut_numbers():
+    return source(
+        "The names of a herd's cuts by number: `cuts.cut_off[names::TAN_EXCRETION]`. Made by docs/tables from the rows"
+        " of specs/Names.antt.",
+        numbered([name.text for name in cut_names()], "How many names there are."),
+    )
+
+
+def cut_texts():
+    names = cut_names()
+    return source(
+        "What stands in a line of cuts between its owner and its numbers, by the number of the name, one after the"
+        " other, and where each starts. A constant table is built anew at each use: a call builds it once and lends it."
+        " Made by docs/tables from the rows of cuts/specs/Names.antt.",
+        text_table("MIDDLES", "STARTS", middles(names)),
+        array(
+            "LINES",
+            "usize",
+            [f"names::{constant(name.text)}" for name in names],
+            "The names, in the order in which they are listed.",
+        ),
+        uses=["cuts::names"],
+    )
+
+
+# ---- refusals, and the texts of the program
+
+HELP_WIDTH = 80
+
+
+def refusal_rows():
+    found = (ROOT / "docs" / "refusals.txt").read_text().splitlines()
+    return [row.split(" | ") for row in found if not row.startswith("#")]
+
+
+def help_pages():
+    """The pages of help by their names, in their order."""
+    pages = {}
+    for line in (ROOT / "docs" / "help.txt").read_text().splitlines():
+        if line.startswith("== "):
+            pages[line[3:]] = page = []
+        elif not line.startswith("#"):
+            page.append(line + "\n")
+            if len(line) > HELP_WIDTH:
+                faults.append(f"docs/help.txt: a line has more than {HELP_WIDTH} characters: {line}")
+    return {name: "".join(lines) for name, lines in pages.items()}
+
+
+def program_texts():
+    refusals, pages = refusal_rows(), help_pages()
+    if [int(row[0]) for row in refusals] != list(range(1, len(refusals) + 1)):
+        faults.append("docs/refusals.txt: the numbers do not go up from 1")
+    words = ["", *(row[1] for row in refusals)]
+    return source(
+        "The texts that the program prints beside its answers. Made by docs/tables from docs/refusals.txt and"
+        " docs/help.txt.",
+        text_table("WORDS", "WORDS_STARTS", words, "A refusal in words, by its number; there is none of the number 0."),
+        comment("The last number.") + constants([("REFUSALS", len(refusals))], "u64"),
+        text_table("PAGES", "PAGES_STARTS", list(pages.values()), "The pages of help, one for each command."),
+        comment("The numbers of the pages, and the last of them.")
+        + constants([*((name.upper(), place) for place, name in enumerate(pages)), ("PAGE_LAST", len(pages) - 1)]),
+    )
