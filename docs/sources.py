@@ -20,6 +20,7 @@ faults = []
 def made():
     """The text of each source that is made, by its path."""
     sources = {
+        "inputs/src/slots.rt": slots,
         "outputs/src/names.rt": output_numbers,
         "outputs/src/total_names.rt": total_numbers,
         "sums/src/total_addends.rt": addends,
@@ -112,6 +113,34 @@ def as_literal(line):
     """A line as it stands in a text of Rattle, on a line of its own; a space in front would be passed over."""
     escaped = line.replace("\\", "\\\\").replace('"', '\\"').replace("\n", "\\n")
     return re.sub("^ ", r"\\x20", escaped) + "\\\n"
+
+
+# ---- the input list
+
+INPUTS = "inputs/specs/Inputs.antt"
+Input = namedtuple("Input", "module name form")
+
+
+def inputs():
+    """The inputs of each kind, in the order of their slots."""
+    kinds = [head.split()[1] for head in definitions(INPUTS) if head.startswith("rowsOf ")]
+    row = r'"([\w:]+)" has "(\w+)" reads ([\w ]+)'
+    return {kind: [Input(*found) for found in rows(INPUTS, f"rowsOf {kind}", row)] for kind in kinds}
+
+
+def slots():
+    kinds = {}
+    for kind, its_inputs in inputs().items():
+        kinds.setdefault(tuple(constant(i.name) for i in its_inputs), []).append(kind)
+    return source(
+        "The slots of a kind's inputs by name: `slots::CATTLE_YARD_DAYS`. Kinds whose inputs have the same names, in the"
+        " same order, have one set. Made by docs/tables from rowsOf of specs/Inputs.antt.",
+        *(
+            comment(" and ".join(of))
+            + constants((f"{constant(of[0])}_{name}", slot) for slot, name in enumerate(names))
+            for names, of in kinds.items()
+        ),
+    )
 
 
 # ---- the output list

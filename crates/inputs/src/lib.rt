@@ -2,6 +2,8 @@
 // and the record checks go by it. An input is known by its kind and its slot, its place among the inputs of the kind. A
 // new input is an arm of its kind's function and a row in specs/Inputs.antt, at the end of its kind's, with its kind's
 // count, and its module's stretch in crate `finding`; a new name or module has its text in crate `words`.
+pub mod slots; // the slots by name
+
 use names::Names;
 ghost use mathlib.Core.Path.{_≡_};
 ghost use Rattle.inputs.specs.declared.Kind.the-variants.{Roughage, Cattle, Pigs, DairyCow};

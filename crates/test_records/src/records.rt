@@ -6,6 +6,7 @@ use farm::Herd;
 use farm::Label;
 use farm::Slot;
 use inputs::Kind;
+use inputs::slots;
 
 const SLOTS: usize = 9;
 
@@ -34,22 +35,22 @@ pub fn pigs() -> Herd {
     let missing = Slot {
         given: Given::Missing,
     };
-    let mut slots = [missing; SLOTS];
-    slots[0] = value(10);
-    slots[1] = value(13000);
-    slots[2] = value(7000);
-    slots[3] = value(4);
-    slots[4] = value(2);
-    slots[5] = value(0);
-    slots[6] = value(1);
-    slots[7] = signed(0);
+    let mut given = [missing; SLOTS];
+    given[slots::PIGS_ANIMALS] = value(10);
+    given[slots::PIGS_INP_N_EXCRETION] = value(13000);
+    given[slots::PIGS_TAN_FRACTION] = value(7000);
+    given[slots::PIGS_HOUSING_TYPE] = value(4);
+    given[slots::PIGS_AIR_SCRUBBER] = value(2);
+    given[slots::PIGS_MITIGATION_HOUSING_FLOOR] = value(0);
+    given[slots::PIGS_MITIGATION_HOUSING_AIR] = value(1);
+    given[slots::PIGS_FREE_CORRECTION_FACTOR] = signed(0);
     Herd {
         label: Label {
             bytes: *b"P1..............",
             len: 2,
         },
         kind: Kind::Pigs,
-        slots,
+        slots: given,
     }
 }
 

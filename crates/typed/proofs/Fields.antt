@@ -23,7 +23,7 @@ use Rattle.kinds.specs.declared.HousingFloor.{HousingFloor}
 use Rattle.kinds.specs.declared.HousingAir.{HousingAir}
 use Rattle.kinds.specs.declared.Outdoor.{Outdoor}
 use Rattle.kinds.specs.Choices.{yardAt, floorAt, housingAt, scrubberAt, housingFloorAt, housingAirAt}
-use Rattle.typed.specs.Typed.{signedIn, tanIn, givenAt, numberAt, signedAt, enteredAt}
+use Rattle.typed.specs.Typed.{signedIn, tanIn, givenNamed, numberNamed, signedNamed, enteredNamed}
 use Rattle.typed.specs.Typed.{roughageOf, outdoorOf, cattleOf, pigsOf}
 
 -- a number that may be below zero, by what is given
@@ -44,9 +44,13 @@ pub ruleset signed-steps = (missing-signed, standard-signed, value-signed, wide-
 
 module _ (h : Herd) where
   pub is-roughage : (category animals days hours : ℕ) (free : ℤ) (n tan : Entered)
-      → category ≡ numberAt h 0 → animals ≡ numberAt h 1 → n ≡ enteredAt h 2 → tan ≡ enteredAt h 3 → free ≡ signedAt h 4
-      → days ≡ numberAt h 5
-      → hours ≡ numberAt h 6
+      → category ≡ numberNamed kinds.Roughage "animalcategory" h
+      → animals ≡ numberNamed kinds.Roughage "animals" h
+      → n ≡ enteredNamed kinds.Roughage "inp_n_excretion" h
+      → tan ≡ enteredNamed kinds.Roughage "tan_fraction" h
+      → free ≡ signedNamed kinds.Roughage "free_correction_factor" h
+      → days ≡ numberNamed kinds.Roughage "grazing_days" h
+      → hours ≡ numberNamed kinds.Roughage "grazing_hours" h
       → record {
         animalcategory = category;
         animals = animals;
@@ -61,9 +65,12 @@ module _ (h : Herd) where
   is-roughage category animals days hours free n tan e0 e1 e2 e3 e4 e5 e6 = rw (e0, e1, e2, e3, e4, e5, e6)
 
   pub is-outdoor : (yard-days at-yard at-floor days hours : ℕ) (free : ℤ) (yard : ExerciseYard) (floor : Floor)
-      → yard-days ≡ numberAt h 3 → at-yard ≡ numberAt h 4 → yard ≡ yardAt at-yard → at-floor ≡ numberAt h 5
-      → floor ≡ floorAt at-floor
-      → free ≡ signedAt h 6 → days ≡ numberAt h 7 → hours ≡ numberAt h 8
+      → yard-days ≡ numberNamed kinds.Cattle "yard_days" h
+      → at-yard ≡ numberNamed kinds.Cattle "exercise_yard" h → yard ≡ yardAt at-yard
+      → at-floor ≡ numberNamed kinds.Cattle "floor_properties_exercise_yard" h → floor ≡ floorAt at-floor
+      → free ≡ signedNamed kinds.Cattle "free_correction_factor" h
+      → days ≡ numberNamed kinds.Cattle "grazing_days" h
+      → hours ≡ numberNamed kinds.Cattle "grazing_hours" h
       → record {
         «yard_days» = yard-days;
         «exercise_yard» = yard;
@@ -82,9 +89,9 @@ module _ (h : Herd) where
   inSlots k =
       record {
         kind = k;
-        animals = numberAt h 0;
-        «inp_n_excretion» = numberAt h 1;
-        «tan_fraction» = tanIn k (givenAt h 2);
+        animals = numberNamed kinds.Cattle "animals" h;
+        «inp_n_excretion» = numberNamed kinds.Cattle "inp_n_excretion" h;
+        «tan_fraction» = tanIn k (givenNamed kinds.Cattle "tan_fraction" h);
         outdoor = outdoorOf kinds.Cattle h;
       }
 
@@ -93,28 +100,33 @@ module _ (h : Herd) where
   in-slots OtherCattle = refl
   in-slots DairyCow = refl
 
-  pub is-cattle : (k : CattleKind) (animals n : ℕ) (tan : Entered) (o : Outdoor) → animals ≡ numberAt h 0
-      → n ≡ numberAt h 1 → tan ≡ tanIn k (givenAt h 2) → o ≡ outdoorOf kinds.Cattle h
+  pub is-cattle : (k : CattleKind) (animals n : ℕ) (tan : Entered) (o : Outdoor)
+      → animals ≡ numberNamed kinds.Cattle "animals" h
+      → n ≡ numberNamed kinds.Cattle "inp_n_excretion" h
+      → tan ≡ tanIn k (givenNamed kinds.Cattle "tan_fraction" h)
+      → o ≡ outdoorOf kinds.Cattle h
       → record { kind = k; animals = animals; «inp_n_excretion» = n; «tan_fraction» = tan; outdoor = o } ≡ cattleOf k h
   is-cattle k animals n tan o e0 e1 e2 eo = rw (in-slots k, e0, e1, e2, eo)
 
   -- the TAN of each kind of cattle
-  pub tan-number : (k : CattleKind) → k ≡ OtherCattle → (n : ℕ) → n ≡ numberAt h 2
-      → entered.Number n ≡ tanIn k (givenAt h 2)
+  pub tan-number : (k : CattleKind) → k ≡ OtherCattle → (n : ℕ) → n ≡ numberNamed kinds.Cattle "tan_fraction" h
+      → entered.Number n ≡ tanIn k (givenNamed kinds.Cattle "tan_fraction" h)
   tan-number k e n en = rw (e, en)
 
-  pub tan-entered : (k : CattleKind) → k ≡ DairyCow → (tan : Entered) → tan ≡ enteredAt h 2
-      → tan ≡ tanIn k (givenAt h 2)
+  pub tan-entered : (k : CattleKind) → k ≡ DairyCow → (tan : Entered) → tan ≡ enteredNamed kinds.Cattle "tan_fraction" h
+      → tan ≡ tanIn k (givenNamed kinds.Cattle "tan_fraction" h)
   tan-entered k e tan et = rw (e, et)
 
   pub is-pigs : (animals n tan at-type at-scrubber at-floor at-air : ℕ) (free : ℤ)
       (type : HousingType) (scrubber : AirScrubber) (floor : HousingFloor) (air : HousingAir)
-      → animals ≡ numberAt h 0 → n ≡ numberAt h 1 → tan ≡ numberAt h 2
-      → at-type ≡ numberAt h 3 → type ≡ housingAt at-type
-      → at-scrubber ≡ numberAt h 4 → scrubber ≡ scrubberAt at-scrubber
-      → at-floor ≡ numberAt h 5 → floor ≡ housingFloorAt at-floor
-      → at-air ≡ numberAt h 6 → air ≡ housingAirAt at-air
-      → free ≡ signedAt h 7
+      → animals ≡ numberNamed kinds.Pigs "animals" h
+      → n ≡ numberNamed kinds.Pigs "inp_n_excretion" h
+      → tan ≡ numberNamed kinds.Pigs "tan_fraction" h
+      → at-type ≡ numberNamed kinds.Pigs "housing_type" h → type ≡ housingAt at-type
+      → at-scrubber ≡ numberNamed kinds.Pigs "air_scrubber" h → scrubber ≡ scrubberAt at-scrubber
+      → at-floor ≡ numberNamed kinds.Pigs "mitigation_housing_floor" h → floor ≡ housingFloorAt at-floor
+      → at-air ≡ numberNamed kinds.Pigs "mitigation_housing_air" h → air ≡ housingAirAt at-air
+      → free ≡ signedNamed kinds.Pigs "free_correction_factor" h
       → record {
         animals = animals;
         «inp_n_excretion» = n;

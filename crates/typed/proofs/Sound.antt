@@ -1,6 +1,7 @@
 -- A herd's record that passes the checks gives sound inputs: what stands in a slot is a value of the form of its input,
 -- so each number is in its range (01, "Ranges"). Assumes nothing.
 use Prim.Native.Nat.{ℕ, zero, suc, _≤_, _<_}
+use Prim.Native.String.{String}
 use mathlib.Core.Path.{_≡_, refl}
 use mathlib.Core.Bool.{true}
 use mathlib.Core.List.{List, [], _∷_}
@@ -35,7 +36,8 @@ use Rattle.farm.specs.Herds.{noSlot}
 use Rattle.checks.proofs.Accepts.{passes, farm-count, farm-each}
 use Rattle.amounts.specs.Units.{percent}
 use Rattle.kinds.specs.Sound.{EnteredTo, standard, number, Sound, roughage, cattle, pigs}
-use Rattle.typed.specs.Typed.{numberIn, signedIn, enteredIn, givenAt, numberAt, signedAt, enteredAt}
+use Rattle.typed.specs.Typed.{numberIn, signedIn, enteredIn, givenAt}
+use Rattle.typed.specs.Typed.{placeNamed, numberNamed, signedNamed, enteredNamed}
 use Rattle.typed.specs.Typed.{roughageOf, outdoorOf, cattleOf, pigsOf, typedAs, typedOf}
 
 -- ---- a slot
@@ -81,65 +83,71 @@ fits-at (row ∷ rows) (s ∷ slots) zero (Passes.next m f p) h = f
 fits-at (row ∷ rows) (s ∷ slots) (suc i) (Passes.next m f p) h = fits-at rows slots i p (omega arith)
 fits-at [] slots i p h = absurd (omega arith)
 
-module _ (k : Kind) (h : Herd) (p : Passes (rowsOf k) (h .slots)) where
-  number-at : (i : ℕ) → i < length (rowsOf k) → numberAt h i ≤ mostOf (getD (rowsOf k) i noRow .form)
-  number-at i l = number-to (getD (rowsOf k) i noRow .form) (givenAt h i) (fits-at (rowsOf k) (h .slots) i p l)
+module _ (k : Kind) (h : Herd) (p : Passes (rowsOf k) (h .slots)) (name : String) where
+  abbrev slot : ℕ
+  slot = placeNamed name (rowsOf k)
 
-  signed-at : (i m : ℕ) → i < length (rowsOf k) → getD (rowsOf k) i noRow .form ≡ ASigned m → natAbs (signedAt h i) ≤ m
-  signed-at i m l e = signed-to m (givenAt h i) (rw e at (fits-at (rowsOf k) (h .slots) i p l))
+  abbrev form : Form
+  form = getD (rowsOf k) slot noRow .form
 
-  entered-at : (i : ℕ) → i < length (rowsOf k) → EnteredTo (mostOf (getD (rowsOf k) i noRow .form)) (enteredAt h i)
-  entered-at i l = entered-to (getD (rowsOf k) i noRow .form) (givenAt h i) (fits-at (rowsOf k) (h .slots) i p l)
+  number-named : slot < length (rowsOf k) → numberNamed k name h ≤ mostOf form
+  number-named l = number-to form (givenAt h slot) (fits-at (rowsOf k) (h .slots) slot p l)
+
+  signed-named : (m : ℕ) → slot < length (rowsOf k) → form ≡ ASigned m → natAbs (signedNamed k name h) ≤ m
+  signed-named m l e = signed-to m (givenAt h slot) (rw e at (fits-at (rowsOf k) (h .slots) slot p l))
+
+  entered-named : slot < length (rowsOf k) → EnteredTo (mostOf form) (enteredNamed k name h)
+  entered-named l = entered-to form (givenAt h slot) (fits-at (rowsOf k) (h .slots) slot p l)
 
 -- ---- each kind
 
 typed-as : (k : Kind) (h : Herd) → Passes (rowsOf k) (h .slots) → Sound (typedAs k h)
 unfolding roughageOf outdoorOf cattleOf pigsOf
 typed-as kinds.Roughage h p =
-    let n = number-at kinds.Roughage h p in
-    let e = entered-at kinds.Roughage h p in
+    let n = number-named kinds.Roughage h p in
+    let e = entered-named kinds.Roughage h p in
     roughage (record {
-      animals = n 1 (omega arith);
-      grams = e 2 (omega arith);
-      fraction = e 3 (omega arith);
-      free = signed-at kinds.Roughage h p 4 percent (omega arith) refl;
-      days = n 5 (omega arith);
-      hours = n 6 (omega arith);
+      animals = n "animals" (omega arith);
+      grams = e "inp_n_excretion" (omega arith);
+      fraction = e "tan_fraction" (omega arith);
+      free = signed-named kinds.Roughage h p "free_correction_factor" percent (omega arith) refl;
+      days = n "grazing_days" (omega arith);
+      hours = n "grazing_hours" (omega arith);
     })
 typed-as kinds.Cattle h p =
-    let n = number-at kinds.Cattle h p in
+    let n = number-named kinds.Cattle h p in
     cattle (record {
-      animals = n 0 (omega arith);
-      grams = n 1 (omega arith);
-      fraction = number (n 2 (omega arith));
+      animals = n "animals" (omega arith);
+      grams = n "inp_n_excretion" (omega arith);
+      fraction = number (n "tan_fraction" (omega arith));
       outdoor =
           record {
-            yard = n 3 (omega arith);
-            free = signed-at kinds.Cattle h p 6 percent (omega arith) refl;
-            days = n 7 (omega arith);
-            hours = n 8 (omega arith);
+            yard = n "yard_days" (omega arith);
+            free = signed-named kinds.Cattle h p "free_correction_factor" percent (omega arith) refl;
+            days = n "grazing_days" (omega arith);
+            hours = n "grazing_hours" (omega arith);
           };
     })
 typed-as kinds.Pigs h p =
-    let n = number-at kinds.Pigs h p in
+    let n = number-named kinds.Pigs h p in
     pigs (record {
-      animals = n 0 (omega arith);
-      grams = n 1 (omega arith);
-      fraction = n 2 (omega arith);
-      free = signed-at kinds.Pigs h p 7 percent (omega arith) refl;
+      animals = n "animals" (omega arith);
+      grams = n "inp_n_excretion" (omega arith);
+      fraction = n "tan_fraction" (omega arith);
+      free = signed-named kinds.Pigs h p "free_correction_factor" percent (omega arith) refl;
     })
 typed-as kinds.DairyCow h p =
-    let n = number-at kinds.DairyCow h p in
+    let n = number-named kinds.DairyCow h p in
     cattle (record {
-      animals = n 0 (omega arith);
-      grams = n 1 (omega arith);
-      fraction = entered-at kinds.DairyCow h p 2 (omega arith);
+      animals = n "animals" (omega arith);
+      grams = n "inp_n_excretion" (omega arith);
+      fraction = entered-named kinds.DairyCow h p "tan_fraction" (omega arith);
       outdoor =
           record {
-            yard = n 3 (omega arith);
-            free = signed-at kinds.DairyCow h p 6 percent (omega arith) refl;
-            days = n 7 (omega arith);
-            hours = n 8 (omega arith);
+            yard = n "yard_days" (omega arith);
+            free = signed-named kinds.DairyCow h p "free_correction_factor" percent (omega arith) refl;
+            days = n "grazing_days" (omega arith);
+            hours = n "grazing_hours" (omega arith);
           };
     })
 
@@ -157,7 +165,8 @@ pub category-known : (h : Herd) → checkHerd h ≡ Accepted → h .kind ≡ kin
 unfolding roughageOf
 category-known h e k =
     let p : Passes (rowsOf kinds.Roughage) (h .slots) = rw k at (passes h e) in
-    place-below Categories (givenAt h 0) (omega arith) (fits-at (rowsOf kinds.Roughage) (h .slots) 0 p (omega arith))
+    let at = placeNamed "animalcategory" (rowsOf kinds.Roughage) in
+    place-below Categories (givenAt h at) (omega arith) (fits-at (rowsOf kinds.Roughage) (h .slots) at p (omega arith))
 
 pub typed-sound : (h : Herd) → checkHerd h ≡ Accepted → Sound (typedOf h)
 unfolding typedOf
