@@ -17,10 +17,11 @@ use Rattle.kinds.specs.declared.AirScrubber.the-variants as scrubber
 use Rattle.kinds.specs.declared.HousingType.{HousingType}
 use Rattle.housing.specs.Housing.{«c_free_factor_housing»}
 use Rattle.pig_house.specs.Parameters.{
-  er,
+  rowOf,
   «c_area»,
   «share_indoor»,
   «share_liquid»,
+  ratesOf,
   «red_air_scrubber»,
   «red_housing_floor»,
   «red_housing_air»,
@@ -42,7 +43,7 @@ use Rattle.pig_house.specs.PigHouse.{
   pigHousing,
   pigHouse,
 }
-use Rattle.pig_house.specs.NxOx.{ratesOf, nxOx}
+use Rattle.pig_house.specs.NxOx.{nxOx}
 use Rattle.pig_house.specs.Bounds.{Enters}
 use Rattle.pig_house.proofs.Factor.{share-indoor-le, red-air-scrubber-le, before-le, ef-nh3-nhousing-le}
 use Rattle.pig_house.proofs.Fractions.{rates-to}
@@ -95,7 +96,7 @@ module _ (p : Pigs) where
   before-free : Exactly 10000 (beforeWithFree cutting p) (beforeWithFree exact p)
   before-free =
       exactly-portion 10000 («c_free_factor_housing» (p .«free_correction_factor»)) percent (lit< tt)
-      (exactly-whole thousandth (er (p .«housing_type»)) _ (omega arith))
+      (exactly-whole thousandth (rowOf (p .«housing_type») .er) _ (omega arith))
 
   before-air : Exactly 1000 (beforeWithAir cutting p) (beforeWithAir exact p)
   before-air =
@@ -115,7 +116,7 @@ module _ (p : Pigs) where
   grazing-free : Exactly 10000 (grazingWithFree cutting p) (grazingWithFree exact p)
   grazing-free =
       exactly-portion 10000 («c_free_factor_housing» (p .«free_correction_factor») * «c_area») percent (lit< tt)
-      (exactly-whole thousandth (er (p .«housing_type»)) _ refl)
+      (exactly-whole thousandth (rowOf (p .«housing_type») .er) _ refl)
 
   grazing : Exactly 10000 («ef_housing_grazing» cutting p) («ef_housing_grazing» exact p)
   grazing = exactly-at-most 10000 100000 grazing-free

@@ -40,8 +40,10 @@ use Rattle.pig_house.specs.Parameters.{
   «red_air_scrubber»,
   «red_housing_floor»,
   «red_housing_air»,
+  slurryRates,
+  solidRates,
+  ratesOf,
 }
-use Rattle.pig_house.specs.NxOx.{slurryRates, solidRates, ratesOf}
 
 -- a unit that the formulas count in: the decimals of a number that counts in it, and how many make 1
 pub record Unit : Type 0 where

@@ -1,29 +1,17 @@
-// 2.52 to 2.59, Technical Parameters: what the names of a pig house stand for.
+// 2.52 to 2.62, Technical Parameters: what the names of a pig house stand for.
 use kinds::AirScrubber;
 use kinds::HousingAir;
 use kinds::HousingFloor;
 use kinds::HousingType;
+use pig_house::HousingRow;
+use pig_house::NxOxRates;
 ghost use mathlib.Core.Path.{_≡_};
-ghost use Rattle.amounts.specs.Units.{tenths, thousandths, billionths};
+ghost use Rattle.amounts.specs.Units.{tenths, billionths};
 ghost use Rattle.amounts.specs.Bounds.{UpTo};
-ghost use Rattle.pig_house.specs.Parameters.{er, «er_housing», «share_liquid», «share_indoor»};
+ghost use Rattle.pig_house.specs.Parameters.{slurryRates, solidRates, noRates, rowOf};
+ghost use Rattle.pig_house.specs.Parameters.{«er_housing», «share_liquid», «share_indoor», ratesOf};
 ghost use Rattle.pig_house.specs.Parameters.{«red_air_scrubber», «red_housing_floor», «red_housing_air»};
-
-// er of 2.53 to 2.57, in thousandths.
-const ER_SLURRY_CONVENTIONAL: u64 = 243;
-
-const ER_SLURRY_LABEL: u64 = 486;
-
-const ER_SLURRY_LABEL_OPEN: u64 = 340;
-
-const ER_DEEP_LITTER: u64 = 486;
-
-const ER_OUTDOOR: u64 = 0;
-
-// share_indoor of 2.52, in tenths.
-const SHARE_INDOOR_LABEL: u64 = 5;
-
-const SHARE_INDOOR: u64 = 10;
+ghost use Rattle.pig_house.specs.Bounds.{NxOxRatesOf};
 
 // Reductions of 2.58 and 2.59, in tenths.
 const RED_ACID_AIR_SCRUBBER: u64 = 9;
@@ -35,51 +23,108 @@ const RED_LOW_IMPULS_AIR_SUPPLY: u64 = 2;
 // A thousandth, in billionths.
 const THOUSANDTH: u64 = 1000000;
 
-// The emission rate of a type, in thousandths.
-fn er(housing: HousingType) -> u64
-    ensures { λ r. ⌜ UpTo thousandths (er housing) r ⌝ }
+// ---- the gases of 2.62, in ten-thousandths
+
+// er_…_solid_Slurry and er_…_liquid_Slurry.
+fn slurry_rates() -> NxOxRates
+    ensures { λ r. ⌜ r ≡ slurryRates ⌝ }
 {
-    match housing {
-        HousingType::SlurryConventional => ER_SLURRY_CONVENTIONAL,
-        HousingType::SlurryLabel => ER_SLURRY_LABEL,
-        HousingType::SlurryLabelOpen => ER_SLURRY_LABEL_OPEN,
-        HousingType::DeepLitter => ER_DEEP_LITTER,
-        HousingType::Outdoor => ER_OUTDOOR,
+    NxOxRates {
+        er_n2_nsolid: 200,
+        er_no_nsolid: 20,
+        er_n2o_nsolid: 20,
+        er_n2_nliquid: 200,
+        er_no_nliquid: 20,
+        er_n2o_nliquid: 20,
     }
 }
 
-// And in billionths.
+// er_…_solid_Solid and er_…_liquid_Solid.
+fn solid_rates() -> NxOxRates
+    ensures { λ r. ⌜ r ≡ solidRates ⌝ }
+{
+    NxOxRates {
+        er_n2_nsolid: 500,
+        er_no_nsolid: 100,
+        er_n2o_nsolid: 100,
+        er_n2_nliquid: 500,
+        er_no_nliquid: 100,
+        er_n2o_nliquid: 100,
+    }
+}
+
+// Outdoors there are none.
+fn no_rates() -> NxOxRates
+    ensures { λ r. ⌜ r ≡ noRates ⌝ }
+{
+    NxOxRates {
+        er_n2_nsolid: 0,
+        er_no_nsolid: 0,
+        er_n2o_nsolid: 0,
+        er_n2_nliquid: 0,
+        er_no_nliquid: 0,
+        er_n2o_nliquid: 0,
+    }
+}
+
+// ---- the types of housing, a row each, under its section
+
+fn row(er: u64, liquid: u64, indoor: u64, rates: NxOxRates) -> HousingRow
+    ensures { λ r. ⌜ r ≡ record { er = er; «share_liquid» = liquid; «share_indoor» = indoor; rates = rates } ⌝ }
+{
+    HousingRow {
+        er,
+        share_liquid: liquid,
+        share_indoor: indoor,
+        rates,
+    }
+}
+
+fn row_of(housing: HousingType) -> HousingRow
+    ensures { λ r. ⌜ r ≡ rowOf housing ⌝ }
+{
+    match housing {
+        HousingType::SlurryConventional => row(243, 1, 10, slurry_rates()), // 2.53
+        HousingType::SlurryLabel => row(486, 1, 5, slurry_rates()), // 2.54
+        HousingType::SlurryLabelOpen => row(340, 1, 5, slurry_rates()), // 2.55
+        HousingType::DeepLitter => row(486, 0, 10, solid_rates()), // 2.56
+        HousingType::Outdoor => row(0, 0, 10, no_rates()), // 2.57
+    }
+}
+
+// The emission rate, in billionths.
 pub fn er_housing(housing: HousingType) -> u64
     ensures { λ r. ⌜ UpTo billionths («er_housing» housing) r ⌝ }
 {
-    er(housing) * THOUSANDTH
+    let row = row_of(housing);
+    row.er * THOUSANDTH
 }
 
 // The part that leaves the house as slurry: all or nothing.
 pub fn share_liquid(housing: HousingType) -> u64
     ensures { λ r. ⌜ UpTo 1 («share_liquid» housing) r ⌝ }
 {
-    match housing {
-        HousingType::SlurryConventional => 1,
-        HousingType::SlurryLabel => 1,
-        HousingType::SlurryLabelOpen => 1,
-        HousingType::DeepLitter => 0,
-        HousingType::Outdoor => 0,
-    }
+    let row = row_of(housing);
+    row.share_liquid
 }
 
 // The part that mitigation indoors reaches, in tenths.
 pub fn share_indoor(housing: HousingType) -> u64
     ensures { λ r. ⌜ UpTo tenths («share_indoor» housing) r ⌝ }
 {
-    match housing {
-        HousingType::SlurryConventional => SHARE_INDOOR,
-        HousingType::SlurryLabel => SHARE_INDOOR_LABEL,
-        HousingType::SlurryLabelOpen => SHARE_INDOOR_LABEL,
-        HousingType::DeepLitter => SHARE_INDOOR,
-        HousingType::Outdoor => SHARE_INDOOR,
-    }
+    let row = row_of(housing);
+    row.share_indoor
 }
+
+// The rates of the gases.
+pub fn rates_of(housing: HousingType) -> NxOxRates
+    ensures { λ r. ⌜ NxOxRatesOf (ratesOf housing) r ⌝ }
+{
+    let row = row_of(housing);
+    row.rates
+}
+
+// ---- the other names
 
 // What a scrubber takes from the air, in tenths.
 pub fn red_air_scrubber(scrubber: AirScrubber) -> u64

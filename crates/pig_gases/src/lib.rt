@@ -5,67 +5,12 @@ use pig_amounts::house;
 use pig_factors::parameters;
 use pig_house::FromFraction;
 use pig_house::NxOx;
-use pig_house::NxOxRates;
 ghost use mathlib.Core.Path.{_≡_};
 ghost use Prim.Native.Nat.{_≤_, _<_, _^_};
 ghost use Rattle.amounts.specs.Units.{tenThousandths};
 ghost use Rattle.amounts.specs.Dividing.{dividing, uncut};
-ghost use Rattle.pig_house.specs.NxOx.{slurryRates, solidRates, nxoxRates, ratesOf, nxOx, handedNxOx};
-ghost use Rattle.pig_house.specs.Bounds.{NxOxRatesOf, Emitted};
-
-// er_…_solid_Slurry and er_…_liquid_Slurry.
-fn slurry_rates() -> NxOxRates
-    ensures { λ r. ⌜ r ≡ slurryRates ⌝ }
-{
-    NxOxRates {
-        er_n2_nsolid: 200,
-        er_no_nsolid: 20,
-        er_n2o_nsolid: 20,
-        er_n2_nliquid: 200,
-        er_no_nliquid: 20,
-        er_n2o_nliquid: 20,
-    }
-}
-
-// er_…_solid_Solid and er_…_liquid_Solid.
-fn solid_rates() -> NxOxRates
-    ensures { λ r. ⌜ r ≡ solidRates ⌝ }
-{
-    NxOxRates {
-        er_n2_nsolid: 500,
-        er_no_nsolid: 100,
-        er_n2o_nsolid: 100,
-        er_n2_nliquid: 500,
-        er_no_nliquid: 100,
-        er_n2o_nliquid: 100,
-    }
-}
-
-// Outdoors there are none.
-fn outdoor_rates() -> NxOxRates
-    ensures { λ r. ⌜ r ≡ nxoxRates 0 0 0 0 0 0 ⌝ }
-{
-    NxOxRates {
-        er_n2_nsolid: 0,
-        er_no_nsolid: 0,
-        er_n2o_nsolid: 0,
-        er_n2_nliquid: 0,
-        er_no_nliquid: 0,
-        er_n2o_nliquid: 0,
-    }
-}
-
-fn rates_of(housing: HousingType) -> NxOxRates
-    ensures { λ r. ⌜ NxOxRatesOf (ratesOf housing) r ⌝ }
-{
-    match housing {
-        HousingType::SlurryConventional => slurry_rates(),
-        HousingType::SlurryLabel => slurry_rates(),
-        HousingType::SlurryLabelOpen => slurry_rates(),
-        HousingType::DeepLitter => solid_rates(),
-        HousingType::Outdoor => outdoor_rates(),
-    }
-}
+ghost use Rattle.pig_house.specs.NxOx.{nxOx, handedNxOx};
+ghost use Rattle.pig_house.specs.Bounds.{Emitted};
 
 // What so much N in one fraction emits, at its rates.
 fn from_fraction(n: u64, n2: u64, no: u64, n2o: u64) -> FromFraction
@@ -87,7 +32,7 @@ pub fn nx_ox(housing: HousingType, n: u64) -> NxOx
     let share = parameters::share_liquid(housing);
     let solid = house::all_or_nothing(1 - share, n);
     let liquid = house::all_or_nothing(share, n);
-    let r = rates_of(housing);
+    let r = parameters::rates_of(housing);
     let s = from_fraction(solid, r.er_n2_nsolid, r.er_no_nsolid, r.er_n2o_nsolid);
     let l = from_fraction(liquid, r.er_n2_nliquid, r.er_no_nliquid, r.er_n2o_nliquid);
     let n2_nsolid = s.n2;

@@ -24,9 +24,15 @@ use Rattle.kinds.specs.declared.HousingFloor.the-variants as floor
 use Rattle.kinds.specs.declared.Pigs.{Pigs}
 use Rattle.kinds.specs.Free.{«c_free_factor»}
 use Rattle.pig_house.specs.declared.PigFactors.{PigFactors}
+use Rattle.pig_house.specs.declared.NxOxRates.{NxOxRates}
+use Rattle.pig_house.specs.declared.HousingRow.{HousingRow}
 use Rattle.pig_house.specs.Parameters.{
+  thousandth,
+  rowOf,
   «er_housing»,
+  «share_liquid»,
   «share_indoor»,
+  ratesOf,
   «c_area»,
   «red_air_scrubber»,
   «red_housing_floor»,
@@ -59,7 +65,21 @@ below-one f h = record { is = rw (le-ltb billionths f h) refl; most = h }
 
 pub ruleset ceiling-steps = (above-one, below-one)
 
--- ---- the shares, at most 1
+-- ---- the rates, and the shares, at most 1
+
+pub er-le : (t : HousingType) → «er_housing» t ≤ 486_000_000
+er-le housed.SlurryConventional = omega arith
+er-le housed.SlurryLabel = omega arith
+er-le housed.SlurryLabelOpen = omega arith
+er-le housed.DeepLitter = omega arith
+er-le housed.Outdoor = omega arith
+
+share-liquid-le : (t : HousingType) → «share_liquid» t ≤ 1
+share-liquid-le housed.SlurryConventional = omega arith
+share-liquid-le housed.SlurryLabel = omega arith
+share-liquid-le housed.SlurryLabelOpen = omega arith
+share-liquid-le housed.DeepLitter = omega arith
+share-liquid-le housed.Outdoor = omega arith
 
 pub share-indoor-le : (t : HousingType) → «share_indoor» t ≤ tenths
 share-indoor-le housed.SlurryConventional = omega arith
@@ -73,7 +93,33 @@ red-air-scrubber-le scrubber.Acid = omega arith
 red-air-scrubber-le scrubber.Biotrickling = omega arith
 red-air-scrubber-le scrubber.None = omega arith
 
--- the code's steps: no selection of floors is available
+-- the code's steps: the row of a type, and what it says
+pub is-row : (t arm : HousingType) (rates : NxOxRates) (r : HousingRow) → t ≡ arm → rates ≡ ratesOf arm
+    → r ≡ record {
+      er = rowOf arm .er;
+      «share_liquid» = rowOf arm .«share_liquid»;
+      «share_indoor» = rowOf arm .«share_indoor»;
+      rates = rates;
+    }
+    → r ≡ rowOf t
+is-row t arm rates r et er e = rw (e, er, et) refl
+
+module _ (t : HousingType) (r : HousingRow) (e : r ≡ rowOf t) where
+  pub er-fits : Fits w64 (r .er * thousandth)
+  er-fits = record { fits = rw e (omega (arith, er-le t)) }
+
+  pub is-er : UpTo billionths («er_housing» t) (r .er * thousandth)
+  is-er = rw e (record { is = refl; most = omega (arith, er-le t) })
+
+  pub is-share-liquid : UpTo 1 («share_liquid» t) (r .«share_liquid»)
+  is-share-liquid = rw e (record { is = refl; most = share-liquid-le t })
+
+  pub is-share-indoor : UpTo tenths («share_indoor» t) (r .«share_indoor»)
+  is-share-indoor = rw e (record { is = refl; most = share-indoor-le t })
+
+pub ruleset row-steps = (er-fits, is-er, is-share-liquid, is-share-indoor)
+
+-- no selection of floors is available
 pub floor-takes-none : (f : HousingFloor) → UpTo 1 («red_housing_floor» f) 0
 floor-takes-none floor.None = record { is = refl; most = zero≤ }
 

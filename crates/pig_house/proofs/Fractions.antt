@@ -17,15 +17,12 @@ use Rattle.kinds.specs.declared.HousingType.the-variants as housed
 use Rattle.housing.specs.declared.Housing.{Housing}
 use Rattle.housing.specs.Housing.{ofHousing}
 use Rattle.pig_house.specs.declared.NxOxRates.{NxOxRates}
+use Rattle.pig_house.specs.declared.HousingRow.{HousingRow}
 use Rattle.pig_house.specs.declared.FromFraction.{FromFraction}
 use Rattle.pig_house.specs.declared.NxOx.{NxOx}
-use Rattle.pig_house.specs.Parameters.{«share_liquid»}
+use Rattle.pig_house.specs.Parameters.{slurryRates, solidRates, noRates, rowOf, «share_liquid», ratesOf}
 use Rattle.pig_house.specs.PigHouse.{allOrNothing, inFractions, ofPigHouse}
 use Rattle.pig_house.specs.NxOx.{
-  slurryRates,
-  solidRates,
-  nxoxRates,
-  ratesOf,
   NxOxIn,
   nSolid,
   nLiquid,
@@ -93,8 +90,8 @@ solid-to =
       n2o-liquid = omega arith;
     }
 
-outdoor-to : NxOxRatesTo tenThousandths (nxoxRates 0 0 0 0 0 0)
-outdoor-to =
+none-to : NxOxRatesTo tenThousandths noRates
+none-to =
     record {
       n2-solid = omega arith;
       no-solid = omega arith;
@@ -109,11 +106,11 @@ rates-to housed.SlurryConventional = slurry-to
 rates-to housed.SlurryLabel = slurry-to
 rates-to housed.SlurryLabelOpen = slurry-to
 rates-to housed.DeepLitter = solid-to
-rates-to housed.Outdoor = outdoor-to
+rates-to housed.Outdoor = none-to
 
--- the code's steps
-pub are-rates : (t arm : HousingType) (r : NxOxRates) → t ≡ arm → r ≡ ratesOf arm → NxOxRatesOf (ratesOf t) r
-are-rates t arm r et e = record { is = rw et e; most = rw e (rates-to arm) }
+-- the code's step, from the row of the type
+pub are-rates : (t : HousingType) (r : HousingRow) → r ≡ rowOf t → NxOxRatesOf (ratesOf t) (r .rates)
+are-rates t r e = rw e (record { is = refl; most = rates-to t })
 
 -- a gas as it is handed on
 module _ (t : HousingType) (n share solid liquid : ℕ) (r : NxOxRates) (u : UpTo 1 («share_liquid» t) share)

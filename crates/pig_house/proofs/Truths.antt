@@ -46,17 +46,10 @@ use Rattle.pig_house.specs.PigHouse.{
   noPigHouse,
 }
 use Rattle.pig_house.specs.NxOx.{nxOx, noNxOx}
-use Rattle.pig_house.proofs.Factor.{share-indoor-le, left-within, mean-le, scrubber-takes}
+use Rattle.pig_house.proofs.Factor.{er-le, share-indoor-le, left-within, mean-le, scrubber-takes}
 use Rattle.pig_house.proofs.Through.{filtered, outdoor-filtered, kept-by-le}
 
 -- ---- the factor: floor, air and scrubber only take from what the free factor leaves of the rate
-
-er-le : (t : HousingType) → «er_housing» t ≤ 486_000_000
-er-le housed.SlurryConventional = omega arith
-er-le housed.SlurryLabel = omega arith
-er-le housed.SlurryLabelOpen = omega arith
-er-le housed.DeepLitter = omega arith
-er-le housed.Outdoor = omega arith
 
 module _ (p : Pigs) where
   abbrev rate : ℕ

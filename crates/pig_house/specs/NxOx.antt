@@ -6,40 +6,9 @@ use Rattle.amounts.specs.Arithmetic.{Arithmetic, cutting}
 use Rattle.amounts.specs.Dividing.{dividing, handed}
 use Rattle.amounts.specs.Portion.{portion}
 use Rattle.kinds.specs.declared.HousingType.{HousingType}
-use Rattle.kinds.specs.declared.HousingType.the-variants as housed
-use Rattle.pig_house.specs.declared.NxOxRates.{NxOxRates}
 use Rattle.pig_house.specs.declared.NxOx.{NxOx}
-use Rattle.pig_house.specs.Parameters.{«share_liquid»}
+use Rattle.pig_house.specs.Parameters.{«share_liquid», ratesOf}
 use Rattle.pig_house.specs.PigHouse.{allOrNothing}
-
--- ---- Technical Parameters, in ten-thousandths
-
--- of N2, NO and N2O, from the solid fraction and from the liquid one
-abbrev pub nxoxRates : ℕ → ℕ → ℕ → ℕ → ℕ → ℕ → NxOxRates
-nxoxRates n2s nos n2os n2l nol n2ol =
-    record {
-      «er_n2_nsolid» = n2s;
-      «er_no_nsolid» = nos;
-      «er_n2o_nsolid» = n2os;
-      «er_n2_nliquid» = n2l;
-      «er_no_nliquid» = nol;
-      «er_n2o_nliquid» = n2ol;
-    }
-
--- er_…_solid_Slurry and er_…_liquid_Slurry
-abbrev pub slurryRates : NxOxRates
-slurryRates = nxoxRates 200 20 20 200 20 20
-
--- er_…_solid_Solid and er_…_liquid_Solid
-abbrev pub solidRates : NxOxRates
-solidRates = nxoxRates 500 100 100 500 100 100
-
-abbrev pub ratesOf : HousingType → NxOxRates
-ratesOf housed.SlurryConventional = slurryRates
-ratesOf housed.SlurryLabel = slurryRates
-ratesOf housed.SlurryLabelOpen = slurryRates
-ratesOf housed.DeepLitter = solidRates
-ratesOf housed.Outdoor = nxoxRates 0 0 0 0 0 0
 
 -- ---- the gases
 

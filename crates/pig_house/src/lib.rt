@@ -43,6 +43,15 @@ pub struct NxOxRates {
     pub er_n2o_nliquid: u64,
 }
 
+// What a type of housing stands for: er of 2.53 to 2.57 in thousandths, share_liquid, all or nothing, share_indoor of
+// 2.52 in tenths, the rates of the gases.
+pub struct HousingRow {
+    pub er: u64,
+    pub share_liquid: u64,
+    pub share_indoor: u64,
+    pub rates: NxOxRates,
+}
+
 // The gases from one fraction.
 pub struct FromFraction {
     pub n2: Quotient,
