@@ -4,3 +4,4 @@ pub mod LabelTexts
 pub mod Slots
 pub mod Empty
 pub mod Narrow
+pub mod Numbered
