@@ -1,6 +1,5 @@
 -- 01's table of refusals, a second time and by count: the thirteen faults in its order, its words beside each, have the
 -- numbers 1 to 13. Assumes nothing.
-use Prim.Native.Nat.{ℕ}
 use mathlib.Core.Path.{_≡_, refl}
 use mathlib.Core.List.{List, [], _∷_, map}
 use Rattle.farm.specs.declared.Fault.{Fault}

@@ -1,6 +1,5 @@
 -- 02, W10, the refusals of a log a second time and by count, its words beside each; 14 is the first number that is none
 -- of 01's thirteen. Assumes nothing.
-use Prim.Native.Nat.{ℕ}
 use mathlib.Core.Path.{_≡_, refl}
 use mathlib.Core.List.{List, [], _∷_, map}
 use Rattle.gate_days.specs.declared.LogFault.{LogFault}

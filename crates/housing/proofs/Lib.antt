@@ -1,3 +1,4 @@
 pub mod InHousing
 pub mod Truths
 pub mod Growing
+pub mod ByHand

@@ -1,2 +1,3 @@
 pub mod TallySteps
 pub mod Tallied
+pub mod ByHand
