@@ -33,9 +33,9 @@ use Rattle.pig_house.specs.Parameters.{
   «red_air_scrubber»,
   «red_housing_floor»,
   «red_housing_air»,
+  ratesOf,
 }
 use Rattle.pig_house.specs.PigHouse.{allOrNothing}
-use Rattle.pig_house.specs.NxOx.{ratesOf}
 use Rattle.cuts.specs.Herd.{quotientUnder}
 use Rattle.cuts.specs.Divisions.{Named}
 
