@@ -16,11 +16,11 @@ use Rattle.digits.specs.Digits.{pointFrom, fractionFrom}
 use Rattle.tables.specs.Standards.{«standard_N_excretion», standardOf}
 use Rattle.page.specs.Printed.{Printed, table, IsPrinted, standards, solubleShares, keyed, name}
 
-abbrev isValue : ℕ → Number → Bool
+abbrev pub isValue : ℕ → Number → Bool
 isValue n (Value v) = eqb v n
 isValue n Unreadable = false
 
-is-value : (n : ℕ) (r : Number) → T (isValue n r) → r ≡ Value n
+pub is-value : (n : ℕ) (r : Number) → T (isValue n r) → r ≡ Value n
 is-value n (Value v) t = ap Value (eqb→eq v n t)
 is-value n Unreadable t = absurd t
 
