@@ -1,5 +1,5 @@
--- Files on both sides of the rules, computed from the definitions under one statement: the pigs of 01, its row 10, and
--- a file for each refusal of reading. Assumes nothing.
+-- Files on both sides of the rules, computed from the definitions under one statement: the pigs of 01, a whole file of
+-- each other kind, its row 10, and a file for each refusal of reading. Assumes nothing.
 use Prim.Native.Nat.{ℕ, zero, suc, _+_, _-_, _/_, _%_}
 use Prim.Native.String.{String}
 use mathlib.Core.Path.{_≡_, refl, ap}
@@ -11,7 +11,8 @@ use Rattle.base.specs.Part.{part, sameBytes, lower, lowered}
 use Rattle.grammar.specs.Reading.{atStart, inPlain, inQuotes, pastQuote, pastCR, readingFrom, readingOf}
 use Rattle.numbers.specs.Reading.{wholeFrom, zeroFrom, anyNumberOf, numberOf}
 use Rattle.digits.specs.Digits.{fractionFrom, pointFrom}
-use Rattle.inputs.specs.declared.Kind.the-variants.{Roughage, Pigs}
+use Rattle.inputs.specs.declared.Kind.{Kind}
+use Rattle.inputs.specs.declared.Kind.the-variants.{Roughage, Cattle, Pigs, DairyCow}
 use Rattle.words.specs.Find.{firstFrom, isName, findText}
 use Rattle.names.specs.Find.{findName}
 use Rattle.inputs.specs.Inputs.{countOf}
@@ -70,6 +71,9 @@ freed label value = line label "Livestock::FatteningPigs::Housing::CFreeFactor" 
 
 abbrev cows : String → String → List ℕ
 cows name value = line "C1" "Livestock::DairyCow::Excretion" name value
+
+abbrev heifers : String → String → List ℕ
+heifers name value = line "C1" "Livestock::OtherCattle::Excretion" name value
 
 abbrev deer : String → String → List ℕ
 deer name value = line "D" "Livestock::RoughageConsuming::Excretion" name value
@@ -151,6 +155,35 @@ deerHerd =
           ∷ slot (Value 365) ∷ slot (Value 75) ∷ replicate (slots - countOf Roughage) noSlot;
     }
 
+-- ten heads of other cattle or of dairy cows, by the modules of their kind: the TAN as given, a yard and a pasture for
+-- a part of the year each, every input of the two modules with a value of its own
+abbrev grazers : String → String → String → List ℕ
+grazers excretion outdoor tan =
+    line "C1" excretion "animals" "10"
+    ++ line "C1" excretion "inp_n_excretion" "73"
+    ++ line "C1" excretion "tan_fraction" tan
+    ++ line "C1" outdoor "yard_days" "300"
+    ++ line "C1" outdoor "exercise_yard" "available_roughage_is_not_supplied_in_the_exercise_yard"
+    ++ line "C1" outdoor "floor_properties_exercise_yard" "perforated_floor"
+    ++ line "C1" outdoor "free_correction_factor" "-25"
+    ++ line "C1" outdoor "grazing_days" "200"
+    ++ line "C1" outdoor "grazing_hours" "12"
+
+abbrev cattleFile : List ℕ
+cattleFile = grazers "Livestock::OtherCattle::Excretion" "Livestock::OtherCattle::Outdoor" "60"
+
+abbrev dairyFile : List ℕ
+dairyFile = grazers "Livestock::DairyCow::Excretion" "Livestock::DairyCow::Outdoor" "standard"
+
+abbrev grazingHerd : Kind → Given → Herd
+grazingHerd k tan =
+    record {
+      label = labelOf (bytes "C1");
+      kind = k;
+      slots = slot (Value 10) ∷ slot (Value 73000) ∷ slot tan ∷ slot (Value 300) ∷ slot (Value 1) ∷ slot (Value 2)
+          ∷ slot (Signed (negsuc 24)) ∷ slot (Value 200) ∷ slot (Value 120) ∷ replicate (slots - countOf k) noSlot;
+    }
+
 -- so many herds of one record each, by two digits from these on
 abbrev herdsFrom : ℕ → ℕ → List ℕ
 herdsFrom n zero = []
@@ -180,6 +213,8 @@ examples =
     ∷ (pigsMitigated "-25" gives accepted (farmOf (pigsHoused 2 1 0 0 (negsuc 24) ∷ [])))
     ∷ (pigsMitigated "-100" gives accepted (farmOf (pigsHoused 2 1 0 0 (negsuc 99) ∷ [])))
     ∷ (pigs ++ deerFile gives accepted (farmOf (pigHerd ∷ deerHerd ∷ [])))
+    ∷ (cattleFile gives accepted (farmOf (grazingHerd Cattle (Value 6000) ∷ [])))
+    ∷ (dairyFile gives accepted (farmOf (grazingHerd DairyCow Standard ∷ [])))
     ∷ (pigs ++ bytes "\n" gives refused 9 RecordBroken)
     ∷ (bytes "a,b,c,d,e,f\"" gives refused 1 RecordBroken)
     ∷ (pigs ++ bytes "\r" gives refused 9 RecordBroken)
@@ -191,7 +226,11 @@ examples =
     ∷ (pig "\"P\"\"1\"" "animals" "10" gives refused 1 BadLabel)
     ∷ (pig "\"P,1\"" "animals" "10" gives refused 1 InputMissing)
     ∷ (pig "P1" "Animals" "10" gives refused 1 NotInTheList)
+    -- `standard` where it may not stand is 6, and 7 where it is no word of the input at all
+    ∷ (pig "P1" "inp_n_excretion" "standard" gives refused 1 StandardForbidden)
     ∷ (pig "P1" "tan_fraction" "standard" gives refused 1 StandardForbidden)
+    ∷ (heifers "inp_n_excretion" "standard" gives refused 1 StandardForbidden)
+    ∷ (heifers "tan_fraction" "Standard" gives refused 1 StandardForbidden)
     ∷ (pig "P1" "animals" "10001" gives refused 1 BadValue)
     ∷ (pig "P1" "animals" "standard" gives refused 1 BadValue)
     ∷ (pig "P1" "animals" "1.0" gives refused 1 BadValue)
@@ -220,8 +259,7 @@ examples =
     ∷ (cows "inp_n_excretion" "standard" gives refused 1 StandardForbidden)
     ∷ (cows "tan_fraction" "Standard" gives refused 1 InputMissing)
     ∷ (cows "yard_days" "1" gives refused 1 NotInTheList)
-    ∷ (cows "animals" "1"
-    ++ line "C1" "Livestock::OtherCattle::Excretion" "tan_fraction" "55" gives refused 2 OtherKind)
+    ∷ (cows "animals" "1" ++ heifers "tan_fraction" "55" gives refused 2 OtherKind)
     ∷ (pigs ++ pig "P2" "animals" "1" ++ pig "P1" "animals" "1" gives refused 10 EarlierLabel)
     ∷ (herdsFrom 10 64 gives refused 1 InputMissing)
     ∷ (herdsFrom 10 65 gives refused 65 NoRoomForHerd)
