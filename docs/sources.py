@@ -20,6 +20,9 @@ faults = []
 def made():
     """The text of each source that is made, by its path."""
     sources = {
+        "words/src/modules.rt": modules,
+        "words/src/input_names.rt": input_names,
+        "names/src/lists.rt": value_names,
         "inputs/src/slots.rt": slots,
         "outputs/src/names.rt": output_numbers,
         "outputs/src/total_names.rt": total_numbers,
@@ -38,8 +41,9 @@ DEFINITION = re.compile(r"^(\S.*?) =((?: .*)?\n(?: +.*\n)*)", re.M)
 
 
 def definitions(page):
-    """What stands behind each `name =` of a page, or `name argument =`, on one line."""
-    return {head: " ".join(body.split()) for head, body in DEFINITION.findall((CRATES / page).read_text())}
+    """What stands behind each `name =` of a page, or `name argument =`, on one line and without comments."""
+    text = re.sub("--.*", "", (CRATES / page).read_text())
+    return {head: " ".join(body.split()) for head, body in DEFINITION.findall(text)}
 
 
 def rows(page, name, row):
@@ -75,26 +79,30 @@ def comment(says):
     return "".join(f"// {line}\n" for line in textwrap.wrap(says, WIDTH - 3))
 
 
-def constants(numbers, type="usize"):
-    return "\n".join(f"pub const {name}: {type} = {number};\n" for name, number in numbers)
+def constants(numbers, of="usize"):
+    return "\n".join(f"pub const {name}: {of} = {number};\n" for name, number in numbers)
 
 
-def numbered(names, says):
-    """A constant for each name, its place; and how many there are, which is what `says` is said of."""
-    places = constants((constant(name), place) for place, name in enumerate(names))
-    return f"{places}\n{comment(says)}{constants([('COUNT', len(names))])}"
+def numbered(names):
+    """A constant for each name, its place."""
+    return constants((constant(name), place) for place, name in enumerate(names))
+
+
+def count(names, says):
+    return comment(says) + constants([("COUNT", len(names))])
 
 
 def constant(name):
-    return re.sub(r"\W", "_", name).upper()
+    apart = re.sub("(?<=[a-z])(?=[A-Z])", "_", name)
+    return re.sub(r"\W+", "_", apart).upper()
 
 
-def array(name, type, entries, says=""):
+def array(name, of, entries, says=""):
     """A table on one line, or with a line for each entry."""
     line = ", ".join(map(str, entries))
     if len(line) + 2 > ARRAY_WIDTH:
         line = "\n" + "".join(f"    {entry},\n" for entry in entries)
-    return f"{comment(says)}pub const {name}: [{type}; {len(entries)}] = [{line}];\n"
+    return f"{comment(says)}pub const {name}: [{of}; {len(entries)}] = [{line}];\n"
 
 
 def starts(lists):
@@ -102,11 +110,21 @@ def starts(lists):
     return [sum(map(len, lists[:place])) for place in range(len(lists) + 1)]
 
 
+def text(name, parts, says=""):
+    """Texts one after the other, a line each in the source."""
+    literal = "".join(as_literal(line) for part in parts for line in part.splitlines(keepends=True))
+    return f"{comment(says)}pub const {name}: [u8; {starts(parts)[-1]}] = *b\"\\\n{literal}\";\n"
+
+
 def text_table(name, starts_name, table, says=""):
     """Texts one after the other, and where each starts."""
-    literal = "".join(as_literal(line) for text in table for line in text.splitlines(keepends=True))
-    whole = f"{comment(says)}pub const {name}: [u8; {starts(table)[-1]}] = *b\"\\\n{literal}\";\n"
-    return whole + "\n" + array(starts_name, "usize", starts(table))
+    return text(name, table, says) + "\n" + array(starts_name, "usize", starts(table))
+
+
+def word_table(name, lengths_name, words, says=""):
+    """Words as one text, with a space between two, and the length of each."""
+    spaced = [f"{word} " for word in words[:-1]] + words[-1:]
+    return text(name, spaced, says) + "\n" + array(lengths_name, "u8", [len(word) for word in words])
 
 
 def as_literal(line):
@@ -115,29 +133,65 @@ def as_literal(line):
     return re.sub("^ ", r"\\x20", escaped) + "\\\n"
 
 
+# ---- the words of a record
+
+WORDS = "words/specs/Find.antt"
+VALUES = "names/specs/Names.antt"
+
+
+def modules():
+    paths = texts(WORDS, "modules")
+    return source(
+        "The paths of modules (01, The farm file): their numbers, and the words as one text, with the length of each."
+        " Made by docs/tables from the modules of specs/Find.antt.",
+        numbered(path.removeprefix("Livestock::") for path in paths),
+        word_table("WORDS", "LENGTHS", paths),
+    )
+
+
+def input_names():
+    names = texts(WORDS, "inputNames")
+    return source(
+        "The input names (01, The farm file): their numbers, and the words as one text, with the length of each. Made"
+        " by docs/tables from the inputNames of specs/Find.antt.",
+        numbered(names),
+        word_table("WORDS", "LENGTHS", names),
+    )
+
+
+def value_names():
+    lists = {body: texts(VALUES, body) for head, body in definitions(VALUES).items() if head.startswith("namesOf ")}
+    return source(
+        "The names that a value may be, list by list: how many there are, and the names as one text, with the length of"
+        " each. Made by docs/tables from the lists of specs/Names.antt.",
+        *(
+            constants([(f"{constant(name)}_COUNT", len(names))])
+            + "\n"
+            + word_table(constant(name), f"{constant(name)}_LENGTHS", names)
+            for name, names in lists.items()
+        ),
+    )
+
+
 # ---- the input list
 
 INPUTS = "inputs/specs/Inputs.antt"
-Input = namedtuple("Input", "module name form")
-
-
-def inputs():
-    """The inputs of each kind, in the order of their slots."""
-    kinds = [head.split()[1] for head in definitions(INPUTS) if head.startswith("rowsOf ")]
-    row = r'"([\w:]+)" has "(\w+)" reads ([\w ]+)'
-    return {kind: [Input(*found) for found in rows(INPUTS, f"rowsOf {kind}", row)] for kind in kinds}
 
 
 def slots():
-    kinds = {}
-    for kind, its_inputs in inputs().items():
-        kinds.setdefault(tuple(constant(i.name) for i in its_inputs), []).append(kind)
+    kinds = {}  # those whose inputs have the same names, by the names
+    for head in definitions(INPUTS):
+        if head.startswith("rowsOf "):
+            names = rows(INPUTS, head, r'"[\w:]+" has "(\w+)" reads [\w ]+')
+            kinds.setdefault(tuple(names), []).append(head.split()[1])
     return source(
-        "The slots of a kind's inputs by name: `slots::CATTLE_YARD_DAYS`. Kinds whose inputs have the same names, in the"
-        " same order, have one set. Made by docs/tables from rowsOf of specs/Inputs.antt.",
+        "The slots of a kind's inputs by name, `slots::CATTLE_YARD_DAYS`, and how many they are. Kinds whose inputs"
+        " have the same names, in the same order, have one set. Made by docs/tables from rowsOf of specs/Inputs.antt.",
         *(
             comment(" and ".join(of))
-            + constants((f"{constant(of[0])}_{name}", slot) for slot, name in enumerate(names))
+            + numbered(f"{of[0]}_{name}" for name in names)
+            + "\n"
+            + constants([(f"{constant(of[0])}_COUNT", len(names))])
             for names, of in kinds.items()
         ),
     )
@@ -164,9 +218,10 @@ def totals():
 
 def output_numbers():
     return source(
-        "The names of a herd's figures by number: `figures.grams[names::N_EXCRETION]`. Made by docs/tables from the rows"
-        " of specs/Names.antt.",
-        numbered([name.text for name in output_names()], "How many names there are."),
+        "The names of a herd's figures by number: `figures.grams[names::N_EXCRETION]`. Made by docs/tables from the"
+        " rows of specs/Names.antt.",
+        numbered(name.text for name in output_names()),
+        count(output_names(), "How many names there are."),
     )
 
 
@@ -174,7 +229,8 @@ def total_numbers():
     return source(
         "The names of a farm's totals by number: `totals.grams[total_names::NH3_NLIVESTOCK]`. Made by docs/tables from"
         " the totals of specs/Names.antt.",
-        numbered(totals(), "How many totals there are."),
+        numbered(totals()),
+        count(totals(), "How many totals there are."),
     )
 
 
@@ -201,7 +257,8 @@ def lists_of_lines():
     page = definitions(LISTS)
     kinds = {head.split()[1]: int(number) for head, number in page.items() if head.startswith("listNumber ")}
     firsts = re.findall(r"(\w+) ∷", page["listed"])
-    return [([k for k in kinds if kinds[k] == place], texts(LINES, f"linesOf {kind}")) for place, kind in enumerate(firsts)]
+    alike = [[kind for kind in kinds if kinds[kind] == place] for place in range(len(firsts))]
+    return [(of, texts(LINES, f"linesOf {first}")) for of, first in zip(alike, firsts)]
 
 
 def lines(kinds, names):
@@ -261,7 +318,8 @@ def cut_numbers():
     return source(
         "The names of a herd's cuts by number: `cuts.cut_off[names::TAN_EXCRETION]`. Made by docs/tables from the rows"
         " of specs/Names.antt.",
-        numbered([name.text for name in cut_names()], "How many names there are."),
+        numbered(name.text for name in cut_names()),
+        count(cut_names(), "How many names there are."),
     )
 
 

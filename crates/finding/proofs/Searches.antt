@@ -14,7 +14,7 @@ use Rattle.base.specs.Part.{sameBytes}
 use Rattle.base.proofs.Holds.{both-true}
 use Rattle.words.specs.declared.Found.{Found}
 use Rattle.words.specs.declared.Found.the-variants as founds
-use Rattle.words.specs.Find.{findText, isAt, modules, inputNames}
+use Rattle.words.specs.Find.{findText, isAt, modules, inputNames, placeIn}
 use Rattle.words.proofs.Places.{same-text-at, modules-once, input-names-once}
 use Rattle.inputs.specs.declared.Kind.{Kind}
 use Rattle.inputs.specs.declared.Kind.the-variants.{Roughage, Cattle, Pigs, DairyCow}
@@ -24,7 +24,7 @@ use Rattle.finding.specs.declared.Module.the-variants as stretches
 use Rattle.finding.specs.declared.FoundInput.{FoundInput}
 use Rattle.finding.specs.declared.FoundInput.the-variants.{At, Nowhere}
 use Rattle.inputs.specs.Inputs.{Row, rowsOf, kinds, rowAt}
-use Rattle.inputs.specs.Numbered.{placeIn, numbered}
+use Rattle.inputs.specs.Numbered.{numbered}
 use Rattle.finding.specs.Find.{
   isRow,
   firstRow,

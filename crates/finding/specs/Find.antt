@@ -7,14 +7,13 @@ use Rattle.base.specs.Pick.{pick}
 use Rattle.base.specs.Text.{bytes}
 use Rattle.base.specs.Part.{sameBytes}
 use Rattle.words.specs.declared.Found.{Found}
-use Rattle.words.specs.Find.{modules, inputNames, isAt}
+use Rattle.words.specs.Find.{modules, inputNames, isAt, placeIn}
 use Rattle.inputs.specs.declared.Kind.{Kind}
 use Rattle.finding.specs.declared.Module.{Module}
 use Rattle.finding.specs.declared.Module.the-variants as stretches
 use Rattle.finding.specs.declared.FoundInput.{FoundInput}
 use Rattle.finding.specs.declared.FoundInput.the-variants.{At, Nowhere}
 use Rattle.inputs.specs.Inputs.{Row, rowsOf, kinds, rowAt}
-use Rattle.inputs.specs.Numbered.{placeIn}
 
 -- a record's module m and input name n are the row's
 unfoldable pub isRow : List ℕ → List ℕ → Row → Bool

@@ -3,6 +3,7 @@
 use inputs::Form;
 use inputs::Kind;
 use words::Found;
+use words::modules;
 ghost use mathlib.Core.Path.{_≡_};
 ghost use Rattle.words.specs.declared.Found.{Found};
 ghost use Rattle.words.specs.declared.Found.the-variants.{At};
@@ -26,18 +27,18 @@ fn module_at(place: usize) -> Module
     ensures { λ r. ⌜ ((name : Found) → findPlaced (At place) name ≡ findWithin r name) ⌝ }
 {
     match place {
-        words::ROUGHAGE_EXCRETION => Module::Of(Kind::Roughage, 0, 4),
-        words::ROUGHAGE_HOUSING => Module::Of(Kind::Roughage, 4, 5),
-        words::ROUGHAGE_GRAZING => Module::Of(Kind::Roughage, 5, 7),
-        words::CATTLE_EXCRETION => Module::Of(Kind::Cattle, 0, 3),
-        words::CATTLE_OUTDOOR => Module::Of(Kind::Cattle, 3, 9),
-        words::PIGS_EXCRETION => Module::Of(Kind::Pigs, 0, 3),
-        words::PIGS_HOUSING => Module::Of(Kind::Pigs, 3, 4),
-        words::PIGS_AIR_SCRUBBER => Module::Of(Kind::Pigs, 4, 5),
-        words::PIGS_MITIGATION => Module::Of(Kind::Pigs, 5, 7),
-        words::PIGS_FREE_FACTOR => Module::Of(Kind::Pigs, 7, 8),
-        words::DAIRY_EXCRETION => Module::Of(Kind::DairyCow, 0, 3),
-        words::DAIRY_OUTDOOR => Module::Of(Kind::DairyCow, 3, 9),
+        modules::ROUGHAGE_CONSUMING_EXCRETION => Module::Of(Kind::Roughage, 0, 4),
+        modules::ROUGHAGE_CONSUMING_HOUSING_CFREE_FACTOR => Module::Of(Kind::Roughage, 4, 5),
+        modules::ROUGHAGE_CONSUMING_GRAZING => Module::Of(Kind::Roughage, 5, 7),
+        modules::OTHER_CATTLE_EXCRETION => Module::Of(Kind::Cattle, 0, 3),
+        modules::OTHER_CATTLE_OUTDOOR => Module::Of(Kind::Cattle, 3, 9),
+        modules::FATTENING_PIGS_EXCRETION => Module::Of(Kind::Pigs, 0, 3),
+        modules::FATTENING_PIGS_HOUSING_TYPE => Module::Of(Kind::Pigs, 3, 4),
+        modules::FATTENING_PIGS_HOUSING_AIR_SCRUBBER => Module::Of(Kind::Pigs, 4, 5),
+        modules::FATTENING_PIGS_HOUSING_MITIGATION_OPTIONS => Module::Of(Kind::Pigs, 5, 7),
+        modules::FATTENING_PIGS_HOUSING_CFREE_FACTOR => Module::Of(Kind::Pigs, 7, 8),
+        modules::DAIRY_COW_EXCRETION => Module::Of(Kind::DairyCow, 0, 3),
+        modules::DAIRY_COW_OUTDOOR => Module::Of(Kind::DairyCow, 3, 9),
         _ => Module::Nowhere,
     }
 }

@@ -1,10 +1,11 @@
 // 01's list of inputs, once: for each kind of herd its inputs, each with its name and how its value reads. The reader
 // and the record checks go by it. An input is known by its kind and its slot, its place among the inputs of the kind. A
-// new input is an arm of its kind's function and a row in specs/Inputs.antt, at the end of its kind's, with its kind's
-// count, and its module's stretch in crate `finding`; a new name or module has its text in crate `words`.
-pub mod slots; // the slots by name
+// new input is an arm of its kind's function and a row in specs/Inputs.antt, at the end of its kind's, and its module's
+// stretch in crate `finding`; a new name or module is a row in crate `words`.
+pub mod slots; // the slots by name, and how many they are
 
 use names::Names;
+use words::input_names;
 ghost use mathlib.Core.Path.{_≡_};
 ghost use Rattle.inputs.specs.declared.Kind.the-variants.{Roughage, Cattle, Pigs, DairyCow};
 ghost use Rattle.inputs.specs.Inputs.{numberOf, sameKind, countOf, rowAt, formOf};
@@ -84,10 +85,10 @@ pub fn count_of(kind: Kind) -> usize
     ensures { λ r. ⌜ r ≡ countOf kind ⌝ }
 {
     match kind {
-        Kind::Roughage => 7,
-        Kind::Cattle => 9,
-        Kind::Pigs => 8,
-        Kind::DairyCow => 9,
+        Kind::Roughage => slots::ROUGHAGE_COUNT,
+        Kind::Cattle => slots::CATTLE_COUNT,
+        Kind::Pigs => slots::PIGS_COUNT,
+        Kind::DairyCow => slots::CATTLE_COUNT,
     }
 }
 
@@ -99,13 +100,13 @@ fn roughage(slot: usize) -> Input
     ensures { λ r. ⌜ r ≡ numbered (rowAt Roughage slot) ⌝ }
 {
     match slot {
-        0 => Input(words::ANIMALCATEGORY, CATEGORY),
-        1 => Input(words::ANIMALS, HEAD_COUNT),
-        2 => Input(words::INP_N_EXCRETION, KILOGRAMS_OR_STANDARD),
-        3 => Input(words::TAN_FRACTION, PERCENTAGE_OR_STANDARD),
-        4 => Input(words::FREE_CORRECTION_FACTOR, REDUCTION),
-        5 => Input(words::GRAZING_DAYS, DAYS),
-        _ => Input(words::GRAZING_HOURS, HOURS),
+        0 => Input(input_names::ANIMALCATEGORY, CATEGORY),
+        1 => Input(input_names::ANIMALS, HEAD_COUNT),
+        2 => Input(input_names::INP_N_EXCRETION, KILOGRAMS_OR_STANDARD),
+        3 => Input(input_names::TAN_FRACTION, PERCENTAGE_OR_STANDARD),
+        4 => Input(input_names::FREE_CORRECTION_FACTOR, REDUCTION),
+        5 => Input(input_names::GRAZING_DAYS, DAYS),
+        _ => Input(input_names::GRAZING_HOURS, HOURS),
     }
 }
 
@@ -113,15 +114,15 @@ fn cattle(slot: usize) -> Input
     ensures { λ r. ⌜ r ≡ numbered (rowAt Cattle slot) ⌝ }
 {
     match slot {
-        0 => Input(words::ANIMALS, HEAD_COUNT),
-        1 => Input(words::INP_N_EXCRETION, KILOGRAMS),
-        2 => Input(words::TAN_FRACTION, PERCENTAGE),
-        3 => Input(words::YARD_DAYS, DAYS),
-        4 => Input(words::EXERCISE_YARD, YARD),
-        5 => Input(words::FLOOR_PROPERTIES_EXERCISE_YARD, FLOOR),
-        6 => Input(words::FREE_CORRECTION_FACTOR, REDUCTION),
-        7 => Input(words::GRAZING_DAYS, DAYS),
-        _ => Input(words::GRAZING_HOURS, HOURS),
+        0 => Input(input_names::ANIMALS, HEAD_COUNT),
+        1 => Input(input_names::INP_N_EXCRETION, KILOGRAMS),
+        2 => Input(input_names::TAN_FRACTION, PERCENTAGE),
+        3 => Input(input_names::YARD_DAYS, DAYS),
+        4 => Input(input_names::EXERCISE_YARD, YARD),
+        5 => Input(input_names::FLOOR_PROPERTIES_EXERCISE_YARD, FLOOR),
+        6 => Input(input_names::FREE_CORRECTION_FACTOR, REDUCTION),
+        7 => Input(input_names::GRAZING_DAYS, DAYS),
+        _ => Input(input_names::GRAZING_HOURS, HOURS),
     }
 }
 
@@ -129,14 +130,14 @@ fn pigs(slot: usize) -> Input
     ensures { λ r. ⌜ r ≡ numbered (rowAt Pigs slot) ⌝ }
 {
     match slot {
-        0 => Input(words::ANIMALS, HEAD_COUNT),
-        1 => Input(words::INP_N_EXCRETION, KILOGRAMS),
-        2 => Input(words::TAN_FRACTION, PERCENTAGE),
-        3 => Input(words::HOUSING_TYPE, HOUSING_TYPE),
-        4 => Input(words::AIR_SCRUBBER, AIR_SCRUBBER),
-        5 => Input(words::MITIGATION_HOUSING_FLOOR, HOUSING_FLOOR),
-        6 => Input(words::MITIGATION_HOUSING_AIR, HOUSING_AIR),
-        _ => Input(words::FREE_CORRECTION_FACTOR, REDUCTION),
+        0 => Input(input_names::ANIMALS, HEAD_COUNT),
+        1 => Input(input_names::INP_N_EXCRETION, KILOGRAMS),
+        2 => Input(input_names::TAN_FRACTION, PERCENTAGE),
+        3 => Input(input_names::HOUSING_TYPE, HOUSING_TYPE),
+        4 => Input(input_names::AIR_SCRUBBER, AIR_SCRUBBER),
+        5 => Input(input_names::MITIGATION_HOUSING_FLOOR, HOUSING_FLOOR),
+        6 => Input(input_names::MITIGATION_HOUSING_AIR, HOUSING_AIR),
+        _ => Input(input_names::FREE_CORRECTION_FACTOR, REDUCTION),
     }
 }
 
@@ -145,7 +146,7 @@ fn dairy_cow(slot: usize) -> Input
     ensures { λ r. ⌜ r ≡ numbered (rowAt DairyCow slot) ⌝ }
 {
     match slot {
-        2 => Input(words::TAN_FRACTION, PERCENTAGE_OR_STANDARD),
+        2 => Input(input_names::TAN_FRACTION, PERCENTAGE_OR_STANDARD),
         _ => cattle(slot),
     }
 }

@@ -47,7 +47,7 @@ floors = "solid_floor" ∷ "unpaved_floor" ∷ "perforated_floor" ∷ "paddock_o
 abbrev pub housingTypes : List String
 housingTypes = "Slurry_Conventional" ∷ "Slurry_Label" ∷ "Slurry_Label_Open" ∷ "Deep_Litter" ∷ "Outdoor" ∷ []
 
--- 2.58, red_air_scrubber
+-- 2.58, red_air_scrubber: the formula's names, not the text's
 abbrev pub airScrubbers : List String
 airScrubbers = "acid" ∷ "biotrickling" ∷ "none" ∷ []
 

@@ -6,6 +6,7 @@ use mathlib.Core.Bool.{Bool, false}
 use mathlib.Core.List.{List, [], _∷_}
 use lib.Dec.{eqb}
 use lib.ListN.{take, drop}
+use lib.Text.{eqt}
 use Rattle.base.specs.Pick.{pick}
 use Rattle.base.specs.Text.{bytes}
 use Rattle.base.specs.Part.{sameBytes}
@@ -65,6 +66,11 @@ inputNames =
     ∷ "mitigation_housing_floor"
     ∷ "mitigation_housing_air"
     ∷ []
+
+-- the place of a name in a list; past the last where it has none
+abbrev pub placeIn : List String → String → ℕ
+placeIn [] name = 0
+placeIn (n ∷ names) name = pick (eqt name n) 0 (1 + placeIn names name)
 
 -- the words of a text that have these lengths, with one byte between them
 unfoldable pub wordsOf : List ℕ → List ℕ → List (List ℕ)
