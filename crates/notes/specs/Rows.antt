@@ -8,9 +8,10 @@ use mathlib.Core.Bool.{Bool}
 use mathlib.Core.List.{List, [], _∷_, _++_}
 use mathlib.Core.Path.{_≡_}
 use lib.IntN.{ℤ, pos, _-ℤ_}
-use lib.Text.{eqt}
 use Rattle.base.specs.Pick.{pick}
-use Rattle.tables.specs.Standards.{Standard, «standard_N_excretion», _kg, _g}
+use Rattle.words.specs.Find.{placeIn}
+use Rattle.names.specs.Names.{categories}
+use Rattle.tables.specs.Standards.{_kg, _g}
 use Rattle.kinds.specs.declared.Entered.{Entered}
 use Rattle.kinds.specs.declared.Entered.the-variants as entered
 use Rattle.kinds.specs.declared.ExerciseYard.{ExerciseYard}
@@ -97,12 +98,8 @@ abbrev pub pigs : ℕ → ℕ → HousingType → Inputs
 pigs grams tan housing = pigsIn grams tan housing scrubbed.None aired.None (pos 0)
 
 -- a category by its name
-abbrev categoryAmong : String → List Standard → ℕ
-categoryAmong name [] = 0
-categoryAmong name (s ∷ ss) = pick (eqt name (s .category)) 0 (1 + categoryAmong name ss)
-
 abbrev pub category : String → ℕ
-category name = categoryAmong name «standard_N_excretion»
+category name = placeIn categories name
 
 -- ---- a row
 

@@ -13,7 +13,8 @@ use Rattle.digits.specs.declared.Number.{Number}
 use Rattle.digits.specs.declared.Number.the-variants.{Value, Unreadable}
 use Rattle.numbers.specs.Reading.{numberOf, anyNumberOf, zeroFrom, wholeFrom}
 use Rattle.digits.specs.Digits.{pointFrom, fractionFrom}
-use Rattle.tables.specs.Standards.{«standard_N_excretion», standardOf}
+use Rattle.names.specs.Names.{categories}
+use Rattle.tables.specs.Standards.{standardOf}
 use Rattle.page.specs.Printed.{Printed, table, IsPrinted, standards, solubleShares, keyed, name}
 
 abbrev pub isValue : ℕ → Number → Bool
@@ -44,9 +45,9 @@ pub every-parameter-printed : Each IsPrinted table
 unfolding numberOf anyNumberOf zeroFrom wholeFrom pointFrom fractionFrom standardOf
 every-parameter-printed = each-passed right right-printed table tt
 
--- the standards and the soluble shares stand in the order of our categories, under their keys
-pub standards-named : map (λ p. name (p .place)) standards ≡ map (keyed "standard_N_excretion_") «standard_N_excretion»
+-- the standards and the soluble shares stand in the order of 01's categories, under their keys
+pub standards-named : map (λ p. name (p .place)) standards ≡ map (keyed "standard_N_excretion_") categories
 standards-named = refl
 
-pub shares-named : map (λ p. name (p .place)) solubleShares ≡ map (keyed "share_Nsol_") «standard_N_excretion»
+pub shares-named : map (λ p. name (p .place)) solubleShares ≡ map (keyed "share_Nsol_") categories
 shares-named = refl

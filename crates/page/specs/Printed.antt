@@ -6,31 +6,24 @@
 -- looks each name and text up in 001.
 use Prim.Native.Nat.{ℕ, _^_}
 use Prim.Native.String.{String}
-use mathlib.Core.List.{List, [], _∷_, _++_}
+use mathlib.Core.List.{List, [], _∷_, _++_, map}
 use mathlib.Core.Path.{_≡_}
+use lib.ListN.{getD}
 use Rattle.base.specs.Text.{bytes}
 use Rattle.digits.specs.declared.Number.the-variants.{Value}
 use Rattle.numbers.specs.Reading.{numberOf}
-use Rattle.tables.specs.Standards.{Standard, _kg, standardOf, «share_Nsol», dairyStandard, dairyShare}
+use Rattle.words.specs.Find.{placeIn}
+use Rattle.names.specs.Names.{yards, floors, housingTypes, airScrubbers, housingFloors, housingAirs}
+use Rattle.tables.specs.Standards.{_kg, standardOf, «share_Nsol», dairyStandard, dairyShare}
 use Rattle.tables.specs.Growth.{«k_grazing_b»}
 use Rattle.amounts.specs.Units.{tenths, percent, thousandths, tenThousandths, billionths, year, day}
-use Rattle.kinds.specs.declared.ExerciseYard.the-variants.{NotAvailable}
-use Rattle.kinds.specs.declared.Floor.the-variants.{Solid, Unpaved, Perforated, Paddock}
-use Rattle.kinds.specs.declared.HousingType.the-variants as housed
-use Rattle.kinds.specs.declared.AirScrubber.the-variants as scrubber
-use Rattle.kinds.specs.declared.HousingFloor.the-variants as floor
-use Rattle.kinds.specs.declared.HousingAir.the-variants as air
+use Rattle.kinds.specs.declared.HousingType.{HousingType}
 use Rattle.kinds.specs.declared.CattleKind.the-variants.{OtherCattle, DairyCow}
+use Rattle.kinds.specs.Choices.{yardChoices, floorChoices, housingChoices, scrubberChoices, housingFloorChoices}
+use Rattle.kinds.specs.Choices.{housingAirChoices}
 use Rattle.rates.specs.Rates.{cattleRates, pigsRates, roughageRates}
 use Rattle.excretion.specs.Excretion.{leastOfStandard, mostOfStandard, mostOffShare}
-use Rattle.yard.specs.Yard.{
-  «er_yard»,
-  «red_floor_properties»,
-  «share_excretion»,
-  «share_available_roughage_is_exclusively_supplied_in_the_exercise_yard»,
-  «share_available_roughage_is_partly_supplied_in_the_exercise_yard»,
-  «share_available_roughage_is_not_supplied_in_the_exercise_yard»,
-}
+use Rattle.yard.specs.Yard.{«er_yard», «red_floor_properties», «share_excretion»}
 use Rattle.housing.specs.Housing.{«er_housing»}
 use Rattle.pig_house.specs.Parameters as pigs
 use Rattle.pig_house.specs.Parameters.{
@@ -87,6 +80,35 @@ pub record Printed : Type 0 where
 abbrev pub prints : String → Place → String → Unit → ℕ → Printed
 prints s p t u n = record { section = s; place = p; text = t; unit = u; parameter = n }
 
+-- ---- a parameter by the name that a file has for its choice: that of the choice at the name's place in 01's list
+
+-- more than any text here reads as, where the list has no such name
+abbrev unprinted : ℕ
+unprinted = 10 ^ 18
+
+abbrev named : {A : Type 0} → List String → List A → (A → ℕ) → String → ℕ
+named names choices parameter name = getD (map parameter choices) (placeIn names name) unprinted
+
+abbrev pub shareOf : String → ℕ
+shareOf = named yards yardChoices «share_excretion»
+
+abbrev pub floorOf : String → ℕ
+floorOf = named floors floorChoices «red_floor_properties»
+
+abbrev pub housingOf : (HousingType → ℕ) → String → ℕ
+housingOf = named housingTypes housingChoices
+
+abbrev pub scrubberOf : String → ℕ
+scrubberOf = named airScrubbers scrubberChoices «red_air_scrubber»
+
+abbrev pub housingFloorOf : String → ℕ
+housingFloorOf = named housingFloors housingFloorChoices «red_housing_floor»
+
+abbrev pub housingAirOf : String → ℕ
+housingAirOf = named housingAirs housingAirChoices «red_housing_air»
+
+-- ---- the sections
+
 -- 2.2
 abbrev pub dairyExcretion : List Printed
 dairyExcretion =
@@ -104,19 +126,19 @@ dairyOutdoor = prints "2.18" (out "days_with_grazing_and_yard") "365" wholes yea
 -- 2.19
 abbrev pub dairyYard : List Printed
 dairyYard =
-    prints "2.19" (out "share_excretion") "0" inTenths («share_excretion» NotAvailable)
+    prints "2.19" (out "share_excretion") "0" inTenths (shareOf "not_available")
     ∷ prints "2.19" (tech "er_yard") "0.7" inTenThousandths «er_yard»
     ∷ prints "2.19" (tech "share_available_roughage_is_exclusively_supplied_in_the_exercise_yard") "0.6" inTenths
-    «share_available_roughage_is_exclusively_supplied_in_the_exercise_yard»
+    (shareOf "available_roughage_is_exclusively_supplied_in_the_exercise_yard")
     ∷ prints "2.19" (tech "share_available_roughage_is_partly_supplied_in_the_exercise_yard") "0.2" inTenths
-    «share_available_roughage_is_partly_supplied_in_the_exercise_yard»
+    (shareOf "available_roughage_is_partly_supplied_in_the_exercise_yard")
     ∷ prints "2.19" (tech "share_available_roughage_is_not_supplied_in_the_exercise_yard") "0.1" inTenths
-    «share_available_roughage_is_not_supplied_in_the_exercise_yard»
-    ∷ prints "2.19" (tech "red_floor_properties_solid_floor") "0.0" inPercent («red_floor_properties» Solid)
-    ∷ prints "2.19" (tech "red_floor_properties_unpaved_floor") "0.5" inPercent («red_floor_properties» Unpaved)
-    ∷ prints "2.19" (tech "red_floor_properties_perforated_floor") "0.75" inPercent («red_floor_properties» Perforated)
+    (shareOf "available_roughage_is_not_supplied_in_the_exercise_yard")
+    ∷ prints "2.19" (tech "red_floor_properties_solid_floor") "0.0" inPercent (floorOf "solid_floor")
+    ∷ prints "2.19" (tech "red_floor_properties_unpaved_floor") "0.5" inPercent (floorOf "unpaved_floor")
+    ∷ prints "2.19" (tech "red_floor_properties_perforated_floor") "0.75" inPercent (floorOf "perforated_floor")
     ∷ prints "2.19" (tech "red_floor_properties_paddock_or_pasture_used_as_exercise_yard") "0.9" inPercent
-    («red_floor_properties» Paddock)
+    (floorOf "paddock_or_pasture_used_as_exercise_yard")
     ∷ []
 
 -- 2.20
@@ -136,19 +158,19 @@ outdoor = prints "2.33" (out "days_with_grazing_and_yard") "365" wholes year ∷
 -- 2.34
 abbrev pub yard : List Printed
 yard =
-    prints "2.34" (out "share_excretion") "0" inTenths («share_excretion» NotAvailable)
+    prints "2.34" (out "share_excretion") "0" inTenths (shareOf "not_available")
     ∷ prints "2.34" (tech "er_yard") "0.7" inTenThousandths «er_yard»
     ∷ prints "2.34" (tech "share_available_roughage_is_exclusively_supplied_in_the_exercise_yard") "0.6" inTenths
-    «share_available_roughage_is_exclusively_supplied_in_the_exercise_yard»
+    (shareOf "available_roughage_is_exclusively_supplied_in_the_exercise_yard")
     ∷ prints "2.34" (tech "share_available_roughage_is_partly_supplied_in_the_exercise_yard") "0.2" inTenths
-    «share_available_roughage_is_partly_supplied_in_the_exercise_yard»
+    (shareOf "available_roughage_is_partly_supplied_in_the_exercise_yard")
     ∷ prints "2.34" (tech "share_available_roughage_is_not_supplied_in_the_exercise_yard") "0.1" inTenths
-    «share_available_roughage_is_not_supplied_in_the_exercise_yard»
-    ∷ prints "2.34" (tech "red_floor_properties_solid_floor") "0.0" inPercent («red_floor_properties» Solid)
-    ∷ prints "2.34" (tech "red_floor_properties_unpaved_floor") "0.5" inPercent («red_floor_properties» Unpaved)
-    ∷ prints "2.34" (tech "red_floor_properties_perforated_floor") "0.75" inPercent («red_floor_properties» Perforated)
+    (shareOf "available_roughage_is_not_supplied_in_the_exercise_yard")
+    ∷ prints "2.34" (tech "red_floor_properties_solid_floor") "0.0" inPercent (floorOf "solid_floor")
+    ∷ prints "2.34" (tech "red_floor_properties_unpaved_floor") "0.5" inPercent (floorOf "unpaved_floor")
+    ∷ prints "2.34" (tech "red_floor_properties_perforated_floor") "0.75" inPercent (floorOf "perforated_floor")
     ∷ prints "2.34" (tech "red_floor_properties_paddock_or_pasture_used_as_exercise_yard") "0.9" inPercent
-    («red_floor_properties» Paddock)
+    (floorOf "paddock_or_pasture_used_as_exercise_yard")
     ∷ []
 
 -- 2.35
@@ -164,39 +186,39 @@ cattleGrazing =
 -- 2.52
 abbrev pub pigHouses : List Printed
 pigHouses =
-    prints "2.52" (out "share_indoor") "1" inTenths («share_indoor» housed.SlurryConventional)
-    ∷ prints "2.52" (out "share_indoor") "0.5" inTenths («share_indoor» housed.SlurryLabel)
-    ∷ prints "2.52" (out "share_indoor") "0.5" inTenths («share_indoor» housed.SlurryLabelOpen)
-    ∷ prints "2.52" (out "share_indoor") "1" inTenths («share_indoor» housed.DeepLitter)
-    ∷ prints "2.52" (out "share_indoor") "1" inTenths («share_indoor» housed.Outdoor)
+    prints "2.52" (out "share_indoor") "1" inTenths (housingOf «share_indoor» "Slurry_Conventional")
+    ∷ prints "2.52" (out "share_indoor") "0.5" inTenths (housingOf «share_indoor» "Slurry_Label")
+    ∷ prints "2.52" (out "share_indoor") "0.5" inTenths (housingOf «share_indoor» "Slurry_Label_Open")
+    ∷ prints "2.52" (out "share_indoor") "1" inTenths (housingOf «share_indoor» "Deep_Litter")
+    ∷ prints "2.52" (out "share_indoor") "1" inTenths (housingOf «share_indoor» "Outdoor")
     ∷ prints "2.52" (out "c_area") "1" wholes «c_area»
     ∷ []
 
 -- 2.53 to 2.57, a section a type
 abbrev pub pigHouseTypes : List Printed
 pigHouseTypes =
-    prints "2.53" (tech "er") "0.243" inBillionths (pigs.«er_housing» housed.SlurryConventional)
-    ∷ prints "2.53" (tech "share_liquid") "1" wholes («share_liquid» housed.SlurryConventional)
-    ∷ prints "2.54" (tech "er") "0.486" inBillionths (pigs.«er_housing» housed.SlurryLabel)
-    ∷ prints "2.54" (tech "share_liquid") "1" wholes («share_liquid» housed.SlurryLabel)
-    ∷ prints "2.55" (tech "er") "0.34" inBillionths (pigs.«er_housing» housed.SlurryLabelOpen)
-    ∷ prints "2.55" (tech "share_liquid") "1" wholes («share_liquid» housed.SlurryLabelOpen)
-    ∷ prints "2.56" (tech "er") "0.486" inBillionths (pigs.«er_housing» housed.DeepLitter)
-    ∷ prints "2.56" (tech "share_liquid") "0" wholes («share_liquid» housed.DeepLitter)
-    ∷ prints "2.57" (tech "er") "0" inBillionths (pigs.«er_housing» housed.Outdoor)
-    ∷ prints "2.57" (tech "share_liquid") "0" wholes («share_liquid» housed.Outdoor)
+    prints "2.53" (tech "er") "0.243" inBillionths (housingOf pigs.«er_housing» "Slurry_Conventional")
+    ∷ prints "2.53" (tech "share_liquid") "1" wholes (housingOf «share_liquid» "Slurry_Conventional")
+    ∷ prints "2.54" (tech "er") "0.486" inBillionths (housingOf pigs.«er_housing» "Slurry_Label")
+    ∷ prints "2.54" (tech "share_liquid") "1" wholes (housingOf «share_liquid» "Slurry_Label")
+    ∷ prints "2.55" (tech "er") "0.34" inBillionths (housingOf pigs.«er_housing» "Slurry_Label_Open")
+    ∷ prints "2.55" (tech "share_liquid") "1" wholes (housingOf «share_liquid» "Slurry_Label_Open")
+    ∷ prints "2.56" (tech "er") "0.486" inBillionths (housingOf pigs.«er_housing» "Deep_Litter")
+    ∷ prints "2.56" (tech "share_liquid") "0" wholes (housingOf «share_liquid» "Deep_Litter")
+    ∷ prints "2.57" (tech "er") "0" inBillionths (housingOf pigs.«er_housing» "Outdoor")
+    ∷ prints "2.57" (tech "share_liquid") "0" wholes (housingOf «share_liquid» "Outdoor")
     ∷ []
 
 -- 2.58 and 2.59
 abbrev pub pigMitigation : List Printed
 pigMitigation =
-    prints "2.58" (out "red_air_scrubber") "0" inTenths («red_air_scrubber» scrubber.None)
-    ∷ prints "2.58" (tech "red_acid_air_scrubber") "0.9" inTenths («red_air_scrubber» scrubber.Acid)
+    prints "2.58" (out "red_air_scrubber") "0" inTenths (scrubberOf "none")
+    ∷ prints "2.58" (tech "red_acid_air_scrubber") "0.9" inTenths (scrubberOf "acid")
     ∷ prints "2.58" (tech "red_biotrickling_filter_air_scrubber") "0.7" inTenths
-    («red_air_scrubber» scrubber.Biotrickling)
-    ∷ prints "2.59" (out "red_housing_floor") "0" wholes («red_housing_floor» floor.None)
-    ∷ prints "2.59" (out "red_housing_air") "0" inTenths («red_housing_air» air.None)
-    ∷ prints "2.59" (tech "red_low_impuls_air_supply") "0.2" inTenths («red_housing_air» air.LowImpulsAirSupply)
+    (scrubberOf "biotrickling")
+    ∷ prints "2.59" (out "red_housing_floor") "0" wholes (housingFloorOf "none")
+    ∷ prints "2.59" (out "red_housing_air") "0" inTenths (housingAirOf "none")
+    ∷ prints "2.59" (tech "red_low_impuls_air_supply") "0.2" inTenths (housingAirOf "low_impuls_air_supply")
     ∷ []
 
 -- 2.61
@@ -211,12 +233,12 @@ pigsGrazing =
 -- 2.62
 abbrev pub pigNxOx : List Printed
 pigNxOx =
-    prints "2.62" (out "er_n2_nsolid") "0" inTenThousandths (ratesOf housed.Outdoor .«er_n2_nsolid»)
-    ∷ prints "2.62" (out "er_n2_nliquid") "0" inTenThousandths (ratesOf housed.Outdoor .«er_n2_nliquid»)
-    ∷ prints "2.62" (out "er_no_nsolid") "0" inTenThousandths (ratesOf housed.Outdoor .«er_no_nsolid»)
-    ∷ prints "2.62" (out "er_no_nliquid") "0" inTenThousandths (ratesOf housed.Outdoor .«er_no_nliquid»)
-    ∷ prints "2.62" (out "er_n2o_nsolid") "0" inTenThousandths (ratesOf housed.Outdoor .«er_n2o_nsolid»)
-    ∷ prints "2.62" (out "er_n2o_nliquid") "0" inTenThousandths (ratesOf housed.Outdoor .«er_n2o_nliquid»)
+    prints "2.62" (out "er_n2_nsolid") "0" inTenThousandths (housingOf (λ t. ratesOf t .«er_n2_nsolid») "Outdoor")
+    ∷ prints "2.62" (out "er_n2_nliquid") "0" inTenThousandths (housingOf (λ t. ratesOf t .«er_n2_nliquid») "Outdoor")
+    ∷ prints "2.62" (out "er_no_nsolid") "0" inTenThousandths (housingOf (λ t. ratesOf t .«er_no_nsolid») "Outdoor")
+    ∷ prints "2.62" (out "er_no_nliquid") "0" inTenThousandths (housingOf (λ t. ratesOf t .«er_no_nliquid») "Outdoor")
+    ∷ prints "2.62" (out "er_n2o_nsolid") "0" inTenThousandths (housingOf (λ t. ratesOf t .«er_n2o_nsolid») "Outdoor")
+    ∷ prints "2.62" (out "er_n2o_nliquid") "0" inTenThousandths (housingOf (λ t. ratesOf t .«er_n2o_nliquid») "Outdoor")
     ∷ prints "2.62" (tech "er_n2_solid_Slurry") "0.02" inTenThousandths (slurryRates .«er_n2_nsolid»)
     ∷ prints "2.62" (tech "er_n2_solid_Solid") "0.05" inTenThousandths (solidRates .«er_n2_nsolid»)
     ∷ prints "2.62" (tech "er_n2_liquid_Slurry") "0.02" inTenThousandths (slurryRates .«er_n2_nliquid»)
@@ -313,8 +335,8 @@ pub record IsPrinted (p : Printed) : Type 0 where
   pub reads : numberOf (bytes (p .text)) (p .unit .decimals) (p .parameter) ≡ Value (p .parameter)
 
 -- 2.84's key of a category, `standard_N_excretion_` and its name, and what a row has in its place
-abbrev pub keyed : String → Standard → List ℕ
-keyed key s = bytes key ++ bytes (s .category)
+abbrev pub keyed : String → String → List ℕ
+keyed key category = bytes key ++ bytes category
 
 abbrev pub name : Place → List ℕ
 name (tech n) = bytes n

@@ -2,14 +2,8 @@
 -- year, in grams, and the soluble share of it. A category is known by its place in its list, which is in 01's order,
 -- counted from 0.
 use Prim.Native.Nat.{ℕ, _*_}
-use Prim.Native.String.{String}
-use mathlib.Core.List.{List, [], _∷_, map}
+use mathlib.Core.List.{List, [], _∷_}
 use lib.ListN.{getD}
-
--- a category's name, and its standard in grams
-pub record Standard : Type 0 where
-  pub category : String
-  pub grams : ℕ
 
 infix 69 _kg
 abbrev pub _kg : ℕ → ℕ
@@ -19,28 +13,10 @@ infix 69 _g
 abbrev pub _g : ℕ → ℕ
 n g = n
 
-infix 68 _excretes_
-abbrev pub _excretes_ : String → ℕ → Standard
-c excretes n = record { category = c; grams = n }
-
-abbrev pub «standard_N_excretion» : List Standard
-«standard_N_excretion» =
-    "fallow_deer" excretes 20 kg
-    ∷ "red_deer" excretes 40 kg
-    ∷ "wapiti" excretes 80 kg
-    ∷ "bison_older_than_3yr" excretes 60 kg
-    ∷ "bison_younger_than_3yr" excretes 20 kg
-    ∷ "lama_older_than_2yr" excretes 17 kg
-    ∷ "lama_younger_than_2yr" excretes 11 kg
-    ∷ "alpaca_older_than_2yr" excretes 11 kg
-    ∷ "alpaca_younger_than_2yr" excretes 7 kg
-    ∷ "rabbit_doe_kits" excretes 2600 g  -- 2.6 kg
-    ∷ "rabbit_young" excretes 790 g  -- 0.79 kg
-    ∷ []
-
--- the standards alone, in that order
+-- 2.84, standard_N_excretion, each at the place of its category in 01's list (crate `names`); crate `page` holds what
+-- 001 prints under each category's name
 abbrev pub standards : List ℕ
-standards = map (λ s. s .grams) «standard_N_excretion»
+standards = 20 kg ∷ 40 kg ∷ 80 kg ∷ 60 kg ∷ 20 kg ∷ 17 kg ∷ 11 kg ∷ 11 kg ∷ 7 kg ∷ 2600 g ∷ 790 g ∷ []
 
 -- the standard of a category; 0 past the last
 unfoldable pub standardOf : ℕ → ℕ
