@@ -20,7 +20,7 @@ pub fn herd_answer(h: Herd) -> HerdAnswer
                 figures,
                 kilograms: kilograms::kilograms_of(figures),
                 notes: herd_notes::notes_of(inputs),
-                cuts: herd_cuts::cuts_of(inputs),
+                cuts: herd_figures::cuts_of(inputs),
             }
         }
         Checked::Refused(fault, record) => {

@@ -53,6 +53,6 @@ pub fn put_herd(out: &mut [u8], at: usize, h: Herd) -> usize
         at,
         h.label,
         kind,
-        herd_cuts::cuts_of(herd_inputs::typed_of(h)),
+        herd_figures::cuts_of(herd_inputs::typed_of(h)),
     )
 }

@@ -15,7 +15,7 @@ use Rattle.cut.specs.declared.Quotient.{Quotient}
 use Rattle.cut.specs.Cut.{Divides, undivided}
 use Rattle.cut.proofs.Quotients.{divides}
 use Rattle.amounts.specs.Units.{year, day}
-use Rattle.amounts.specs.Dividing.{Divided, uncut, division, handed, worth, dividend}
+use Rattle.amounts.specs.Dividing.{Divided, uncut, division, handed, worth, dividend, dividing}
 use Rattle.kinds.specs.declared.Roughage.{Roughage}
 use Rattle.kinds.specs.declared.Cattle.{Cattle}
 use Rattle.kinds.specs.declared.Pigs.{Pigs}
@@ -23,13 +23,15 @@ use Rattle.kinds.specs.declared.AirScrubber.{AirScrubber}
 use Rattle.kinds.specs.declared.AirScrubber.the-variants as scrubber
 use Rattle.kinds.specs.declared.Inputs.{Inputs}
 use Rattle.kinds.specs.declared.Inputs.the-variants as kinds
-use Rattle.cuts.specs.Names.{Told, Row, rows, cutNumber}
+use Rattle.outputs.specs.Sections.{FiguresIn}
+use Rattle.herd.specs.Herd.{figuresIn}
+use Rattle.cuts.specs.Names.{Row, rows, cutNumber}
 use Rattle.cuts.specs.Cuts.{divisorOf, namesMade}
-use Rattle.cuts.specs.Herd.{madeNames, namesOf, toldOf, isOf, cutUnder, cutsOf, AddsUp}
+use Rattle.cuts.specs.Herd.{madeNames, namesOf, isOf, cutUnder, cutsOf, AddsUp}
 
 -- ---- a row, and any of the rows by its number
 
-module _ (names : List String) (h : Told) where
+module _ (names : List String) (h : FiguresIn dividing) where
   one : (b : Bool) (d : Divided) → 0 < pick b (handed d) (undivided 0) .divisor
       → Divides (dividend d) (record {
         whole = worth d;
@@ -56,7 +58,7 @@ module _ (names : List String) (h : Told) where
 -- every cut that a herd has adds up
 pub cuts-add-up : (i : Inputs) (t : String) → 0 < divisorOf t (cutsOf i) → AddsUp i (cutsOf i) t
 unfolding cutsOf
-cuts-add-up i t p = let d = any (namesOf i) (toldOf i) rows (cutNumber t) p in record { back = d .back; less = d .less }
+cuts-add-up i t p = let d = any (namesOf i) (figuresIn dividing i) rows (cutNumber t) p in record { back = d .back; less = d .less }
 
 -- ---- the names
 

@@ -1,5 +1,5 @@
 -- The formulas on the arithmetic that tells of divisions give the figures, number by number: so the quotient of a cut
--- that has a figure's name is that figure. Assumes nothing.
+-- that has a figure's name is that figure. And the sections that the code hands on give the cuts. Assumes nothing.
 use Prim.Native.Nat.{ℕ, zero, suc, _+_, _-_}
 use Prim.Native.String.{String}
 use mathlib.Core.Path.{_≡_, refl, sym, ap, _∙_}
@@ -11,13 +11,15 @@ use Rattle.base.specs.Each.{Each, none, more}
 use Rattle.cut.specs.Cut.{least}
 use Rattle.amounts.specs.Units.{billionths}
 use Rattle.amounts.specs.Arithmetic.{cutting}
-use Rattle.amounts.specs.Dividing.{Divided, worth, Left, dividing}
+use Rattle.amounts.specs.Dividing.{Divided, Left, uncut, worth, dividing}
+use Rattle.kinds.specs.declared.HousingType.{HousingType}
+use Rattle.kinds.specs.declared.HousingType.the-variants as housed
 use Rattle.kinds.specs.declared.AirScrubber.{AirScrubber}
 use Rattle.kinds.specs.declared.AirScrubber.the-variants as scrubber
 use Rattle.kinds.specs.declared.Pigs.{Pigs}
 use Rattle.kinds.specs.declared.Inputs.{Inputs}
 use Rattle.kinds.specs.declared.Inputs.the-variants as kinds
-use Rattle.housing.proofs.InHousing.{grown-whole}
+use Rattle.pasture.specs.Pasture.{pigsIntoGrazing}
 use Rattle.pig_house.specs.Parameters.{«share_liquid»}
 use Rattle.pig_house.specs.PigHouse.{
   allOrNothing,
@@ -29,12 +31,14 @@ use Rattle.pig_house.specs.PigHouse.{
 }
 use Rattle.outputs.specs.Names as outputs
 use Rattle.outputs.specs.Names.{figures, number}
-use Rattle.outputs.specs.Grams.{figure}
-use Rattle.herd.specs.Herd.{figuresIn, figuresOf}
+use Rattle.outputs.specs.Grams.{figure, gramsIn}
+use Rattle.outputs.specs.declared.Sections.{Sections}
+use Rattle.herd.specs.Herd.{ofPigs, figuresIn, figuresOf, sectionsOf}
+use Rattle.herd.proofs.Agree.{sections-agree}
+use Rattle.cuts.specs.declared.Cuts.{Cuts}
 use Rattle.cuts.specs.Names.{noFigure, texts}
-use Rattle.cuts.specs.Cuts.{passing}
-use Rattle.cuts.specs.Herd.{quotientUnder}
-use Rattle.cuts.proofs.Steps.{pigs-whole}
+use Rattle.cuts.specs.Cuts.{passing, cutsFrom, inOrder}
+use Rattle.cuts.specs.Herd.{quotientUnder, cutsOf}
 
 abbrev lefts : List Left → List ℤ
 lefts l = map (λ (x : Left). x .left) l
@@ -44,25 +48,26 @@ pub shared-whole : (share : ℕ) (d : Divided) → worth (allOrNothing dividing 
 shared-whole zero d = refl
 shared-whole (suc share) d = refl
 
-kept-whole : (s : AirScrubber) (d : Divided) → worth (keptBy dividing s d) ≡ keptBy cutting s (worth d)
-kept-whole scrubber.Acid d = refl
-kept-whole scrubber.Biotrickling d = refl
-kept-whole scrubber.None d = refl
+-- what comes onto the pasture of pigs is handed on as a whole number
+as-handed : (t : HousingType) (d : Divided)
+    → pigsIntoGrazing dividing t (uncut (worth d)) ≡ uncut (worth (pigsIntoGrazing dividing t d))
+as-handed housed.Outdoor d = refl
+as-handed housed.SlurryConventional d = refl
+as-handed housed.SlurryLabel d = refl
+as-handed housed.SlurryLabelOpen d = refl
+as-handed housed.DeepLitter d = refl
+
+handed-figures : (i : Inputs) → lefts (figures dividing (figuresIn dividing i)) ≡ gramsIn (sectionsOf i)
+unfolding sectionsOf
+handed-figures (kinds.Roughage r) = refl
+handed-figures (kinds.Cattle c) = refl
+handed-figures (kinds.Pigs p) =
+    let e = ofPigs dividing p .excretion in
+    rw (as-handed (p .«housing_type») (e .«n_excretion»), as-handed (p .«housing_type») (e .«tan_excretion»)) refl
 
 pub figures-agree : (i : Inputs)
     → lefts (figures dividing (figuresIn dividing i)) ≡ figures cutting (figuresIn cutting i)
-figures-agree (kinds.Roughage r) = rw (grown-whole (r .«grazing_days») (r .«grazing_hours»)) refl
-figures-agree (kinds.Cattle c) = refl
-figures-agree (kinds.Pigs p) =
-    rw (
-      pigs-whole (p .«housing_type») _,
-      pigs-whole (p .«housing_type») _,
-      kept-whole (p .«air_scrubber») _,
-      shared-whole («share_liquid» (p .«housing_type»)) _,
-      shared-whole («share_liquid» (p .«housing_type»)) _,
-      shared-whole («share_liquid» (p .«housing_type»)) _,
-      shared-whole (1 - «share_liquid» (p .«housing_type»)) _,
-    ) refl
+figures-agree i = handed-figures i ∙ sections-agree i
 
 left-at : (l : List Left) (n : ℕ) → getD (lefts l) n (pos 0) ≡ getD l n noFigure .left
 left-at [] n = refl
@@ -124,3 +129,18 @@ module _ (p : Pigs) where
       × («ef_nh3_nhousing» cutting p
       ≡ least (q "ef_nh3_nhousing:ef_housing_indoor" + q "ef_nh3_nhousing:ef_housing_grazing") billionths)
   factors-are-quotients = (refl, refl, refl, refl)
+
+-- ---- the quotients that the code's sections hand on
+
+pub cuts-agree : (i : Inputs) → cutsFrom (inOrder (sectionsOf i)) ≡ cutsOf i
+unfolding sectionsOf cutsOf
+cuts-agree (kinds.Roughage r) = refl
+cuts-agree (kinds.Cattle c) = refl
+cuts-agree (kinds.Pigs p) =
+    let e = ofPigs dividing p .excretion in
+    rw (as-handed (p .«housing_type») (e .«n_excretion»), as-handed (p .«housing_type») (e .«tan_excretion»)) refl
+
+-- the code's step, of any kind
+pub cuts-are : (i j : Inputs) (s : Sections) (c : Cuts) → s ≡ sectionsOf j → i ≡ j → c ≡ cutsFrom (inOrder s)
+    → c ≡ cutsOf i
+cuts-are i j s c es k ec = ec ∙ rw (es, k) (cuts-agree j)

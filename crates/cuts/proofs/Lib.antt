@@ -1,6 +1,5 @@
 pub mod AddUp
 pub mod Agree
-pub mod Steps
 pub mod InUnits
 pub mod EveryDivision
 pub mod ByHand

@@ -7,16 +7,7 @@ use mathlib.Core.List.{List, [], _∷_, map}
 use lib.Dec.{ltb}
 use lib.ListN.{getD}
 use Rattle.cut.specs.declared.Quotient.{Quotient}
-use Rattle.cut.specs.Cut.{undivided}
-use Rattle.amounts.specs.declared.Parts.{Parts}
-use Rattle.amounts.specs.Dividing.{dividing}
-use Rattle.pasture.specs.declared.Gases.{Gases}
-use Rattle.housing.specs.declared.Factors.{Factors}
-use Rattle.pig_house.specs.declared.PigFactors.{PigFactors}
-use Rattle.pig_house.specs.declared.Scrubbed.{Scrubbed}
-use Rattle.pig_house.specs.declared.NxOx.{NxOx}
-use Rattle.pig_house.specs.PigHouse.{noPigFactors, noScrubbed, handedPigFactors, handedScrubbed}
-use Rattle.pig_house.specs.NxOx.{noNxOx, handedNxOx}
+use Rattle.outputs.specs.declared.Sections.{Sections}
 use Rattle.cuts.specs.declared.Cuts.{Cuts}
 use Rattle.cuts.specs.Names.{Row, rows, texts, cutNumber}
 
@@ -53,45 +44,35 @@ cutsFrom qs =
 abbrev pub noCuts : Cuts
 noCuts = record { «cut_off» = map (λ (r : Row). 0) rows; divisor = map (λ (r : Row). 0) rows }
 
-abbrev pub noParts : Parts
-noParts = record { n = undivided 0; tan = undivided 0 }
-
 -- the quotients of the sections in the order of their numbers
-abbrev pub inOrder :
-    Quotient → Parts → Quotient → Parts → Gases → Factors → PigFactors → Quotient → Scrubbed → NxOx → List Quotient
-inOrder tan intoYard nh3Yard intoGrazing g f p nh3Housing s x =
-    tan
-    ∷ intoYard .n
-    ∷ intoYard .tan
-    ∷ nh3Yard
-    ∷ intoGrazing .n
-    ∷ intoGrazing .tan
-    ∷ g .nh3
-    ∷ g .n2
-    ∷ g .no
-    ∷ g .n2o
-    ∷ f .«c_grazing»
-    ∷ f .«times_er_housing»
-    ∷ f .«times_c_free_factor_housing»
-    ∷ p .«before_times_c_free_factor_housing»
-    ∷ p .«before_times_red_housing_air»
-    ∷ p .«ef_housing_indoor»
-    ∷ p .«grazing_times_c_free_factor_housing»
-    ∷ p .«times_ef_housing_indoor»
-    ∷ p .«times_ef_housing_grazing»
-    ∷ nh3Housing
-    ∷ s .«times_tan_excretion»
-    ∷ s .«times_ef_housing_indoor_before_air_scrubber»
-    ∷ x .«n2_nsolid»
-    ∷ x .«no_nsolid»
-    ∷ x .«n2o_nsolid»
-    ∷ x .«n2_nliquid»
-    ∷ x .«no_nliquid»
-    ∷ x .«n2o_nliquid»
+abbrev pub inOrder : Sections → List Quotient
+inOrder s =
+    s .excretion .«tan_excretion»
+    ∷ s .yard .into .n
+    ∷ s .yard .into .tan
+    ∷ s .yard .«nh3_nyard»
+    ∷ s .grazing .into .n
+    ∷ s .grazing .into .tan
+    ∷ s .grazing .gases .nh3
+    ∷ s .grazing .gases .n2
+    ∷ s .grazing .gases .no
+    ∷ s .grazing .gases .n2o
+    ∷ s .housing .factors .«c_grazing»
+    ∷ s .housing .factors .«times_er_housing»
+    ∷ s .housing .factors .«times_c_free_factor_housing»
+    ∷ s .«pig_house» .factors .«before_times_c_free_factor_housing»
+    ∷ s .«pig_house» .factors .«before_times_red_housing_air»
+    ∷ s .«pig_house» .factors .«ef_housing_indoor»
+    ∷ s .«pig_house» .factors .«grazing_times_c_free_factor_housing»
+    ∷ s .«pig_house» .factors .«times_ef_housing_indoor»
+    ∷ s .«pig_house» .factors .«times_ef_housing_grazing»
+    ∷ s .housing .«nh3_nhousing»
+    ∷ s .«pig_house» .scrubbed .«times_tan_excretion»
+    ∷ s .«pig_house» .scrubbed .«times_ef_housing_indoor_before_air_scrubber»
+    ∷ s .«nx_ox» .«n2_nsolid»
+    ∷ s .«nx_ox» .«no_nsolid»
+    ∷ s .«nx_ox» .«n2o_nsolid»
+    ∷ s .«nx_ox» .«n2_nliquid»
+    ∷ s .«nx_ox» .«no_nliquid»
+    ∷ s .«nx_ox» .«n2o_nliquid»
     ∷ []
-
--- of a kind without a pig house
-abbrev pub withoutPigHouse : Quotient → Parts → Quotient → Parts → Gases → Factors → Quotient → List Quotient
-withoutPigHouse tan intoYard nh3Yard intoGrazing g f nh3Housing =
-    inOrder tan intoYard nh3Yard intoGrazing g f (handedPigFactors (noPigFactors dividing)) nh3Housing
-    (handedScrubbed (noScrubbed dividing)) (handedNxOx (noNxOx dividing))

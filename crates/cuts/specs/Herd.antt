@@ -12,22 +12,15 @@ use Rattle.cut.specs.declared.Quotient.{Quotient}
 use Rattle.cut.specs.Cut.{undivided}
 use Rattle.amounts.specs.Units.{year, day}
 use Rattle.amounts.specs.Dividing.{dividing, handed, worth, dividend}
-use Rattle.kinds.specs.declared.Outdoor.{Outdoor}
-use Rattle.kinds.specs.declared.Roughage.{Roughage}
 use Rattle.kinds.specs.declared.AirScrubber.{AirScrubber}
 use Rattle.kinds.specs.declared.AirScrubber.the-variants as scrubber
-use Rattle.kinds.specs.declared.Pigs.{Pigs}
 use Rattle.kinds.specs.declared.Inputs.{Inputs}
 use Rattle.kinds.specs.declared.Inputs.the-variants as kinds
-use Rattle.rates.specs.declared.Rates.{Rates}
-use Rattle.excretion.specs.Excretion.{ExcretionIn}
-use Rattle.housing.specs.Housing.{FactorsIn, factors, noFactors}
-use Rattle.pig_house.specs.PigHouse.{PigFactorsIn, ScrubbedIn, pigFactors, keptBack, noPigFactors, noScrubbed}
 use Rattle.outputs.specs.Sections.{FiguresIn}
 use Rattle.outputs.specs.Names.{place}
-use Rattle.herd.specs.Herd.{roughageOn, outdoorOn, pigsOn, ofPigs, figuresIn}
+use Rattle.herd.specs.Herd.{figuresIn}
 use Rattle.cuts.specs.declared.Cuts.{Cuts}
-use Rattle.cuts.specs.Names.{Told, Row, rows, divisionOf}
+use Rattle.cuts.specs.Names.{Row, rows, divisionOf}
 use Rattle.cuts.specs.Cuts.{cutOff, divisorOf, cutsFrom}
 
 -- ---- the names of each kind, in the order of the listing
@@ -96,80 +89,29 @@ madeNames (kinds.Roughage r) =
 madeNames (kinds.Cattle c) = outdoorNames
 madeNames (kinds.Pigs p) = pigsMade (p .«air_scrubber»)
 
--- ---- the formulas of each kind, on the arithmetic that tells of divisions
-
--- a kind without a pig house
-abbrev told : FiguresIn dividing → FactorsIn dividing → Told
-told figures factors =
-    record {
-      figures = figures;
-      factors = factors;
-      pigFactors = noPigFactors dividing;
-      scrubbed = noScrubbed dividing;
-    }
-
-abbrev pub toldRoughage : Roughage → ExcretionIn dividing → Told
-toldRoughage r e = told (roughageOn dividing r e) (factors dividing r)
-
-abbrev pub toldOutdoor : Rates → Outdoor → ExcretionIn dividing → Told
-toldOutdoor r o e = told (outdoorOn dividing r o e) (noFactors dividing)
-
-abbrev pub toldPigs : Pigs → ExcretionIn dividing → Told
-toldPigs p e =
-    record {
-      figures = pigsOn dividing p e;
-      factors = noFactors dividing;
-      pigFactors = pigFactors dividing p;
-      scrubbed = keptBack dividing p (e .«tan_excretion»);
-    }
-
-abbrev factorsOf : Inputs → FactorsIn dividing
-factorsOf (kinds.Roughage r) = factors dividing r
-factorsOf (kinds.Cattle c) = noFactors dividing
-factorsOf (kinds.Pigs p) = noFactors dividing
-
-abbrev pigFactorsOf : Inputs → PigFactorsIn dividing
-pigFactorsOf (kinds.Roughage r) = noPigFactors dividing
-pigFactorsOf (kinds.Cattle c) = noPigFactors dividing
-pigFactorsOf (kinds.Pigs p) = pigFactors dividing p
-
-abbrev scrubbedOf : Inputs → ScrubbedIn dividing
-scrubbedOf (kinds.Roughage r) = noScrubbed dividing
-scrubbedOf (kinds.Cattle c) = noScrubbed dividing
-scrubbedOf (kinds.Pigs p) = keptBack dividing p (ofPigs dividing p .excretion .«tan_excretion»)
-
-abbrev pub toldOf : Inputs → Told
-toldOf i =
-    record {
-      figures = figuresIn dividing i;
-      factors = factorsOf i;
-      pigFactors = pigFactorsOf i;
-      scrubbed = scrubbedOf i;
-    }
-
 -- ---- a herd's cuts
 
 abbrev pub isOf : List String → String → Bool
 isOf names t = ltb (place t names) (length names)
 
 -- what is handed back under a row's name, where it is one of the list
-abbrev pub cutUnder : List String → Told → Row → Quotient
+abbrev pub cutUnder : List String → FiguresIn dividing → Row → Quotient
 cutUnder names h r = pick (isOf names (r .text)) (handed (r .division h)) (undivided 0)
 
-abbrev pub cutsUnder : List String → Told → Cuts
+abbrev pub cutsUnder : List String → FiguresIn dividing → Cuts
 cutsUnder names h = cutsFrom (map (cutUnder names h) rows)
 
 unfoldable pub cutsOf : Inputs → Cuts
-cutsOf i = cutsUnder (namesOf i) (toldOf i)
+cutsOf i = cutsUnder (namesOf i) (figuresIn dividing i)
 
 -- ---- what is promised of them
 
 -- the dividend that a herd's formula names, and the quotient that it gives
 abbrev pub dividendOf : String → Inputs → ℕ
-dividendOf t i = dividend (divisionOf t (toldOf i))
+dividendOf t i = dividend (divisionOf t (figuresIn dividing i))
 
 abbrev pub quotientUnder : String → Inputs → ℕ
-quotientUnder t i = worth (divisionOf t (toldOf i))
+quotientUnder t i = worth (divisionOf t (figuresIn dividing i))
 
 -- "Quotient times divisor plus what was cut off is the dividend, always."
 pub record AddsUp (i : Inputs) (c : Cuts) (t : String) : Type 0 where

@@ -13,18 +13,11 @@ use Rattle.pig_house.specs.PigHouse.{PigFactorsIn, ScrubbedIn}
 use Rattle.outputs.specs.Sections.{FiguresIn}
 use Rattle.outputs.specs.Names.{figures, number, sectionOf, place}
 
--- a herd's formulas on the arithmetic that tells of divisions
-pub record Told : Type 0 where
-  pub figures : FiguresIn dividing
-  pub factors : FactorsIn dividing
-  pub pigFactors : PigFactorsIn dividing
-  pub scrubbed : ScrubbedIn dividing
-
 -- a name: its text, its section, and which division it is the name of
 pub record Row : Type 0 where
   pub text : String
   pub section : String
-  pub division : Told → Divided
+  pub division : FiguresIn dividing → Divided
 
 abbrev pub noFigure : Left
 noFigure = record { left = pos 0; amount = uncut 0 }
@@ -34,7 +27,7 @@ abbrev pub givesFigure : String → FiguresIn dividing → Divided
 givesFigure t f = getD (figures dividing f) (number t) noFigure .amount
 
 abbrev figure : String → Row
-figure t = record { text = t; section = sectionOf t; division = λ h. givesFigure t (h .figures) }
+figure t = record { text = t; section = sectionOf t; division = givesFigure t }
 
 -- a factor of the housing
 abbrev factor : String → (FactorsIn dividing → Divided) → Row
@@ -91,5 +84,5 @@ abbrev pub cutNumber : String → ℕ
 cutNumber t = place t texts
 
 -- the division of a name
-abbrev pub divisionOf : String → Told → Divided
+abbrev pub divisionOf : String → FiguresIn dividing → Divided
 divisionOf t h = getD (map (λ (r : Row). r .division h) rows) (cutNumber t) (uncut 0)

@@ -1,6 +1,6 @@
 -- What the animals excrete is modest: the N of the largest herd fits, and the TAN is no more than the N.
 -- Assumes nothing.
-use mathlib.Core.Path.{_≡_, refl, ap}
+use mathlib.Core.Path.{_≡_, refl}
 use Prim.Native.Nat.{ℕ, _*_, _≤_}
 use native.Mathlib.Omega.{arith}
 use mir.Syntax.{w64}
@@ -11,6 +11,7 @@ use Rattle.cut.proofs.Shares.{part-le}
 use Rattle.tables.proofs.Standards.{standard-most}
 use Rattle.amounts.specs.Units.{tenThousandths}
 use Rattle.amounts.specs.Arithmetic.{cutting}
+use Rattle.amounts.specs.Dividing.{dividing}
 use Rattle.amounts.specs.Bounds.{mostN, Modest, PortionOf, UpTo}
 use Rattle.kinds.specs.declared.Entered.{Entered}
 use Rattle.kinds.specs.declared.Roughage.{Roughage}
@@ -18,7 +19,7 @@ use Rattle.kinds.specs.declared.Cattle.{Cattle}
 use Rattle.kinds.specs.Sound.{mostAnimals, mostGrams, EnteredTo, standard, number, SoundRoughage, SoundCattle}
 use Rattle.excretion.specs.declared.Excretion.{Excretion}
 use Rattle.excretion.specs.Excretion.{«n_excretion_animal», tanFraction, roughageFraction, cattleFraction}
-use Rattle.excretion.specs.Excretion.{ExcretionIn, excreted, ofExcretion}
+use Rattle.excretion.specs.Excretion.{excreted, withTan, handedExcretion}
 
 -- ---- what a herd enters, or leaves to the standard
 
@@ -64,13 +65,14 @@ module _ (animals grams fraction : ℕ) (ha : animals ≤ mostAnimals) (hg : gra
   excreted-modest =
       record { n-most = n-le animals grams ha hg; tan-most = part-le (animals * grams) fraction tenThousandths hf }
 
-  -- so is what the code's struct holds
-  pub excretion-modest : (e : Excretion) → ofExcretion e ≡ excreted cutting animals grams fraction
-      → Modest (e .«n_excretion») (e .«tan_excretion»)
-  excretion-modest e is = rw (ap (λ x. x .«n_excretion») is, ap (λ x. x .«tan_excretion») is) excreted-modest
+-- ---- the code's steps
 
-pub is-excretion : (animals grams fraction n : ℕ) (tan : Quotient) → UpTo mostN (animals * grams) n
-    → PortionOf n fraction tenThousandths tan
-    → _≡_ {A = ExcretionIn cutting} (record { «n_excretion» = n; «tan_excretion» = tan .whole })
-    (excreted cutting animals grams fraction)
-is-excretion animals grams fraction n tan e p = rw (p .is, e .is) refl
+module _ (n fraction : ℕ) (tan : Quotient) (p : PortionOf n fraction tenThousandths tan) where
+  pub is-excretion : _≡_ {A = Excretion} (record { «n_excretion» = n; «tan_excretion» = tan })
+      (handedExcretion (withTan dividing n fraction))
+  is-excretion = rw (p .cut) refl
+
+  pub is-modest : n ≤ mostN → Modest n (tan .whole)
+  is-modest h = record { n-most = h; tan-most = p .most }
+
+pub ruleset excreted-steps = (is-excretion, is-modest)

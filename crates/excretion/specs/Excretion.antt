@@ -2,7 +2,8 @@
 use Prim.Native.Nat.{ℕ, _*_}
 use Rattle.tables.specs.Standards.{standardOf, «share_Nsol», dairyShare}
 use Rattle.amounts.specs.Units.{tenThousandths}
-use Rattle.amounts.specs.Arithmetic.{Arithmetic, cutting}
+use Rattle.amounts.specs.Arithmetic.{Arithmetic}
+use Rattle.amounts.specs.Dividing.{dividing, handed, worth}
 use Rattle.amounts.specs.Portion.{portion}
 use Rattle.kinds.specs.declared.Entered.{Entered}
 use Rattle.kinds.specs.declared.Entered.the-variants.{Standard, Number}
@@ -53,6 +54,6 @@ module _ (A : Arithmetic) where
   abbrev pub excreted : ℕ → ℕ → ℕ → ExcretionIn A
   excreted animals grams fraction = withTan (animals * grams) fraction
 
--- the code's struct, on whole grams
-abbrev pub ofExcretion : Excretion → ExcretionIn cutting
-ofExcretion e = record { «n_excretion» = e .«n_excretion»; «tan_excretion» = e .«tan_excretion» }
+-- the code's struct: a whole number, or what was cut with what was cut off
+abbrev pub handedExcretion : ExcretionIn dividing → Excretion
+handedExcretion e = record { «n_excretion» = worth (e .«n_excretion»); «tan_excretion» = handed (e .«tan_excretion») }

@@ -5,14 +5,14 @@ use kinds::Entered;
 ghost use mathlib.Core.Path.{_≡_};
 ghost use Prim.Native.Nat.{_*_, _≤_};
 ghost use Rattle.amounts.specs.Units.{tenThousandths};
-ghost use Rattle.amounts.specs.Arithmetic.{cutting};
-ghost use Rattle.amounts.specs.Bounds.{mostN, PortionOf, UpTo};
+ghost use Rattle.amounts.specs.Dividing.{dividing};
+ghost use Rattle.amounts.specs.Bounds.{mostN, Modest, UpTo};
 ghost use Rattle.kinds.specs.Sound.{mostAnimals, mostGrams};
-ghost use Rattle.excretion.specs.Excretion.{«n_excretion_animal», tanFraction, excreted, ofExcretion};
+ghost use Rattle.excretion.specs.Excretion.{«n_excretion_animal», tanFraction, withTan, handedExcretion};
 
 pub struct Excretion {
     pub n_excretion: u64,
-    pub tan_excretion: u64,
+    pub tan_excretion: Quotient,
 }
 
 // Grams a head: the category's standard, unless a number is entered.
@@ -43,23 +43,14 @@ pub fn n_excretion(animals: u64, grams: u64) -> u64
     animals * grams
 }
 
-// The soluble fraction of so much N.
-pub fn tan_excretion(n: u64, fraction: u64) -> Quotient
+// What a herd excretes: so much N, with this soluble fraction.
+pub fn excreted(n: u64, fraction: u64) -> Excretion
     requires { ⌜ (n ≤ mostN) × (fraction ≤ tenThousandths) ⌝ }
-    ensures { λ q. ⌜ PortionOf n fraction tenThousandths q ⌝ }
+    ensures is { λ r. ⌜ r ≡ handedExcretion (withTan dividing n fraction) ⌝ }
+    ensures modest { λ r. ⌜ Modest (r .«n_excretion») (r .«tan_excretion» .whole) ⌝ }
 {
-    amounts::portion(n, fraction, TEN_THOUSANDTHS)
-}
-
-// What so many animals excrete, each so many grams of N, with this soluble fraction.
-pub fn excreted(animals: u64, grams: u64, fraction: u64) -> Excretion
-    requires { ⌜ (animals ≤ mostAnimals) × (grams ≤ mostGrams) × (fraction ≤ tenThousandths) ⌝ }
-    ensures { λ r. ⌜ ofExcretion r ≡ excreted cutting animals grams fraction ⌝ }
-{
-    let n = n_excretion(animals, grams);
-    let tan = tan_excretion(n, fraction).whole;
     Excretion {
         n_excretion: n,
-        tan_excretion: tan,
+        tan_excretion: amounts::portion(n, fraction, TEN_THOUSANDTHS),
     }
 }

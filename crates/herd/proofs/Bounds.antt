@@ -24,7 +24,7 @@ use Rattle.pasture.proofs.Into.{
   roughage-housing-modest,
   pigs-pasture-modest,
 }
-use Rattle.housing.specs.Housing.{HousingIn, throughHousing, throughDoor}
+use Rattle.housing.specs.Housing.{throughHousing, throughDoor}
 use Rattle.housing.proofs.InHousing.{nh3-in-housing-le}
 use Rattle.pig_house.specs.Parameters.{«share_liquid»}
 use Rattle.pig_house.specs.PigHouse.{throughPigHouse, inFractions, pigHousing, nh3InPigHouse, «tan_air_scrubber»}
@@ -35,7 +35,7 @@ use Rattle.outputs.specs.Sections.{FiguresIn}
 use Rattle.outputs.specs.Names.{excretion, yard, grazing, housing, pigHouse, nxOx}
 use Rattle.outputs.specs.Grams.{gramsOf, To}
 use Rattle.outputs.proofs.Bounds.{SectionTo, sections-to}
-use Rattle.herd.specs.Herd.{figuresOf}
+use Rattle.herd.specs.Herd.{roughageOn, outdoorOn, pigsOn, figuresOf}
 use Rattle.herd.proofs.Housed.{pigs-enter}
 use Rattle.herd.proofs.Made.{Made, of-roughage, of-outdoor, of-pigs, made}
 
@@ -64,15 +64,10 @@ pig-housing-to : (n tan nh3 scrubbed : ℕ) → Modest n tan → nh3 + scrubbed 
     → SectionTo most housing (throughPigHouse cutting n tan nh3 scrubbed)
 pig-housing-to n tan nh3 scrubbed m h = omega arith
 
-fractions-to : (t : HousingType) (scrubbed : ℕ) (h : HousingIn cutting) → scrubbed ≤ most → h .«n_outhousing» ≤ most
-    → h .«tan_outhousing» ≤ most → SectionTo most pigHouse (inFractions cutting t scrubbed h)
-fractions-to t scrubbed h ks kn kt =
-    let share = «share_liquid» t in
-    omega (
-      arith,
-      all-or-nothing-le share (h .«n_outhousing»),
-      all-or-nothing-le share (h .«tan_outhousing»),
-    )
+fractions-to : (t : HousingType) (scrubbed n tan : ℕ) → scrubbed ≤ most → n ≤ most → tan ≤ most
+    → SectionTo most pigHouse (inFractions cutting t scrubbed n tan)
+fractions-to t scrubbed n tan ks kn kt =
+    omega (arith, all-or-nothing-le («share_liquid» t) n, all-or-nothing-le («share_liquid» t) tan)
 
 nxox-to : (t : HousingType) (n : ℕ) → n ≤ most → SectionTo most nxOx (NxOx.nxOx cutting t n)
 nxox-to t n h =
@@ -105,14 +100,14 @@ pub made-to : {f : FiguresIn cutting} → Made f → To most (gramsOf f)
 made-to (of-roughage r e s m) =
     let n = e .«n_excretion» in
     let tan = e .«tan_excretion» in
-    sections-to most _ (excretion-to e m) (omega arith)
+    sections-to most (roughageOn cutting r e) (excretion-to e m) (omega arith)
     (pasture-to roughageRates roughage-rates-modest (roughage-pasture-modest r s n tan m))
     (housing-to (roughage-housing-modest r s n tan m) (nh3-in-housing-le r (tan - roughageIntoGrazing cutting r tan)))
     (omega arith) (omega arith)
 made-to (of-outdoor r o e hr s m) =
     let n = e .«n_excretion» in
     let tan = e .«tan_excretion» in
-    sections-to most _ (excretion-to e m)
+    sections-to most (outdoorOn cutting r o e) (excretion-to e m)
     (yard-to (yard-modest o s n tan m) (nh3-on-yard-le o s (intoYard cutting o tan)))
     (pasture-to r hr (outdoor-pasture-modest o s n tan m))
     (door-to n tan (n - intoYard cutting o n - outdoorIntoGrazing cutting o n)
@@ -125,10 +120,11 @@ made-to (of-pigs p e s m) =
     let tan = excreted - pigsIntoGrazing cutting t excreted in
     let enters = pigs-enter p (e .«n_excretion») excreted m in
     let emits = pig-house-emits-le p excreted tan (enters .housed) in
-    sections-to most _ (excretion-to e m) (omega arith)
+    sections-to most (pigsOn cutting p e) (excretion-to e m) (omega arith)
     (pasture-to pigsRates pigs-rates-modest (pigs-pasture-modest t (e .«n_excretion») excreted m))
     (pig-housing-to n tan (nh3InPigHouse cutting p tan) («tan_air_scrubber» cutting p excreted) (enters .modest) emits)
-    (fractions-to t («tan_air_scrubber» cutting p excreted) (pigHousing cutting p excreted n tan)
+    (fractions-to t («tan_air_scrubber» cutting p excreted) (pigHousing cutting p excreted n tan .«n_outhousing»)
+    (pigHousing cutting p excreted n tan .«tan_outhousing»)
     (omega (arith, enters .modest)) (omega (arith, enters .modest)) (omega (arith, enters .modest)))
     (nxox-to t n (omega (arith, enters .modest)))
 

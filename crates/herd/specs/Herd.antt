@@ -1,7 +1,8 @@
--- A herd's figures, kind by kind: excretion, yard, pasture and housing. Once over any arithmetic, and then on whole
--- grams. What goes into the housing is found here, from the other parts: "Into housing is what remains." (01, Steps and
--- cuts.)
+-- A herd's figures, kind by kind: excretion, yard, pasture and housing. Once over any arithmetic, then on whole grams,
+-- and as the code hands them on. What goes into the housing is found here, from the other parts: "Into housing is what
+-- remains." (01, Steps and cuts.)
 use Rattle.amounts.specs.Arithmetic.{Arithmetic, cutting}
+use Rattle.amounts.specs.Dividing.{dividing, uncut, worth}
 use Rattle.kinds.specs.declared.Outdoor.{Outdoor}
 use Rattle.kinds.specs.declared.Roughage.{Roughage}
 use Rattle.kinds.specs.declared.Cattle.{Cattle}
@@ -11,18 +12,20 @@ use Rattle.kinds.specs.declared.Inputs.the-variants as kinds
 use Rattle.rates.specs.declared.Rates.{Rates}
 use Rattle.rates.specs.Rates.{cattleRates}
 use Rattle.excretion.specs.declared.Excretion.{Excretion}
-use Rattle.excretion.specs.Excretion.{ExcretionIn, excreted, «n_excretion_animal», ofExcretion}
+use Rattle.excretion.specs.Excretion.{ExcretionIn, excreted, «n_excretion_animal»}
 use Rattle.excretion.specs.Excretion.{roughageFraction, cattleFraction}
 use Rattle.yard.specs.declared.Yard.{Yard}
-use Rattle.yard.specs.Yard.{YardIn, onYard, noYard, ofYard}
+use Rattle.yard.specs.Yard.{YardIn, onYard, noYard}
 use Rattle.pasture.specs.declared.Grazing.{Grazing}
-use Rattle.pasture.specs.Pasture.{GrazingIn, outdoorGrazing, roughageGrazing, pigsGrazing, ofGrazing}
+use Rattle.pasture.specs.Pasture.{GrazingIn, outdoorGrazing, roughageGrazing, pigsGrazing}
 use Rattle.housing.specs.declared.Housing.{Housing}
-use Rattle.housing.specs.Housing.{HousingIn, inHousing, throughDoor, ofHousing}
-use Rattle.pig_house.specs.PigHouse.{pigHousing, pigHouse, noPigHouse}
-use Rattle.pig_house.specs.NxOx.{nxOx, noNxOx}
+use Rattle.housing.specs.Housing.{HousingIn, FactorsIn, inHousing, throughDoor, factors, noFactors}
+use Rattle.pig_house.specs.PigHouse.{pigHousing, pigHouse, pigFactors, keptBack, noPigHouse, noPigFactors, noScrubbed}
+use Rattle.pig_house.specs.PigHouse.{handedScrubbed, handedPigHouse}
+use Rattle.pig_house.specs.NxOx.{nxOx, noNxOx, handedNxOx}
 use Rattle.outputs.specs.declared.Figures.{Figures}
-use Rattle.outputs.specs.Sections.{FiguresIn}
+use Rattle.outputs.specs.declared.Sections.{Sections}
+use Rattle.outputs.specs.Sections.{FiguresIn, handedSections}
 use Rattle.outputs.specs.Grams.{gramsOf}
 
 module _ (A : Arithmetic) where
@@ -30,15 +33,26 @@ module _ (A : Arithmetic) where
 
   infixl 6 _⊖_
   -- a kind whose house is none of the pigs'
-  abbrev pub withoutPigHouse : ExcretionIn A → YardIn A → GrazingIn A → HousingIn A → FiguresIn A
-  withoutPigHouse e y g h =
-      record { excretion = e; yard = y; grazing = g; housing = h; pigHouse = noPigHouse A; nxOx = noNxOx A }
+  abbrev pub withoutPigHouse : ExcretionIn A → YardIn A → GrazingIn A → HousingIn A → FactorsIn A → FiguresIn A
+  withoutPigHouse e y g h f =
+      record {
+        excretion = e;
+        yard = y;
+        grazing = g;
+        housing = h;
+        pigHouse = noPigHouse A;
+        nxOx = noNxOx A;
+        factors = f;
+        pigFactors = noPigFactors A;
+        scrubbed = noScrubbed A;
+      }
 
   -- 2.84 to 2.88; into the housing (2.85) goes what the pasture leaves
   abbrev pub roughageFrom : Roughage → ExcretionIn A → GrazingIn A → FiguresIn A
   roughageFrom r e g =
       withoutPigHouse e (noYard A) g
       (inHousing A r (e .«n_excretion» ⊖ g .«n_into_grazing») (e .«tan_excretion» ⊖ g .«tan_into_grazing»))
+      (factors A r)
 
   abbrev pub roughageOn : Roughage → ExcretionIn A → FiguresIn A
   roughageOn r e =
@@ -58,6 +72,7 @@ module _ (A : Arithmetic) where
       (throughDoor A
       (e .«n_excretion» ⊖ y .«n_into_yard» ⊖ g .«n_into_grazing»)
       (e .«tan_excretion» ⊖ y .«tan_into_yard» ⊖ g .«tan_into_grazing»))
+      (noFactors A)
 
   abbrev pub outdoorOn : Rates → Outdoor → ExcretionIn A → FiguresIn A
   outdoorOn r o e =
@@ -81,6 +96,9 @@ module _ (A : Arithmetic) where
         housing = pigHousing A p (e .«tan_excretion») n tan;
         pigHouse = pigHouse A p (e .«tan_excretion») n tan;
         nxOx = nxOx A (p .«housing_type») n;
+        factors = noFactors A;
+        pigFactors = pigFactors A p;
+        scrubbed = keptBack A p (e .«tan_excretion»);
       }
 
   abbrev pub pigsThrough : Pigs → ExcretionIn A → GrazingIn A → FiguresIn A
@@ -98,10 +116,31 @@ module _ (A : Arithmetic) where
   figuresIn (kinds.Cattle c) = ofCattle c
   figuresIn (kinds.Pigs p) = ofPigs p
 
--- the code's sections of a kind whose house is none of the pigs', on whole grams
-abbrev pub plain : Excretion → Yard → Grazing → Housing → FiguresIn cutting
-plain e y g h = withoutPigHouse cutting (ofExcretion e) (ofYard y) (ofGrazing g) (ofHousing h)
-
 -- a herd's figures in whole grams, by number
 unfoldable pub figuresOf : Inputs → Figures
 figuresOf i = record { grams = gramsOf (figuresIn cutting i) }
+
+-- ---- as the code hands them on
+
+-- the sections of a kind whose house is none of the pigs'
+abbrev pub plain : Excretion → Yard → Grazing → Housing → Sections
+plain e y g h =
+    record {
+      excretion = e;
+      yard = y;
+      grazing = g;
+      housing = h;
+      «pig_house» = handedPigHouse (noPigFactors dividing) (handedScrubbed (noScrubbed dividing)) (noPigHouse dividing);
+      «nx_ox» = handedNxOx (noNxOx dividing);
+    }
+
+-- of pigs: what comes onto their pasture is all or nothing, a whole number and no cut
+abbrev pub pigsHanded : Pigs → ExcretionIn dividing → FiguresIn dividing
+pigsHanded p e =
+    pigsThrough dividing p e
+    (pigsGrazing dividing (p .«housing_type») (uncut (worth (e .«n_excretion»))) (uncut (worth (e .«tan_excretion»))))
+
+unfoldable pub sectionsOf : Inputs → Sections
+sectionsOf (kinds.Roughage r) = handedSections (ofRoughage dividing r)
+sectionsOf (kinds.Cattle c) = handedSections (ofCattle dividing c)
+sectionsOf (kinds.Pigs p) = handedSections (pigsHanded p (ofPigs dividing p .excretion))

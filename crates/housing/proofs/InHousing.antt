@@ -11,18 +11,19 @@ use lib.Dec.{ltb}
 use mir.Syntax.{w64}
 use mir.Val.{Fits}
 use Rattle.cut.specs.declared.Quotient.{Quotient}
-use Rattle.cut.specs.Cut.{quotientOf, undivided}
+use Rattle.cut.specs.Cut.{quotientOf, undivided, least}
 use Rattle.cut.proofs.Products.{mul-fits, mul-to}
 use Rattle.cut.proofs.Shares.{part-le, least-most}
 use Rattle.tables.specs.Growth.{kOf, mostK}
 use Rattle.tables.proofs.Growth.{k-most}
 use Rattle.amounts.specs.Units.{percent, thousandths, billionths, year, day}
 use Rattle.amounts.specs.Arithmetic.{cutting}
-use Rattle.amounts.specs.Dividing.{Divided, worth, dividing}
+use Rattle.amounts.specs.Dividing.{Divided, uncut, worth, dividing}
 use Rattle.amounts.specs.Bounds.{Modest, PortionOf, TwiceOf, UpTo}
 use Rattle.kinds.specs.declared.Roughage.{Roughage}
 use Rattle.kinds.specs.Free.{«c_free_factor»}
 use Rattle.housing.specs.declared.Factors.{Factors}
+use Rattle.housing.specs.declared.Housing.{Housing}
 use Rattle.housing.specs.Housing.{
   «er_housing»,
   «c_grazing»,
@@ -33,8 +34,9 @@ use Rattle.housing.specs.Housing.{
   «ef_nh3_nhousing»,
   aboveCeiling,
   nh3InHousing,
-  throughHousing,
   inHousing,
+  throughDoor,
+  handedHousing,
 }
 use Rattle.housing.specs.Bounds.{Grown}
 
@@ -102,23 +104,16 @@ module _ (r : Roughage) where
   are-factors left c rate factor g p u q = rw (q .cut, u .is, p .cut, g .is) refl
 
   module _ (f : Factors) (e : f ≡ handedFactors (factors dividing r)) where
-    before-ceiling : f .«times_c_free_factor_housing» .whole ≡ uncapped cutting r
-    before-ceiling = ap (λ x. x .«times_c_free_factor_housing» .whole) e ∙ uncapped-whole r
-
     pub is-above : ltb billionths (f .«times_c_free_factor_housing» .whole) ≡ aboveCeiling r
-    is-above = ap (ltb billionths) before-ceiling
+    is-above = ap (ltb billionths) (ap (λ x. x .«times_c_free_factor_housing» .whole) e ∙ uncapped-whole r)
 
-    pub under-ceiling : f .«times_c_free_factor_housing» .whole ≤ billionths
-        → UpTo billionths («ef_nh3_nhousing» cutting r) (f .«times_c_free_factor_housing» .whole)
-    under-ceiling h =
-        let factor = f .«times_c_free_factor_housing» .whole in
-        record { is = before-ceiling ∙ rw (← before-ceiling, le-ltb billionths factor h) refl; most = h }
+-- then the ceiling of 1
+module _ (factor : ℕ) where
+  pub under-ceiling : factor ≤ billionths → UpTo billionths (least factor billionths) factor
+  under-ceiling h = record { is = rw (le-ltb billionths factor h) refl; most = h }
 
-    pub at-ceiling : billionths < f .«times_c_free_factor_housing» .whole
-        → UpTo billionths («ef_nh3_nhousing» cutting r) billionths
-    at-ceiling h =
-        let factor = f .«times_c_free_factor_housing» .whole in
-        record { is = rw (← before-ceiling, lt-ltb billionths factor h) refl; most = omega arith }
+  pub at-ceiling : billionths < factor → UpTo billionths (least factor billionths) billionths
+  at-ceiling h = record { is = rw (lt-ltb billionths factor h) refl; most = omega arith }
 
 pub ruleset factor-steps = (under-ceiling, at-ceiling)
 
@@ -145,6 +140,27 @@ module _ (r : Roughage) (n tan : ℕ) where
   housing-keeps-tan = omega (arith, nh3-in-housing-le r tan)
 
   -- the code's step
-  pub is-housing : (nh3 : Quotient) → PortionOf tan («ef_nh3_nhousing» cutting r) billionths nh3
-      → throughHousing cutting n tan (nh3 .whole) ≡ inHousing cutting r n tan
-  is-housing nh3 p = rw (p .is) refl
+  pub is-housing : (f : Factors) (nh3 : Quotient) → f ≡ handedFactors (factors dividing r)
+      → PortionOf tan (least (f .«times_c_free_factor_housing» .whole) billionths) billionths nh3
+      → _≡_ {A = Housing} (record {
+        «n_into_housing» = n;
+        «tan_into_housing» = tan;
+        factors = f;
+        «nh3_nhousing» = nh3;
+        «n_outhousing» = n - nh3 .whole;
+        «tan_outhousing» = tan - nh3 .whole;
+      })
+      (handedHousing (factors dividing r) (inHousing dividing r (uncut n) (uncut tan)))
+  is-housing f nh3 e p = rw (p .cut, e) refl
+
+pub is-door : (n tan : ℕ) (f : Factors) (q : Quotient) → f ≡ handedFactors (noFactors dividing) → q ≡ undivided 0
+    → _≡_ {A = Housing} (record {
+      «n_into_housing» = n;
+      «tan_into_housing» = tan;
+      factors = f;
+      «nh3_nhousing» = q;
+      «n_outhousing» = 0;
+      «tan_outhousing» = 0;
+    })
+    (handedHousing (noFactors dividing) (throughDoor dividing (uncut n) (uncut tan)))
+is-door n tan f q e en = rw (e, en) refl

@@ -6,7 +6,7 @@ use lib.IntN.{ℤ}
 use Rattle.base.specs.Pick.{pick}
 use Rattle.amounts.specs.Units.{percent, thousandths, billionths, year, day}
 use Rattle.amounts.specs.Arithmetic.{Arithmetic, cutting}
-use Rattle.amounts.specs.Dividing.{dividing, handed}
+use Rattle.amounts.specs.Dividing.{dividing, handed, worth}
 use Rattle.amounts.specs.Portion.{portion}
 use Rattle.kinds.specs.declared.Roughage.{Roughage}
 use Rattle.kinds.specs.Free.{«c_free_factor»}
@@ -119,13 +119,14 @@ handedFactors f =
       «times_c_free_factor_housing» = handed (f .«times_c_free_factor_housing»);
     }
 
--- on whole grams
-abbrev pub ofHousing : Housing → HousingIn cutting
-ofHousing h =
+-- the housing, beside its factors
+abbrev pub handedHousing : FactorsIn dividing → HousingIn dividing → Housing
+handedHousing f h =
     record {
-      «n_into_housing» = h .«n_into_housing»;
-      «tan_into_housing» = h .«tan_into_housing»;
-      «nh3_nhousing» = h .«nh3_nhousing»;
-      «n_outhousing» = h .«n_outhousing»;
-      «tan_outhousing» = h .«tan_outhousing»;
+      «n_into_housing» = worth (h .«n_into_housing»);
+      «tan_into_housing» = worth (h .«tan_into_housing»);
+      factors = handedFactors f;
+      «nh3_nhousing» = handed (h .«nh3_nhousing»);
+      «n_outhousing» = worth (h .«n_outhousing»);
+      «tan_outhousing» = worth (h .«tan_outhousing»);
     }

@@ -10,13 +10,13 @@ use cut::Quotient;
 use kinds::Roughage;
 ghost use mathlib.Core.Path.{_≡_};
 ghost use Prim.Native.Nat.{_≤_, _<_, _^_};
+ghost use Rattle.cut.specs.Cut.{least};
 ghost use Rattle.amounts.specs.Units.{billionths, year, day};
-ghost use Rattle.amounts.specs.Arithmetic.{cutting};
-ghost use Rattle.amounts.specs.Dividing.{dividing};
+ghost use Rattle.amounts.specs.Dividing.{dividing, uncut};
 ghost use Rattle.amounts.specs.Bounds.{Modest, PortionOf, UpTo};
 ghost use Rattle.kinds.specs.Sound.{SoundRoughage};
-ghost use Rattle.housing.specs.Housing.{«ef_nh3_nhousing», aboveCeiling, factors, noFactors, handedFactors};
-ghost use Rattle.housing.specs.Housing.{inHousing, throughDoor, ofHousing};
+ghost use Rattle.housing.specs.Housing.{aboveCeiling, factors, noFactors, handedFactors};
+ghost use Rattle.housing.specs.Housing.{inHousing, throughDoor, handedHousing};
 ghost use Rattle.housing.specs.Bounds.{Grown};
 
 // What the emission factor is made of: c_grazing, multiplied by er_housing, and then by c_free_factor_housing.
@@ -29,7 +29,8 @@ pub struct Factors {
 pub struct Housing {
     pub n_into_housing: u64,
     pub tan_into_housing: u64,
-    pub nh3_nhousing: u64,
+    pub factors: Factors,
+    pub nh3_nhousing: Quotient,
     pub n_outhousing: u64,
     pub tan_outhousing: u64,
 }
@@ -51,7 +52,7 @@ fn c_grazing(days: u64, hours: u64) -> Quotient
 }
 
 // The rate, then the free factor.
-pub fn factors_of(r: Roughage) -> Factors
+fn factors_of(r: Roughage) -> Factors
     requires { ⌜ SoundRoughage r ⌝ }
     ensures { λ f. ⌜ f ≡ handedFactors (factors dividing r) ⌝ }
 {
@@ -87,12 +88,10 @@ pub fn above_ceiling(r: Roughage) -> bool
     BILLIONTHS < f.times_c_free_factor_housing.whole
 }
 
-// The part of the TAN that the housing emits: the factors, then the ceiling of 1.
-fn ef_nh3_nhousing(r: Roughage) -> u64
-    requires { ⌜ SoundRoughage r ⌝ }
-    ensures { λ f. ⌜ UpTo billionths («ef_nh3_nhousing» cutting r) f ⌝ }
+// The part of the TAN that the housing emits: the last of the factors, then the ceiling of 1.
+fn ef_nh3_nhousing(f: Factors) -> u64
+    ensures { λ r. ⌜ UpTo billionths (least (f .«times_c_free_factor_housing» .whole) billionths) r ⌝ }
 {
-    let f = factors_of(r);
     let factor = f.times_c_free_factor_housing.whole;
     if BILLIONTHS < factor {
         return BILLIONTHS;
@@ -101,36 +100,39 @@ fn ef_nh3_nhousing(r: Roughage) -> u64
 }
 
 // The ammonia from so much TAN in the housing.
-pub fn nh3_in_housing(r: Roughage, tan: u64) -> Quotient
-    requires { ⌜ SoundRoughage r × (tan < 2 ^ 32) ⌝ }
-    ensures { λ q. ⌜ PortionOf tan («ef_nh3_nhousing» cutting r) billionths q ⌝ }
+fn nh3_in_housing(f: Factors, tan: u64) -> Quotient
+    requires { ⌜ tan < 2 ^ 32 ⌝ }
+    ensures { λ q. ⌜ PortionOf tan (least (f .«times_c_free_factor_housing» .whole) billionths) billionths q ⌝ }
 {
-    amounts::portion(tan, ef_nh3_nhousing(r), BILLIONTHS)
+    amounts::portion(tan, ef_nh3_nhousing(f), BILLIONTHS)
 }
 
 // The housing of a roughage herd into which so much N and TAN goes.
 pub fn in_housing(r: Roughage, n: u64, tan: u64) -> Housing
     requires { ⌜ SoundRoughage r × Modest n tan ⌝ }
-    ensures { λ h. ⌜ ofHousing h ≡ inHousing cutting r n tan ⌝ }
+    ensures { λ h. ⌜ h ≡ handedHousing (factors dividing r) (inHousing dividing r (uncut n) (uncut tan)) ⌝ }
 {
-    let nh3 = nh3_in_housing(r, tan).whole;
+    let factors = factors_of(r);
+    let nh3 = nh3_in_housing(factors, tan);
     Housing {
         n_into_housing: n,
         tan_into_housing: tan,
+        factors,
         nh3_nhousing: nh3,
-        n_outhousing: n - nh3,
-        tan_outhousing: tan - nh3,
+        n_outhousing: n - nh3.whole,
+        tan_outhousing: tan - nh3.whole,
     }
 }
 
 // Only the flow through the door.
 pub fn through_door(n: u64, tan: u64) -> Housing
-    ensures { λ h. ⌜ ofHousing h ≡ throughDoor cutting n tan ⌝ }
+    ensures { λ h. ⌜ h ≡ handedHousing (noFactors dividing) (throughDoor dividing (uncut n) (uncut tan)) ⌝ }
 {
     Housing {
         n_into_housing: n,
         tan_into_housing: tan,
-        nh3_nhousing: 0,
+        factors: no_factors(),
+        nh3_nhousing: cut::undivided(0),
         n_outhousing: 0,
         tan_outhousing: 0,
     }

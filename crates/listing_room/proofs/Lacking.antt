@@ -20,8 +20,9 @@ use Rattle.rates.specs.Rates.{cattleRates}
 use Rattle.excretion.specs.Excretion.{ExcretionIn}
 use Rattle.yard.specs.Yard.{noYard}
 use Rattle.pasture.specs.Pasture.{GrazingIn, pigsIntoGrazing}
-use Rattle.housing.specs.Housing.{HousingIn, throughDoor}
-use Rattle.pig_house.specs.PigHouse.{throughPigHouse, inFractions, nh3InPigHouse, «tan_air_scrubber»}
+use Rattle.housing.specs.Housing.{HousingIn, throughDoor, noFactors}
+use Rattle.pig_house.specs.PigHouse.{PigFactorsIn, ScrubbedIn, throughPigHouse, inFractions, nh3InPigHouse}
+use Rattle.pig_house.specs.PigHouse.{«tan_air_scrubber»}
 use Rattle.pig_house.specs.NxOx.{nxOx}
 use Rattle.typed.specs.Typed.{cattleOf, pigsOf, typedAs}
 use Rattle.outputs.specs.Sections.{FiguresIn}
@@ -53,7 +54,8 @@ none-through n tan nh3 kept en et eh =
     let b : tan - nh3 - kept ≡ 0 = omega arith in
     rw (a, b, en, et, eh)
 
-module _ (t : HousingType) (out : t ≡ housed.Outdoor) (e : ExcretionIn cutting) (g : GrazingIn cutting) (kept : ℕ) where
+module _ (t : HousingType) (out : t ≡ housed.Outdoor) (e : ExcretionIn cutting) (g : GrazingIn cutting)
+    (f : PigFactorsIn cutting) (s : ScrubbedIn cutting) (kept : ℕ) where
   abbrev withHouse : HousingIn cutting → ℕ → FiguresIn cutting
   withHouse h n =
       record {
@@ -61,8 +63,11 @@ module _ (t : HousingType) (out : t ≡ housed.Outdoor) (e : ExcretionIn cutting
         yard = noYard cutting;
         grazing = g;
         housing = h;
-        pigHouse = inFractions cutting t kept h;
+        pigHouse = inFractions cutting t kept (h .«n_outhousing») (h .«tan_outhousing»);
         nxOx = nxOx cutting t n;
+        factors = noFactors cutting;
+        pigFactors = f;
+        scrubbed = s;
       }
 
   none-housed : g .«n2_ngrazing» ≡ 0 → (h : HousingIn cutting) → h ≡ throughDoor cutting 0 0 → (n : ℕ) → n ≡ 0
@@ -71,7 +76,8 @@ module _ (t : HousingType) (out : t ≡ housed.Outdoor) (e : ExcretionIn cutting
 
 outdoor-pigs : (p : Pigs) → p .«housing_type» ≡ housed.Outdoor → HasNothing outdoors (ofPigs cutting p)
 outdoor-pigs p out =
-    none-housed (p .«housing_type») out (f .excretion) (f .grazing) kept (rw mul-zero) (f .housing)
+    none-housed (p .«housing_type») out (f .excretion) (f .grazing) (f .pigFactors) (f .scrubbed) kept (rw mul-zero)
+    (f .housing)
     (none-through n tan (nh3InPigHouse cutting p tan) kept en et (no-nh3 p tan et)) n en
   where
     f : FiguresIn cutting

@@ -51,7 +51,7 @@ use Rattle.outputs.specs.declared.Figures.{Figures}
 use Rattle.outputs.specs.Sections.{FiguresIn}
 use Rattle.outputs.specs.Grams.{gramsOf, figure, total, totalsOf}
 use Rattle.outputs.proofs.Alone.{isAlone, totals-balance}
-use Rattle.herd.specs.Herd.{roughageOn, pigsOn, figuresOf}
+use Rattle.herd.specs.Herd.{roughageOn, outdoorOn, pigsOn, figuresOf}
 use Rattle.herd.proofs.Housed.{pigs-enter}
 use Rattle.herd.proofs.Made.{Made, of-roughage, of-outdoor, of-pigs, made, roughage-starts, pigs-start}
 use Rattle.model.specs.Answers.{herdFigures, farmAnswer}
@@ -121,7 +121,7 @@ made-keeps : {f : FiguresIn cutting} → Made f → Keeps (herdOf f)
 made-keeps (of-roughage r e s m) =
     let n = e .«n_excretion» in
     let tan = e .«tan_excretion» in
-    keeps-from _ (omega (arith, roughage-into-le r s n)) (omega (arith, roughage-into-le r s tan))
+    keeps-from (roughageOn cutting r e) (omega (arith, roughage-into-le r s n)) (omega (arith, roughage-into-le r s tan))
     (pasture-keeps-n roughageRates (roughageIntoGrazing cutting r n) (roughageIntoGrazing cutting r tan)
     roughage-rates-modest (roughage-pasture-modest r s n tan m))
     (pasture-keeps-tan roughageRates (roughageIntoGrazing cutting r n) (roughageIntoGrazing cutting r tan))
@@ -129,7 +129,7 @@ made-keeps (of-roughage r e s m) =
 made-keeps (of-outdoor r o e hr s m) =
     let n = e .«n_excretion» in
     let tan = e .«tan_excretion» in
-    keeps-from _ (omega (arith, outdoor-into-le o s n)) (omega (arith, outdoor-into-le o s tan))
+    keeps-from (outdoorOn cutting r o e) (omega (arith, outdoor-into-le o s n)) (omega (arith, outdoor-into-le o s tan))
     (pasture-keeps-n r (outdoorIntoGrazing cutting o n) (outdoorIntoGrazing cutting o tan) hr
     (outdoor-pasture-modest o s n tan m))
     (pasture-keeps-tan r (outdoorIntoGrazing cutting o n) (outdoorIntoGrazing cutting o tan))
@@ -138,7 +138,7 @@ made-keeps (of-pigs p e s m) =
     let t = p .«housing_type» in
     let n = e .«n_excretion» in
     let tan = e .«tan_excretion» in
-    keeps-from _ (omega (arith, pigs-into-le t n)) (omega (arith, pigs-into-le t tan))
+    keeps-from (pigsOn cutting p e) (omega (arith, pigs-into-le t n)) (omega (arith, pigs-into-le t tan))
     (pasture-keeps-n pigsRates (pigsIntoGrazing cutting t n) (pigsIntoGrazing cutting t tan) pigs-rates-modest
     (pigs-pasture-modest t n tan m))
     (pasture-keeps-tan pigsRates (pigsIntoGrazing cutting t n) (pigsIntoGrazing cutting t tan))

@@ -54,11 +54,11 @@ use Rattle.pasture.proofs.Truths.{
   housed-pigs-no-pasture,
   outdoor-pigs-leave-nothing,
 }
-use Rattle.housing.specs.Housing.{HousingIn, throughDoor, «ef_nh3_nhousing»}
+use Rattle.housing.specs.Housing.{HousingIn, throughDoor, noFactors, «ef_nh3_nhousing»}
 use Rattle.housing.proofs.InHousing.{nh3-in-housing-le}
 use Rattle.housing.proofs.Truths.{c-grazing-from-1-to-k, factor-below-146, factor-below-073, ceiling-not-reached}
 use Rattle.pig_house.specs.PigHouse as pigs
-use Rattle.pig_house.specs.PigHouse.{PigHouseIn, pigHouse, noPigHouse}
+use Rattle.pig_house.specs.PigHouse.{PigHouseIn, pigHouse, pigFactors, keptBack, noPigHouse}
 use Rattle.pig_house.specs.NxOx.{NxOxIn, nxOx, noNxOx}
 use Rattle.pig_house.proofs.Factor.{ef-nh3-nhousing-le}
 use Rattle.pig_house.proofs.Truths.{
@@ -264,7 +264,17 @@ module _ (p : Pigs) where
 
   abbrev outdoors : HousingIn cutting → PigHouseIn cutting → NxOxIn cutting → FiguresIn cutting
   outdoors h q x =
-      record { excretion = excretion; yard = noYard cutting; grazing = pasture; housing = h; pigHouse = q; nxOx = x }
+      record {
+        excretion = excretion;
+        yard = noYard cutting;
+        grazing = pasture;
+        housing = h;
+        pigHouse = q;
+        nxOx = x;
+        factors = noFactors cutting;
+        pigFactors = pigFactors cutting p;
+        scrubbed = keptBack cutting p (excretion .«tan_excretion»);
+      }
 
   empty-house : Nothing houseNames (herdOf (outdoors (throughDoor cutting 0 0) (noPigHouse cutting) (noNxOx cutting)))
   empty-house =

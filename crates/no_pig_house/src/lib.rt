@@ -4,10 +4,9 @@ use pig_house::PigFactors;
 use pig_house::PigHouse;
 use pig_house::Scrubbed;
 ghost use mathlib.Core.Path.{_≡_};
-ghost use Rattle.amounts.specs.Arithmetic.{cutting};
 ghost use Rattle.amounts.specs.Dividing.{dividing};
 ghost use Rattle.pig_house.specs.PigHouse.{noPigFactors, noScrubbed, noPigHouse};
-ghost use Rattle.pig_house.specs.PigHouse.{handedPigFactors, handedScrubbed, ofPigHouse};
+ghost use Rattle.pig_house.specs.PigHouse.{handedPigFactors, handedScrubbed, handedPigHouse};
 ghost use Rattle.pig_house.specs.NxOx.{noNxOx, handedNxOx};
 
 pub fn no_pig_factors() -> PigFactors
@@ -36,10 +35,11 @@ pub fn no_scrubbed() -> Scrubbed
 }
 
 pub fn no_pig_house() -> PigHouse
-    ensures { λ q. ⌜ ofPigHouse q ≡ noPigHouse cutting ⌝ }
+    ensures { λ q. ⌜ q ≡ handedPigHouse (noPigFactors dividing) (handedScrubbed (noScrubbed dividing)) (noPigHouse dividing) ⌝ }
 {
     PigHouse {
-        tan_air_scrubber: 0,
+        factors: no_pig_factors(),
+        scrubbed: no_scrubbed(),
         n_outhousing_liquid: 0,
         tan_outhousing_liquid: 0,
         n_outhousing_solid: 0,

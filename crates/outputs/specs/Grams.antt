@@ -1,7 +1,8 @@
 -- Grams by number: a herd's figures, the sum of two herds', and the totals of a farm.
 -- To be believed: what a figure and a total are under a name (`figure`, `total`), and what a farm's totals are
--- (`totalsOf`). The others say how the code adds up, and that no sum passes 64 bits; that they give the totals is
--- `totals-of-sum` (proofs/Adding.antt).
+-- (`totalsOf`). The others say where the code's sections have the grams, which `sections-agree` of crate `herd` holds to
+-- the names, and how the code adds up, and that no sum passes 64 bits; that they give the totals is `totals-of-sum`
+-- (proofs/Adding.antt).
 use Prim.Native.Nat.{ℕ, zero, suc, _^_, _≤_}
 use Prim.Native.String.{String}
 use mathlib.Core.List.{List, [], _∷_}
@@ -10,6 +11,7 @@ use lib.IntN.{ℤ, pos, natAbs, _+ℤ_}
 use Rattle.cut.specs.Total.{addUp, signedTotal}
 use Rattle.amounts.specs.Arithmetic.{cutting}
 use Rattle.outputs.specs.declared.Figures.{Figures}
+use Rattle.outputs.specs.declared.Sections.{Sections}
 use Rattle.outputs.specs.declared.Totals.{Totals}
 use Rattle.outputs.specs.Sections.{FiguresIn}
 use Rattle.outputs.specs.Names.{rows, figures, number, totals, totalNumber, addends}
@@ -27,6 +29,42 @@ figure t f = at (f .grams) (number t)
 
 abbrev pub total : String → Totals → ℤ
 total t f = at (f .grams) (totalNumber t)
+
+-- the grams of the code's sections, in the order of their numbers
+abbrev pub gramsIn : Sections → List ℤ
+gramsIn s =
+    pos (s .excretion .«n_excretion»)
+    ∷ pos (s .excretion .«tan_excretion» .whole)
+    ∷ pos (s .yard .into .n .whole)
+    ∷ pos (s .yard .into .tan .whole)
+    ∷ pos (s .yard .«nh3_nyard» .whole)
+    ∷ pos (s .yard .«n_outyard_liquid»)
+    ∷ pos (s .yard .«tan_outyard_liquid»)
+    ∷ pos (s .grazing .into .n .whole)
+    ∷ pos (s .grazing .into .tan .whole)
+    ∷ pos (s .grazing .gases .nh3 .whole)
+    ∷ pos (s .grazing .gases .n2 .whole)
+    ∷ pos (s .grazing .gases .no .whole)
+    ∷ pos (s .grazing .gases .n2o .whole)
+    ∷ pos (s .grazing .«n_remain_grazing»)
+    ∷ s .grazing .«tan_remain_grazing»
+    ∷ pos (s .housing .«n_into_housing»)
+    ∷ pos (s .housing .«tan_into_housing»)
+    ∷ pos (s .housing .«nh3_nhousing» .whole)
+    ∷ pos (s .housing .«n_outhousing»)
+    ∷ pos (s .housing .«tan_outhousing»)
+    ∷ pos (s .«pig_house» .scrubbed .«times_ef_housing_indoor_before_air_scrubber» .whole)
+    ∷ pos (s .«pig_house» .«n_outhousing_liquid»)
+    ∷ pos (s .«pig_house» .«tan_outhousing_liquid»)
+    ∷ pos (s .«pig_house» .«n_outhousing_solid»)
+    ∷ pos (s .«pig_house» .«tan_outhousing_solid»)
+    ∷ pos (s .«nx_ox» .«n2_nsolid» .whole)
+    ∷ pos (s .«nx_ox» .«no_nsolid» .whole)
+    ∷ pos (s .«nx_ox» .«n2o_nsolid» .whole)
+    ∷ pos (s .«nx_ox» .«n2_nliquid» .whole)
+    ∷ pos (s .«nx_ox» .«no_nliquid» .whole)
+    ∷ pos (s .«nx_ox» .«n2o_nliquid» .whole)
+    ∷ []
 
 -- ---- lists of grams by a rule
 

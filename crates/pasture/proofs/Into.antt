@@ -6,11 +6,14 @@ use Prim.Native.Nat.{ℕ, _+_, _-_, _*_, _≤_}
 use native.Mathlib.Nat.{le-refl}
 use native.Mathlib.Omega.{arith}
 use borrow.Author.Needs.{zero≤}
+use Rattle.cut.specs.declared.Quotient.{Quotient}
+use Rattle.cut.specs.Cut.{undivided}
 use Rattle.cut.proofs.Products.{mul-to}
 use Rattle.cut.proofs.Shares.{part-le, parts-over-le}
 use Rattle.amounts.specs.declared.Parts.{Parts}
 use Rattle.amounts.specs.Units.{tenths, year, day}
 use Rattle.amounts.specs.Arithmetic.{cutting}
+use Rattle.amounts.specs.Dividing.{dividing, uncut}
 use Rattle.amounts.specs.Bounds.{Modest, PortionsOf}
 use Rattle.amounts.proofs.Amounts.{modest-share, modest-rest}
 use Rattle.kinds.specs.declared.Outdoor.{Outdoor}
@@ -33,7 +36,8 @@ use Rattle.pasture.specs.Pasture.{
   outdoorGrazing,
   roughageGrazing,
   pigsGrazing,
-  ofGrazing,
+  handedFrom,
+  handedGrazing,
 }
 use Rattle.pasture.proofs.Times.{outdoor-grazing-time-le, times-le, roughage-grazing-time-le}
 
@@ -97,25 +101,35 @@ pub into-roughage : (h : Roughage) (n tan : ℕ) (r : Parts)
 unfolding roughageGrazingTime
 into-roughage h n tan r p = p
 
-pub pigs-modest : (t : HousingType) (n tan a b : ℕ) → Modest n tan → a ≡ pigsIntoGrazing cutting t n
-    → b ≡ pigsIntoGrazing cutting t tan → Modest a b
-pigs-modest t n tan a b m ea eb = rw (ea, eb) (pigs-pasture-modest t n tan m)
-
 module _ (r : Rates) (n tan : ℕ) (into : Parts) (g : Grazing)
-    (eg : ofGrazing g ≡ onPasture cutting r (into .n .whole) (into .tan .whole)) where
+    (eg : g ≡ handedFrom into (onPasture dividing r (uncut (into .n .whole)) (uncut (into .tan .whole)))) where
   pub is-outdoor-grazing : (o : Outdoor) → PortionsOf n tan (outdoorGrazingTime o) (day * (tenths * year)) into
-      → ofGrazing g ≡ outdoorGrazing cutting r o n tan
-  is-outdoor-grazing o p = eg ∙ rw (p .of-n .is, p .of-tan .is) refl
+      → g ≡ handedGrazing (outdoorGrazing dividing r o (uncut n) (uncut tan))
+  is-outdoor-grazing o p = eg ∙ rw (p .of-n .cut, p .of-tan .cut) refl
 
   pub is-roughage-grazing : (h : Roughage) → RatesOf roughageRates r
-      → PortionsOf n tan (roughageGrazingTime h) (day * year) into → ofGrazing g ≡ roughageGrazing cutting h n tan
-  is-roughage-grazing h er p = eg ∙ rw (er .is, p .of-n .is, p .of-tan .is) refl
+      → PortionsOf n tan (roughageGrazingTime h) (day * year) into
+      → g ≡ handedGrazing (roughageGrazing dividing h (uncut n) (uncut tan))
+  is-roughage-grazing h er p = eg ∙ rw (er .is, p .of-n .cut, p .of-tan .cut) refl
 
-pub is-pigs-grazing : (r : Rates) (t : HousingType) (n tan nInto tanInto : ℕ) (g : Grazing)
-    → ofGrazing g ≡ onPasture cutting r nInto tanInto
-    → RatesOf pigsRates r → nInto ≡ pigsIntoGrazing cutting t n → tanInto ≡ pigsIntoGrazing cutting t tan
-    → ofGrazing g ≡ pigsGrazing cutting t n tan
-is-pigs-grazing r t n tan nInto tanInto g eg er p q = eg ∙ rw (er .is, p, q) refl
+-- what pigs put on pasture of a whole number is a whole number
+pub pigs-undivided : (t : HousingType) (x : ℕ)
+    → pigsIntoGrazing dividing t (uncut x) ≡ uncut (pigsIntoGrazing cutting t x)
+pigs-undivided housed.Outdoor x = refl
+pigs-undivided housed.SlurryConventional x = refl
+pigs-undivided housed.SlurryLabel x = refl
+pigs-undivided housed.SlurryLabelOpen x = refl
+pigs-undivided housed.DeepLitter x = refl
+
+module _ (t : HousingType) (n tan a b : ℕ) (qn qt : Quotient) (ea : a ≡ pigsIntoGrazing cutting t n)
+    (eb : b ≡ pigsIntoGrazing cutting t tan) (en : qn ≡ undivided a) (et : qt ≡ undivided b) where
+  pub pigs-modest : Modest n tan → Modest (qn .whole) (qt .whole)
+  pigs-modest m = rw (en, et, ea, eb) (pigs-pasture-modest t n tan m)
+
+  pub is-pigs-grazing : (r : Rates) (g : Grazing)
+      → g ≡ handedFrom (record { n = qn; tan = qt }) (onPasture dividing r (uncut (qn .whole)) (uncut (qt .whole)))
+      → RatesOf pigsRates r → g ≡ handedGrazing (pigsGrazing dividing t (uncut n) (uncut tan))
+  is-pigs-grazing r g eg er = eg ∙ rw (er .is, en, et, ea, eb, pigs-undivided t n, pigs-undivided t tan) refl
 
 pub ruleset roughage-steps = (roughage-time-within, into-roughage, is-roughage-grazing)
 

@@ -9,13 +9,16 @@ use mir.Syntax.{w64}
 use mir.Val.{toZ, ofZ}
 use Rattle.cut.specs.declared.Quotient.{Quotient}
 use Rattle.cut.proofs.Signed.{kept}
+use Rattle.amounts.specs.declared.Parts.{Parts}
 use Rattle.amounts.specs.Units.{tenThousandths}
 use Rattle.amounts.specs.Arithmetic.{cutting}
+use Rattle.amounts.specs.Dividing.{dividing, uncut}
 use Rattle.amounts.specs.Bounds.{Modest, PortionOf}
 use Rattle.rates.specs.declared.Rates.{Rates}
 use Rattle.rates.specs.Bounds.{ModestRates}
 use Rattle.pasture.specs.declared.Gases.{Gases}
-use Rattle.pasture.specs.Pasture.{GrazingIn, gas, onPasture}
+use Rattle.pasture.specs.declared.Grazing.{Grazing}
+use Rattle.pasture.specs.Pasture.{gas, onPasture, handedFrom}
 use Rattle.pasture.specs.Bounds.{Emitted}
 
 -- ---- what is taken together is taken one by one
@@ -68,24 +71,21 @@ module _ (r : Rates) (n tan : ℕ) where
         together = omega (arith, gases-le h m, p .is, q .is, s .is, t .is);
       }
 
-  pub remains : (g : Gases) (left : ℤ) → Emitted r n tan g → mag left < 2 ^ 63
-      → left ≡ pos tan -ℤ pos (g .nh3 .whole + g .n2 .whole + g .no .whole + g .n2o .whole)
-      → _≡_ {A = GrazingIn cutting} (record {
-        «n_into_grazing» = n;
-        «tan_into_grazing» = tan;
-        «nh3_ngrazing» = g .nh3 .whole;
-        «n2_ngrazing» = g .n2 .whole;
-        «no_ngrazing» = g .no .whole;
-        «n2o_ngrazing» = g .n2o .whole;
-        «n_remain_grazing» = n - (g .nh3 .whole + g .n2 .whole + g .no .whole + g .n2o .whole);
-        «tan_remain_grazing» = toZ w64 (ofZ w64 left);
-      })
-      (onPasture cutting r n tan)
-  remains g left e fits el =
-      rw (
-        kept left fits,
-        el,
-        less-all (pos tan) (g .nh3 .whole) (g .n2 .whole) (g .no .whole) (g .n2o .whole),
-        rest-all n (g .nh3 .whole) (g .n2 .whole) (g .no .whole) (g .n2o .whole),
-        e .is,
-      ) refl
+pub remains : (r : Rates) (into : Parts) (g : Gases) (left : ℤ) → Emitted r (into .n .whole) (into .tan .whole) g
+    → mag left < 2 ^ 63
+    → left ≡ pos (into .tan .whole) -ℤ pos (g .nh3 .whole + g .n2 .whole + g .no .whole + g .n2o .whole)
+    → _≡_ {A = Grazing} (record {
+      into = into;
+      gases = g;
+      «n_remain_grazing» = into .n .whole - (g .nh3 .whole + g .n2 .whole + g .no .whole + g .n2o .whole);
+      «tan_remain_grazing» = toZ w64 (ofZ w64 left);
+    })
+    (handedFrom into (onPasture dividing r (uncut (into .n .whole)) (uncut (into .tan .whole))))
+remains r into g left e fits el =
+    rw (
+      kept left fits,
+      el,
+      less-all (pos (into .tan .whole)) (g .nh3 .whole) (g .n2 .whole) (g .no .whole) (g .n2o .whole),
+      rest-all (into .n .whole) (g .nh3 .whole) (g .n2 .whole) (g .no .whole) (g .n2o .whole),
+      e .is,
+    ) refl

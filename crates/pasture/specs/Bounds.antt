@@ -2,20 +2,11 @@
 -- 001 is defined here.
 use mathlib.Core.Path.{_≡_}
 use Prim.Native.Nat.{ℕ, _+_, _≤_}
-use Rattle.amounts.specs.Dividing.{dividing, uncut, handed}
+use Rattle.amounts.specs.Dividing.{dividing, uncut}
 use Rattle.rates.specs.declared.Rates.{Rates}
 use Rattle.pasture.specs.declared.Gases.{Gases}
-use Rattle.pasture.specs.Pasture.{gas}
-
-abbrev pub gasesOf : Rates → ℕ → ℕ → Gases
-gasesOf r n tan =
-    record {
-      nh3 = handed (gas dividing (uncut tan) (r .nh3));
-      n2 = handed (gas dividing (uncut n) (r .n2));
-      no = handed (gas dividing (uncut n) (r .no));
-      n2o = handed (gas dividing (uncut n) (r .n2o));
-    }
+use Rattle.pasture.specs.Pasture.{onPasture, handedGases}
 
 pub record Emitted (r : Rates) (n tan : ℕ) (g : Gases) : Type 0 where
-  pub is : g ≡ gasesOf r n tan
+  pub is : g ≡ handedGases (onPasture dividing r (uncut n) (uncut tan))
   pub together : g .nh3 .whole + g .n2 .whole + g .no .whole + g .n2o .whole ≤ n

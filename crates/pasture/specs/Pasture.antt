@@ -1,8 +1,10 @@
 -- 2.35, 2.61 and 2.88: what the animals excrete on pasture, the gases from it and what remains. 2.20, of dairy cows,
 -- has the formulas of 2.35, at its own rates.
 use Prim.Native.Nat.{ℕ, _+_, _-_, _*_}
+use Rattle.amounts.specs.declared.Parts.{Parts}
 use Rattle.amounts.specs.Units.{tenths, tenThousandths, year, day}
-use Rattle.amounts.specs.Arithmetic.{Arithmetic, cutting}
+use Rattle.amounts.specs.Arithmetic.{Arithmetic}
+use Rattle.amounts.specs.Dividing.{dividing, handed, worth}
 use Rattle.amounts.specs.Portion.{portion}
 use Rattle.kinds.specs.declared.Outdoor.{Outdoor}
 use Rattle.kinds.specs.declared.Roughage.{Roughage}
@@ -11,6 +13,7 @@ use Rattle.kinds.specs.declared.HousingType.the-variants as housed
 use Rattle.rates.specs.declared.Rates.{Rates}
 use Rattle.rates.specs.Rates.{pigsRates, roughageRates}
 use Rattle.yard.specs.Yard.{«days_with_grazing_and_yard», «share_excretion_with_grazing»}
+use Rattle.pasture.specs.declared.Gases.{Gases}
 use Rattle.pasture.specs.declared.Grazing.{Grazing}
 
 -- 2.35, n_into_grazing: the part of the year, in tenths of an hour and tenths of a day
@@ -87,17 +90,26 @@ module _ (A : Arithmetic) where
   abbrev pub pigsGrazing : HousingType → Amount → Amount → GrazingIn A
   pigsGrazing t n tan = onPasture pigsRates (pigsIntoGrazing t n) (pigsIntoGrazing t tan)
 
--- ---- the code's struct, on whole grams
+-- ---- the code's structs: whole numbers, and what was cut with what was cut off
 
-abbrev pub ofGrazing : Grazing → GrazingIn cutting
-ofGrazing g =
+abbrev pub handedGases : GrazingIn dividing → Gases
+handedGases g =
     record {
-      «n_into_grazing» = g .«n_into_grazing»;
-      «tan_into_grazing» = g .«tan_into_grazing»;
-      «nh3_ngrazing» = g .«nh3_ngrazing»;
-      «n2_ngrazing» = g .«n2_ngrazing»;
-      «no_ngrazing» = g .«no_ngrazing»;
-      «n2o_ngrazing» = g .«n2o_ngrazing»;
-      «n_remain_grazing» = g .«n_remain_grazing»;
-      «tan_remain_grazing» = g .«tan_remain_grazing»;
+      nh3 = handed (g .«nh3_ngrazing»);
+      n2 = handed (g .«n2_ngrazing»);
+      no = handed (g .«no_ngrazing»);
+      n2o = handed (g .«n2o_ngrazing»);
     }
+
+-- where what comes onto the pasture is handed on as it is
+abbrev pub handedFrom : Parts → GrazingIn dividing → Grazing
+handedFrom into g =
+    record {
+      into = into;
+      gases = handedGases g;
+      «n_remain_grazing» = worth (g .«n_remain_grazing»);
+      «tan_remain_grazing» = g .«tan_remain_grazing» .left;
+    }
+
+abbrev pub handedGrazing : GrazingIn dividing → Grazing
+handedGrazing g = handedFrom (record { n = handed (g .«n_into_grazing»); tan = handed (g .«tan_into_grazing») }) g

@@ -15,11 +15,12 @@ ghost use mathlib.Core.Path.{_≡_};
 ghost use Prim.Native.Nat.{_*_};
 ghost use Rattle.amounts.specs.Units.{tenths, year, day};
 ghost use Rattle.amounts.specs.Arithmetic.{cutting};
+ghost use Rattle.amounts.specs.Dividing.{dividing, uncut};
 ghost use Rattle.amounts.specs.Bounds.{Modest, PortionsOf, UpTo};
 ghost use Rattle.kinds.specs.Sound.{SoundOutdoor, SoundRoughage};
 ghost use Rattle.rates.specs.Bounds.{ModestRates};
 ghost use Rattle.pasture.specs.Pasture.{outdoorGrazingTime, roughageGrazingTime, onPasture, pigsIntoGrazing};
-ghost use Rattle.pasture.specs.Pasture.{outdoorGrazing, roughageGrazing, pigsGrazing, ofGrazing};
+ghost use Rattle.pasture.specs.Pasture.{outdoorGrazing, roughageGrazing, pigsGrazing, handedFrom, handedGrazing};
 ghost use Rattle.pasture.specs.Bounds.{Emitted};
 
 // What a pasture emits.
@@ -31,12 +32,8 @@ pub struct Gases {
 }
 
 pub struct Grazing {
-    pub n_into_grazing: u64,
-    pub tan_into_grazing: u64,
-    pub nh3_ngrazing: u64,
-    pub n2_ngrazing: u64,
-    pub no_ngrazing: u64,
-    pub n2o_ngrazing: u64,
+    pub into: Parts,
+    pub gases: Gases,
     pub n_remain_grazing: u64,
     pub tan_remain_grazing: i64,
 }
@@ -55,7 +52,7 @@ fn outdoor_grazing_time(o: Outdoor) -> u64
 }
 
 // What a herd with a yard puts on pasture, of so much N and TAN.
-pub fn outdoor_into_grazing(o: Outdoor, n: u64, tan: u64) -> Parts
+fn outdoor_into_grazing(o: Outdoor, n: u64, tan: u64) -> Parts
     requires { ⌜ SoundOutdoor o × Modest n tan ⌝ }
     ensures { λ r. ⌜ PortionsOf n tan (outdoorGrazingTime o) (day * (tenths * year)) r ⌝ }
 {
@@ -63,7 +60,7 @@ pub fn outdoor_into_grazing(o: Outdoor, n: u64, tan: u64) -> Parts
 }
 
 // What a roughage herd puts on pasture, of so much N and TAN.
-pub fn roughage_into_grazing(h: Roughage, n: u64, tan: u64) -> Parts
+fn roughage_into_grazing(h: Roughage, n: u64, tan: u64) -> Parts
     requires { ⌜ SoundRoughage h × Modest n tan ⌝ }
     ensures { λ r. ⌜ PortionsOf n tan (roughageGrazingTime h) (day * year) r ⌝ }
 {
@@ -71,7 +68,7 @@ pub fn roughage_into_grazing(h: Roughage, n: u64, tan: u64) -> Parts
 }
 
 // What pigs put on pasture of an amount: outdoors all, else nothing.
-pub fn pigs_into_grazing(housing: HousingType, amount: u64) -> u64
+fn pigs_into_grazing(housing: HousingType, amount: u64) -> u64
     ensures { λ r. ⌜ r ≡ pigsIntoGrazing cutting housing amount ⌝ }
 {
     match housing {
@@ -84,7 +81,7 @@ pub fn pigs_into_grazing(housing: HousingType, amount: u64) -> u64
 }
 
 // What a pasture emits onto which so much N and TAN comes.
-pub fn gases_of(r: Rates, n: u64, tan: u64) -> Gases
+fn gases_of(r: Rates, n: u64, tan: u64) -> Gases
     requires { ⌜ ModestRates r × Modest n tan ⌝ }
     ensures { λ g. ⌜ Emitted r n tan g ⌝ }
 {
@@ -96,19 +93,17 @@ pub fn gases_of(r: Rates, n: u64, tan: u64) -> Gases
 }
 
 // The pasture onto which so much N and TAN comes.
-fn on_pasture(r: Rates, n: u64, tan: u64) -> Grazing
-    requires { ⌜ ModestRates r × Modest n tan ⌝ }
-    ensures { λ g. ⌜ ofGrazing g ≡ onPasture cutting r n tan ⌝ }
+fn on_pasture(r: Rates, into: Parts) -> Grazing
+    requires { ⌜ ModestRates r × Modest (into .n .whole) (into .tan .whole) ⌝ }
+    ensures { λ g. ⌜ g ≡ handedFrom into (onPasture dividing r (uncut (into .n .whole)) (uncut (into .tan .whole))) ⌝ }
 {
+    let n = into.n.whole;
+    let tan = into.tan.whole;
     let g = gases_of(r, n, tan);
     let all = g.nh3.whole + g.n2.whole + g.no.whole + g.n2o.whole;
     Grazing {
-        n_into_grazing: n,
-        tan_into_grazing: tan,
-        nh3_ngrazing: g.nh3.whole,
-        n2_ngrazing: g.n2.whole,
-        no_ngrazing: g.no.whole,
-        n2o_ngrazing: g.n2o.whole,
+        into,
+        gases: g,
         n_remain_grazing: n - all,
         tan_remain_grazing: cut::less(tan, all),
     }
@@ -117,27 +112,29 @@ fn on_pasture(r: Rates, n: u64, tan: u64) -> Grazing
 // The pasture of a herd with a yard, at its kind's rates, where the herd excretes so much N and TAN.
 pub fn outdoor_grazing(r: Rates, o: Outdoor, n: u64, tan: u64) -> Grazing
     requires { ⌜ ModestRates r × SoundOutdoor o × Modest n tan ⌝ }
-    ensures { λ g. ⌜ ofGrazing g ≡ outdoorGrazing cutting r o n tan ⌝ }
+    ensures { λ g. ⌜ g ≡ handedGrazing (outdoorGrazing dividing r o (uncut n) (uncut tan)) ⌝ }
 {
     let into = outdoor_into_grazing(o, n, tan);
-    on_pasture(r, into.n.whole, into.tan.whole)
+    on_pasture(r, into)
 }
 
 // The pasture of a roughage herd.
 pub fn roughage_grazing(h: Roughage, n: u64, tan: u64) -> Grazing
     requires { ⌜ SoundRoughage h × Modest n tan ⌝ }
-    ensures { λ g. ⌜ ofGrazing g ≡ roughageGrazing cutting h n tan ⌝ }
+    ensures { λ g. ⌜ g ≡ handedGrazing (roughageGrazing dividing h (uncut n) (uncut tan)) ⌝ }
 {
     let into = roughage_into_grazing(h, n, tan);
-    on_pasture(rates::roughage_rates(), into.n.whole, into.tan.whole)
+    on_pasture(rates::roughage_rates(), into)
 }
 
 // The pasture of a pig herd.
 pub fn pigs_grazing(housing: HousingType, n: u64, tan: u64) -> Grazing
     requires { ⌜ Modest n tan ⌝ }
-    ensures { λ g. ⌜ ofGrazing g ≡ pigsGrazing cutting housing n tan ⌝ }
+    ensures { λ g. ⌜ g ≡ handedGrazing (pigsGrazing dividing housing (uncut n) (uncut tan)) ⌝ }
 {
-    let n_into = pigs_into_grazing(housing, n);
-    let tan_into = pigs_into_grazing(housing, tan);
-    on_pasture(rates::pigs_rates(), n_into, tan_into)
+    let into = Parts {
+        n: cut::undivided(pigs_into_grazing(housing, n)),
+        tan: cut::undivided(pigs_into_grazing(housing, tan)),
+    };
+    on_pasture(rates::pigs_rates(), into)
 }

@@ -8,10 +8,9 @@ use pig_factors::parameters;
 use pig_house::Scrubbed;
 ghost use mathlib.Core.Path.{_≡_};
 ghost use Prim.Native.Nat.{_<_, _^_};
-ghost use Rattle.amounts.specs.Arithmetic.{cutting};
 ghost use Rattle.amounts.specs.Dividing.{dividing, uncut};
 ghost use Rattle.kinds.specs.Sound.{SoundPigs};
-ghost use Rattle.pig_house.specs.PigHouse.{scrubbedOf, keptBack, handedScrubbed, «tan_air_scrubber»};
+ghost use Rattle.pig_house.specs.PigHouse.{scrubbedOf, keptBack, handedScrubbed};
 
 // A hundredth, in billionths.
 const HUNDREDTH: u64 = 10000000;
@@ -46,12 +45,4 @@ pub fn kept_back(p: Pigs, tan: u64) -> Scrubbed
         AirScrubber::Biotrickling => scrubbed_of(p, tan),
         AirScrubber::None => no_pig_house::no_scrubbed(),
     }
-}
-
-pub fn tan_air_scrubber(p: Pigs, tan: u64) -> u64
-    requires { ⌜ SoundPigs p × (tan < 2 ^ 32) ⌝ }
-    ensures { λ r. ⌜ r ≡ «tan_air_scrubber» cutting p tan ⌝ }
-{
-    let kept = kept_back(p, tan);
-    kept.times_ef_housing_indoor_before_air_scrubber.whole
 }

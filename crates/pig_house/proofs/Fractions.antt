@@ -1,6 +1,6 @@
 -- All or nothing: the two fractions of a pig house make up what leaves it, and the gases of 2.62 are no more than the N
 -- that goes in. Assumes nothing.
-use mathlib.Core.Path.{_≡_, refl, ap, _∙_}
+use mathlib.Core.Path.{_≡_, refl, _∙_}
 use Prim.Native.Nat.{ℕ, zero, suc, _-_, _≤_, _<_}
 use native.Mathlib.Nat.{le-trans, le-refl}
 use native.Mathlib.Omega.{arith}
@@ -14,14 +14,26 @@ use Rattle.amounts.specs.Dividing.{dividing, uncut, worth}
 use Rattle.amounts.specs.Bounds.{UpTo}
 use Rattle.kinds.specs.declared.HousingType.{HousingType}
 use Rattle.kinds.specs.declared.HousingType.the-variants as housed
-use Rattle.housing.specs.declared.Housing.{Housing}
-use Rattle.housing.specs.Housing.{ofHousing}
+use Rattle.kinds.specs.declared.Pigs.{Pigs}
+use Rattle.pig_house.specs.declared.PigFactors.{PigFactors}
+use Rattle.pig_house.specs.declared.Scrubbed.{Scrubbed}
+use Rattle.pig_house.specs.declared.PigHouse.{PigHouse}
 use Rattle.pig_house.specs.declared.NxOxRates.{NxOxRates}
 use Rattle.pig_house.specs.declared.HousingRow.{HousingRow}
 use Rattle.pig_house.specs.declared.FromFraction.{FromFraction}
 use Rattle.pig_house.specs.declared.NxOx.{NxOx}
 use Rattle.pig_house.specs.Parameters.{slurryRates, solidRates, noRates, rowOf, «share_liquid», ratesOf}
-use Rattle.pig_house.specs.PigHouse.{allOrNothing, inFractions, ofPigHouse}
+use Rattle.pig_house.specs.PigHouse.{
+  allOrNothing,
+  inFractions,
+  pigFactors,
+  noPigFactors,
+  noScrubbed,
+  noPigHouse,
+  handedPigFactors,
+  handedScrubbed,
+  handedPigHouse,
+}
 use Rattle.pig_house.specs.NxOx.{
   NxOxIn,
   nSolid,
@@ -30,7 +42,6 @@ use Rattle.pig_house.specs.NxOx.{
   nxOx,
   noNxOx,
   handedNxOx,
-  ofNxOx,
 }
 use Rattle.pig_house.specs.Bounds.{NxOxRatesTo, NxOxRatesOf, Emitted}
 
@@ -51,20 +62,36 @@ worth-of (suc share) n = refl
 
 -- ---- 2.51, the fractions
 
-pub are-fractions : (t : HousingType) (scrubbed share nLiquid tanLiquid : ℕ) (h : Housing)
-    → UpTo 1 («share_liquid» t) share
-    → UpTo (h .«n_outhousing») (allOrNothing cutting share (h .«n_outhousing»)) nLiquid
-    → UpTo (h .«tan_outhousing») (allOrNothing cutting share (h .«tan_outhousing»)) tanLiquid
-    → ofPigHouse
-    (record {
-      «tan_air_scrubber» = scrubbed;
+pub are-fractions : (p : Pigs) (scrubbed : Scrubbed) (n tan share nLiquid tanLiquid : ℕ) (f : PigFactors)
+    → f ≡ handedPigFactors (pigFactors dividing p) → UpTo 1 («share_liquid» (p .«housing_type»)) share
+    → UpTo n (allOrNothing cutting share n) nLiquid → UpTo tan (allOrNothing cutting share tan) tanLiquid
+    → _≡_ {A = PigHouse} (record {
+      factors = f;
+      scrubbed = scrubbed;
       «n_outhousing_liquid» = nLiquid;
       «tan_outhousing_liquid» = tanLiquid;
-      «n_outhousing_solid» = h .«n_outhousing» - nLiquid;
-      «tan_outhousing_solid» = h .«tan_outhousing» - tanLiquid;
+      «n_outhousing_solid» = n - nLiquid;
+      «tan_outhousing_solid» = tan - tanLiquid;
     })
-    ≡ inFractions cutting t scrubbed (ofHousing h)
-are-fractions t scrubbed share n tan h u un ut = rw (un .is, ut .is, u .is) refl
+    (handedPigHouse (pigFactors dividing p) scrubbed
+    (inFractions dividing (p .«housing_type»)
+    (uncut (scrubbed .«times_ef_housing_indoor_before_air_scrubber» .whole)) (uncut n) (uncut tan)))
+are-fractions p scrubbed n tan share nLiquid tanLiquid f ef u un ut =
+    let liquid = «share_liquid» (p .«housing_type») in
+    rw (ef, un .is, ut .is, u .is, worth-of liquid n, worth-of liquid tan) refl
+
+pub is-no-house : (f : PigFactors) (s : Scrubbed) → f ≡ handedPigFactors (noPigFactors dividing)
+    → s ≡ handedScrubbed (noScrubbed dividing)
+    → _≡_ {A = PigHouse} (record {
+      factors = f;
+      scrubbed = s;
+      «n_outhousing_liquid» = 0;
+      «tan_outhousing_liquid» = 0;
+      «n_outhousing_solid» = 0;
+      «tan_outhousing_solid» = 0;
+    })
+    (handedPigHouse (noPigFactors dividing) (handedScrubbed (noScrubbed dividing)) (noPigHouse dividing))
+is-no-house f s ef es = rw (ef, es) refl
 
 -- ---- 2.62
 
@@ -138,11 +165,6 @@ module _ (t : HousingType) (n share solid liquid : ℕ) (r : NxOxRates) (u : UpT
   are-gases s l hs hl =
       rw (hs .of-n2 .cut, hs .of-no .cut, hs .of-n2o .cut, hl .of-n2 .cut, hl .of-no .cut, hl .of-n2o .cut)
       (rw (is-solid, is-liquid, hr .is) refl)
-
--- and on whole grams
-pub gases-are : (t : HousingType) (n : ℕ) (x : NxOx) → x ≡ handedNxOx (nxOx dividing t (uncut n))
-    → ofNxOx x ≡ nxOx cutting t n
-gases-are t n x e = ap ofNxOx e ∙ rw (worth-of (1 - «share_liquid» t) n, worth-of («share_liquid» t) n) refl
 
 pub are-no-gases : (q : Quotient) → q ≡ undivided 0
     → _≡_ {A = NxOx}

@@ -29,8 +29,9 @@ use Rattle.kinds.specs.declared.HousingType.the-variants as housed
 use Rattle.kinds.specs.declared.AirScrubber.{AirScrubber}
 use Rattle.kinds.specs.declared.AirScrubber.the-variants as scrubber
 use Rattle.kinds.specs.declared.Pigs.{Pigs}
+use Rattle.housing.specs.declared.Factors.{Factors}
 use Rattle.housing.specs.declared.Housing.{Housing}
-use Rattle.housing.specs.Housing.{«c_free_factor_housing», ofHousing}
+use Rattle.housing.specs.Housing.{«c_free_factor_housing», noFactors, handedFactors, handedHousing}
 use Rattle.pig_house.specs.declared.Scrubbed.{Scrubbed}
 use Rattle.pig_house.specs.declared.PigHouse.{PigHouse}
 use Rattle.pig_house.specs.Parameters.{
@@ -60,11 +61,11 @@ use Rattle.pig_house.specs.PigHouse.{
   handedScrubbed,
   «tan_air_scrubber»,
   allOrNothing,
-  throughPigHouse,
   inFractions,
   pigHousing,
   pigHouse,
-  ofPigHouse,
+  pigFactors,
+  handedPigHouse,
 }
 use Rattle.pig_house.specs.Bounds.{Housed, indoors, outdoors, Enters}
 use Rattle.pig_house.proofs.Factor.{
@@ -110,6 +111,12 @@ module _ (x s s′ r r′ b g indoor ip gp nh3 st sc : ℕ) (es : s + s′ ≡ t
         mul-le-mul-left (x * s′) hg,
         ap (λ (y : ℕ). x * y) es,
       )
+
+-- on whole numbers it keeps the same
+pub kept-whole : (s : AirScrubber) (d : Divided) → worth (keptBy dividing s d) ≡ keptBy cutting s (worth d)
+kept-whole scrubber.Acid d = refl
+kept-whole scrubber.Biotrickling d = refl
+kept-whole scrubber.None d = refl
 
 pub kept-by-le : (s : AirScrubber) (amount : ℕ) → keptBy cutting s amount ≤ amount
 kept-by-le scrubber.Acid amount = zero≤
@@ -253,18 +260,11 @@ module _ (p : Pigs) (tan : ℕ) where
         → r ≡ handedScrubbed (keptBack dividing p (uncut tan))
     none-keeps-none q es = q ∙ rw (← e, es) refl
 
-  pub is-kept : (r : Scrubbed) → r ≡ handedScrubbed (keptBack dividing p (uncut tan))
+  is-kept : (r : Scrubbed) → r ≡ handedScrubbed (keptBack dividing p (uncut tan))
       → r .«times_ef_housing_indoor_before_air_scrubber» .whole ≡ «tan_air_scrubber» cutting p tan
   is-kept r e =
-      ap (λ (x : Scrubbed). x .«times_ef_housing_indoor_before_air_scrubber» .whole) e ∙ go (p .«air_scrubber»)
-    where
-      d : Divided
-      d = scrubbedOf dividing p (uncut tan) .«times_ef_housing_indoor_before_air_scrubber»
-
-      go : (s : AirScrubber) → worth (keptBy dividing s d) ≡ keptBy cutting s (worth d)
-      go scrubber.Acid = refl
-      go scrubber.Biotrickling = refl
-      go scrubber.None = refl
+      ap (λ (x : Scrubbed). x .«times_ef_housing_indoor_before_air_scrubber» .whole) e
+      ∙ kept-whole (p .«air_scrubber») (scrubbedOf dividing p (uncut tan) .«times_ef_housing_indoor_before_air_scrubber»)
 
 pub ruleset scrubbed-steps = (are-scrubbed, share-fits, share-of-billion-fits, share-within)
 
@@ -275,30 +275,43 @@ pub are-none-scrubbed : (q : Quotient) → q ≡ undivided 0
     (handedScrubbed (noScrubbed dividing))
 are-none-scrubbed q e = rw e refl
 
-module _ (p : Pigs) (excreted n tan scrubbed : ℕ) (nh3 : Quotient) (h : Enters p excreted n tan)
+module _ (p : Pigs) (excreted n tan : ℕ) (nh3 : Quotient) (s : Scrubbed)
     (cn : PortionOf tan («ef_nh3_nhousing» cutting p) billionths nh3)
-    (es : scrubbed ≡ «tan_air_scrubber» cutting p excreted) where
-  taken-le : nh3 .whole + scrubbed ≤ tan
-  taken-le = rw (cn .is, es) (pig-house-emits-le p excreted tan (h .housed))
+    (es : s ≡ handedScrubbed (keptBack dividing p (uncut excreted))) where
+  abbrev kept : ℕ
+  kept = s .«times_ef_housing_indoor_before_air_scrubber» .whole
 
-  pub nh3-in-n : nh3 .whole ≤ n
-  nh3-in-n = omega (arith, taken-le, h .modest .tan-most)
+  module _ (h : Enters p excreted n tan) where
+    taken-le : nh3 .whole + kept ≤ tan
+    taken-le = rw (cn .is, is-kept p excreted s es) (pig-house-emits-le p excreted tan (h .housed))
 
-  pub scrubbed-in-n : scrubbed ≤ n - nh3 .whole
-  scrubbed-in-n = omega (arith, taken-le, h .modest .tan-most)
+    pub nh3-in-n : nh3 .whole ≤ n
+    nh3-in-n = omega (arith, taken-le, h .modest .tan-most)
 
-  pub scrubbed-in-tan : scrubbed ≤ tan - nh3 .whole
-  scrubbed-in-tan = omega (arith, taken-le)
+    pub scrubbed-in-n : kept ≤ n - nh3 .whole
+    scrubbed-in-n = omega (arith, taken-le, h .modest .tan-most)
 
-  pub is-pig-housing : throughPigHouse cutting n tan (nh3 .whole) scrubbed ≡ pigHousing cutting p excreted n tan
-  is-pig-housing = rw (cn .is, es) refl
+    pub scrubbed-in-tan : kept ≤ tan - nh3 .whole
+    scrubbed-in-tan = omega (arith, taken-le)
 
-  pub is-pig-house : (q : PigHouse) (house : Housing)
-      → ofPigHouse q ≡ inFractions cutting (p .«housing_type») scrubbed (ofHousing house)
-      → ofHousing house ≡ throughPigHouse cutting n tan (nh3 .whole) scrubbed
-      → ofPigHouse q ≡ pigHouse cutting p excreted n tan
-  is-pig-house q house eq eh =
-      eq ∙ ap (inFractions cutting (p .«housing_type») scrubbed) (eh ∙ is-pig-housing)
-      ∙ ap (λ (x : ℕ). inFractions cutting (p .«housing_type») x (pigHousing cutting p excreted n tan)) es
+  pub is-pig-housing : (f : Factors) → f ≡ handedFactors (noFactors dividing)
+      → _≡_ {A = Housing} (record {
+        «n_into_housing» = n;
+        «tan_into_housing» = tan;
+        factors = f;
+        «nh3_nhousing» = nh3;
+        «n_outhousing» = n - nh3 .whole - kept;
+        «tan_outhousing» = tan - nh3 .whole - kept;
+      })
+      (handedHousing (noFactors dividing) (pigHousing dividing p (uncut excreted) (uncut n) (uncut tan)))
+  is-pig-housing f ef = rw (ef, cn .cut, es) refl
+
+  pub is-pig-house : (q : PigHouse)
+      → q ≡ handedPigHouse (pigFactors dividing p) s
+      (inFractions dividing (p .«housing_type») (uncut kept) (uncut (n - nh3 .whole - kept))
+      (uncut (tan - nh3 .whole - kept)))
+      → q ≡ handedPigHouse (pigFactors dividing p) (handedScrubbed (keptBack dividing p (uncut excreted)))
+      (pigHouse dividing p (uncut excreted) (uncut n) (uncut tan))
+  is-pig-house q eq = eq ∙ rw (cn .cut, es) refl
 
 pub ruleset house-steps = (nh3-in-n, scrubbed-in-n, scrubbed-in-tan, is-pig-housing, is-pig-house)

@@ -152,9 +152,11 @@ module _ (p : Pigs) (e : p .«housing_type» ≡ housed.Outdoor) (excreted : ℕ
 
   pub outdoor-fractions-are-empty : pigHouse cutting p excreted 0 0 ≡ noPigHouse cutting
   outdoor-fractions-are-empty =
-      ap (inFractions cutting (p .«housing_type») («tan_air_scrubber» cutting p excreted)) outdoor-house-is-empty
-      ∙ ap (λ (x : ℕ). inFractions cutting (p .«housing_type») x (throughDoor cutting 0 0)) nothing-kept
-      ∙ ap (λ (t : HousingType). inFractions cutting t 0 (throughDoor cutting 0 0)) e
+      let kept = «tan_air_scrubber» cutting p excreted in
+      ap (λ h. inFractions cutting (p .«housing_type») kept (h .«n_outhousing») (h .«tan_outhousing»))
+      outdoor-house-is-empty
+      ∙ ap (λ (x : ℕ). inFractions cutting (p .«housing_type») x 0 0) nothing-kept
+      ∙ ap (λ (t : HousingType). inFractions cutting t 0 0 0) e
 
 pub outdoors-no-gases : (n : ℕ) → nxOx cutting housed.Outdoor n ≡ noNxOx cutting
 outdoors-no-gases n = rw (mul-zero n) refl

@@ -2,7 +2,7 @@
 -- into the house, once. To be believed.
 use Prim.Native.Nat.{ℕ, _-_}
 use Rattle.amounts.specs.Units.{tenThousandths}
-use Rattle.amounts.specs.Arithmetic.{Arithmetic, cutting}
+use Rattle.amounts.specs.Arithmetic.{Arithmetic}
 use Rattle.amounts.specs.Dividing.{dividing, handed}
 use Rattle.amounts.specs.Portion.{portion}
 use Rattle.kinds.specs.declared.HousingType.{HousingType}
@@ -68,16 +68,4 @@ handedNxOx x =
       «n2_nliquid» = handed (x .«n2_nliquid»);
       «no_nliquid» = handed (x .«no_nliquid»);
       «n2o_nliquid» = handed (x .«n2o_nliquid»);
-    }
-
--- on whole grams
-abbrev pub ofNxOx : NxOx → NxOxIn cutting
-ofNxOx x =
-    record {
-      «n2_nsolid» = x .«n2_nsolid» .whole;
-      «no_nsolid» = x .«no_nsolid» .whole;
-      «n2o_nsolid» = x .«n2o_nsolid» .whole;
-      «n2_nliquid» = x .«n2_nliquid» .whole;
-      «no_nliquid» = x .«no_nliquid» .whole;
-      «n2o_nliquid» = x .«n2o_nliquid» .whole;
     }

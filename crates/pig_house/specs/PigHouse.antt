@@ -3,8 +3,8 @@
 -- the order of the source formula"; a product with exactly 1 or 0 divides nothing. To be believed.
 use Prim.Native.Nat.{ℕ, zero, suc, _-_, _*_}
 use Rattle.amounts.specs.Units.{tenths, percent, billionths}
-use Rattle.amounts.specs.Arithmetic.{Arithmetic, cutting}
-use Rattle.amounts.specs.Dividing.{dividing, handed}
+use Rattle.amounts.specs.Arithmetic.{Arithmetic}
+use Rattle.amounts.specs.Dividing.{dividing, handed, worth}
 use Rattle.amounts.specs.Portion.{portion}
 use Rattle.kinds.specs.declared.HousingType.{HousingType}
 use Rattle.kinds.specs.declared.AirScrubber.{AirScrubber}
@@ -169,14 +169,14 @@ module _ (A : Arithmetic) where
       }
 
   -- n_ and tan_outhousing_liquid by share_liquid; n_ and tan_outhousing_solid are the rest
-  abbrev pub inFractions : HousingType → Amount → HousingIn A → PigHouseIn A
-  inFractions t scrubbed h =
+  abbrev pub inFractions : HousingType → Amount → Amount → Amount → PigHouseIn A
+  inFractions t scrubbed n tan =
       record {
         «tan_air_scrubber» = scrubbed;
-        «n_outhousing_liquid» = allOrNothing («share_liquid» t) (h .«n_outhousing»);
-        «tan_outhousing_liquid» = allOrNothing («share_liquid» t) (h .«tan_outhousing»);
-        «n_outhousing_solid» = h .«n_outhousing» ⊖ allOrNothing («share_liquid» t) (h .«n_outhousing»);
-        «tan_outhousing_solid» = h .«tan_outhousing» ⊖ allOrNothing («share_liquid» t) (h .«tan_outhousing»);
+        «n_outhousing_liquid» = allOrNothing («share_liquid» t) n;
+        «tan_outhousing_liquid» = allOrNothing («share_liquid» t) tan;
+        «n_outhousing_solid» = n ⊖ allOrNothing («share_liquid» t) n;
+        «tan_outhousing_solid» = tan ⊖ allOrNothing («share_liquid» t) tan;
       }
 
   -- the house of a herd that excretes so much TAN, into which so much N and TAN goes
@@ -185,7 +185,8 @@ module _ (A : Arithmetic) where
 
   abbrev pub pigHouse : Pigs → Amount → Amount → Amount → PigHouseIn A
   pigHouse p excreted n tan =
-      inFractions (p .«housing_type») («tan_air_scrubber» p excreted) (pigHousing p excreted n tan)
+      let house = pigHousing p excreted n tan in
+      inFractions (p .«housing_type») («tan_air_scrubber» p excreted) (house .«n_outhousing») (house .«tan_outhousing»)
 
   -- a kind without such a house
   abbrev pub noPigHouse : PigHouseIn A
@@ -233,13 +234,14 @@ handedScrubbed s =
       «times_ef_housing_indoor_before_air_scrubber» = handed (s .«times_ef_housing_indoor_before_air_scrubber»);
     }
 
--- on whole grams
-abbrev pub ofPigHouse : PigHouse → PigHouseIn cutting
-ofPigHouse h =
+-- the house, beside its factors and what its scrubber keeps
+abbrev pub handedPigHouse : PigFactorsIn dividing → Scrubbed → PigHouseIn dividing → PigHouse
+handedPigHouse f s h =
     record {
-      «tan_air_scrubber» = h .«tan_air_scrubber»;
-      «n_outhousing_liquid» = h .«n_outhousing_liquid»;
-      «tan_outhousing_liquid» = h .«tan_outhousing_liquid»;
-      «n_outhousing_solid» = h .«n_outhousing_solid»;
-      «tan_outhousing_solid» = h .«tan_outhousing_solid»;
+      factors = handedPigFactors f;
+      scrubbed = s;
+      «n_outhousing_liquid» = worth (h .«n_outhousing_liquid»);
+      «tan_outhousing_liquid» = worth (h .«tan_outhousing_liquid»);
+      «n_outhousing_solid» = worth (h .«n_outhousing_solid»);
+      «tan_outhousing_solid» = worth (h .«tan_outhousing_solid»);
     }

@@ -20,7 +20,8 @@ pub struct Scrubbed {
 
 // What a pig house has beside what every house has.
 pub struct PigHouse {
-    pub tan_air_scrubber: u64,
+    pub factors: PigFactors,
+    pub scrubbed: Scrubbed,
     pub n_outhousing_liquid: u64,
     pub tan_outhousing_liquid: u64,
     pub n_outhousing_solid: u64,

@@ -8,16 +8,19 @@ use borrow.Author.Tests.{lt-ltb, le-ltb}
 use mir.Syntax.{w64}
 use mir.Val.{Fits}
 use Rattle.cut.specs.declared.Quotient.{Quotient}
+use Rattle.cut.specs.Cut.{undivided}
 use Rattle.cut.proofs.Products.{mul-fits}
 use Rattle.cut.proofs.Shares.{part-le, least-most}
 use Rattle.amounts.specs.declared.Parts.{Parts}
 use Rattle.amounts.specs.Units.{tenths, percent, tenThousandths, year}
 use Rattle.amounts.specs.Arithmetic.{cutting}
+use Rattle.amounts.specs.Dividing.{dividing, uncut}
 use Rattle.amounts.specs.Bounds.{Modest, PortionOf, PortionsOf, UpTo}
 use Rattle.amounts.proofs.Amounts.{modest-share}
 use Rattle.kinds.specs.declared.Outdoor.{Outdoor}
 use Rattle.kinds.specs.Free.{«c_free_factor»}
 use Rattle.kinds.specs.Sound.{SoundOutdoor}
+use Rattle.yard.specs.declared.Yard.{Yard}
 use Rattle.yard.specs.Yard.{
   «er_yard»,
   «c_floor_properties_exercise_yard»,
@@ -26,8 +29,9 @@ use Rattle.yard.specs.Yard.{
   «ef_nh3_nyard»,
   intoYard,
   nh3OnYard,
-  throughYard,
   onYard,
+  noYard,
+  handedYard,
 }
 use Rattle.yard.proofs.Times.{yard-time-le}
 
@@ -79,10 +83,26 @@ module _ (o : Outdoor) (s : SoundOutdoor o) where
 
 pub ruleset yard-rate-steps = (rate-fits, under-yard-ceiling, at-yard-ceiling)
 
--- ---- the code's step
+-- ---- the code's steps
 
 pub is-yard : (o : Outdoor) (n tan : ℕ) (into : Parts) (nh3 : Quotient)
     → PortionsOf n tan (yardTime o) (tenths * year) into
     → PortionOf (into .tan .whole) («ef_nh3_nyard» o) (tenThousandths * percent * percent) nh3
-    → throughYard cutting (into .n .whole) (into .tan .whole) (nh3 .whole) ≡ onYard cutting o n tan
-is-yard o n tan into nh3 p g = rw (g .is, p .of-n .is, p .of-tan .is) refl
+    → _≡_ {A = Yard} (record {
+      into = into;
+      «nh3_nyard» = nh3;
+      «n_outyard_liquid» = into .n .whole - nh3 .whole;
+      «tan_outyard_liquid» = into .tan .whole - nh3 .whole;
+    })
+    (handedYard (onYard dividing o (uncut n) (uncut tan)))
+is-yard o n tan into nh3 p g = rw (g .cut, p .of-n .cut, p .of-tan .cut) refl
+
+pub is-no-yard : (q : Quotient) → q ≡ undivided 0
+    → _≡_ {A = Yard} (record {
+      into = record { n = q; tan = q };
+      «nh3_nyard» = q;
+      «n_outyard_liquid» = 0;
+      «tan_outyard_liquid» = 0;
+    })
+    (handedYard (noYard dividing))
+is-no-yard q e = rw e refl

@@ -11,7 +11,8 @@ use lib.IntN.{ℤ}
 use Rattle.base.specs.Pick.{pick}
 use Rattle.cut.specs.Cut.{least}
 use Rattle.amounts.specs.Units.{tenths, percent, tenThousandths, year}
-use Rattle.amounts.specs.Arithmetic.{Arithmetic, cutting}
+use Rattle.amounts.specs.Arithmetic.{Arithmetic}
+use Rattle.amounts.specs.Dividing.{dividing, handed, worth}
 use Rattle.amounts.specs.Portion.{portion}
 use Rattle.kinds.specs.declared.ExerciseYard.{ExerciseYard}
 use Rattle.kinds.specs.declared.ExerciseYard.the-variants.{NotAvailable, NotSupplied, Partly, Exclusively}
@@ -139,13 +140,12 @@ module _ (A : Arithmetic) where
   abbrev pub noYard : YardIn A
   noYard = throughYard (whole 0) (whole 0) (whole 0)
 
--- the code's struct, on whole grams
-abbrev pub ofYard : Yard → YardIn cutting
-ofYard y =
+-- the code's struct: whole numbers, and what was cut with what was cut off
+abbrev pub handedYard : YardIn dividing → Yard
+handedYard y =
     record {
-      «n_into_yard» = y .«n_into_yard»;
-      «tan_into_yard» = y .«tan_into_yard»;
-      «nh3_nyard» = y .«nh3_nyard»;
-      «n_outyard_liquid» = y .«n_outyard_liquid»;
-      «tan_outyard_liquid» = y .«tan_outyard_liquid»;
+      into = record { n = handed (y .«n_into_yard»); tan = handed (y .«tan_into_yard») };
+      «nh3_nyard» = handed (y .«nh3_nyard»);
+      «n_outyard_liquid» = worth (y .«n_outyard_liquid»);
+      «tan_outyard_liquid» = worth (y .«tan_outyard_liquid»);
     }

@@ -17,18 +17,17 @@ use kinds::Outdoor;
 ghost use mathlib.Core.Path.{_≡_};
 ghost use Prim.Native.Nat.{_*_, _<_, _^_};
 ghost use Rattle.amounts.specs.Units.{tenths, percent, tenThousandths, year};
-ghost use Rattle.amounts.specs.Arithmetic.{cutting};
+ghost use Rattle.amounts.specs.Dividing.{dividing, uncut};
 ghost use Rattle.amounts.specs.Bounds.{Modest, PortionOf, PortionsOf, UpTo};
 ghost use Rattle.kinds.specs.Sound.{SoundOutdoor};
 ghost use Rattle.yard.specs.Yard.{«share_excretion», shareLowered, «share_excretion_with_grazing»};
 ghost use Rattle.yard.specs.Yard.{«red_floor_properties», «c_floor_properties_exercise_yard», «ef_nh3_nyard»};
-ghost use Rattle.yard.specs.Yard.{yardTime, onYard, noYard, ofYard};
+ghost use Rattle.yard.specs.Yard.{yardTime, onYard, noYard, handedYard};
 ghost use Rattle.yard.specs.Bounds.{Both};
 
 pub struct Yard {
-    pub n_into_yard: u64,
-    pub tan_into_yard: u64,
-    pub nh3_nyard: u64,
+    pub into: Parts,
+    pub nh3_nyard: Quotient,
     pub n_outyard_liquid: u64,
     pub tan_outyard_liquid: u64,
 }
@@ -150,7 +149,7 @@ fn ef_nh3_nyard(o: Outdoor) -> u64
 }
 
 // What comes onto the yard, of so much N and TAN.
-pub fn into_yard(o: Outdoor, n: u64, tan: u64) -> Parts
+fn into_yard(o: Outdoor, n: u64, tan: u64) -> Parts
     requires { ⌜ SoundOutdoor o × Modest n tan ⌝ }
     ensures { λ r. ⌜ PortionsOf n tan (yardTime o) (tenths * year) r ⌝ }
 {
@@ -158,7 +157,7 @@ pub fn into_yard(o: Outdoor, n: u64, tan: u64) -> Parts
 }
 
 // The ammonia from so much TAN on the yard.
-pub fn nh3_on_yard(o: Outdoor, tan: u64) -> Quotient
+fn nh3_on_yard(o: Outdoor, tan: u64) -> Quotient
     requires { ⌜ SoundOutdoor o × (tan < 2 ^ 32) ⌝ }
     ensures { λ q. ⌜ PortionOf tan («ef_nh3_nyard» o) (tenThousandths * percent * percent) q ⌝ }
 {
@@ -168,27 +167,26 @@ pub fn nh3_on_yard(o: Outdoor, tan: u64) -> Quotient
 // The yard of a herd that excretes so much N and TAN.
 pub fn on_yard(o: Outdoor, n: u64, tan: u64) -> Yard
     requires { ⌜ SoundOutdoor o × Modest n tan ⌝ }
-    ensures { λ r. ⌜ ofYard r ≡ onYard cutting o n tan ⌝ }
+    ensures { λ r. ⌜ r ≡ handedYard (onYard dividing o (uncut n) (uncut tan)) ⌝ }
 {
     let into = into_yard(o, n, tan);
-    let nh3 = nh3_on_yard(o, into.tan.whole).whole;
+    let nh3 = nh3_on_yard(o, into.tan.whole);
     Yard {
-        n_into_yard: into.n.whole,
-        tan_into_yard: into.tan.whole,
+        into,
         nh3_nyard: nh3,
-        n_outyard_liquid: into.n.whole - nh3,
-        tan_outyard_liquid: into.tan.whole - nh3,
+        n_outyard_liquid: into.n.whole - nh3.whole,
+        tan_outyard_liquid: into.tan.whole - nh3.whole,
     }
 }
 
 // No yard.
 pub fn no_yard() -> Yard
-    ensures { λ r. ⌜ ofYard r ≡ noYard cutting ⌝ }
+    ensures { λ r. ⌜ r ≡ handedYard (noYard dividing) ⌝ }
 {
+    let none = cut::undivided(0);
     Yard {
-        n_into_yard: 0,
-        tan_into_yard: 0,
-        nh3_nyard: 0,
+        into: Parts { n: none, tan: none },
+        nh3_nyard: none,
         n_outyard_liquid: 0,
         tan_outyard_liquid: 0,
     }

@@ -1,27 +1,36 @@
--- `herd_figures::figures` meets its contract, by the kind. Assumes nothing.
-use Rattle.kinds.proofs.OfKind.{of-kind}
-use Rattle.herd.proofs.Herds.{kind-steps}
+-- `herd_figures::figures` meets its contract, by the kind: the grams of a herd's sections are its figures. Assumes nothing.
 use borrow.Author.Needs.{needs}
+use Rattle.kinds.proofs.OfKind.{of-kind}
+use Rattle.herd.proofs.Agree.{kind-steps}
 use Rattle.herd_figures.proofs.figures.Statement.{statement}
 use Rattle.herd_figures.proofs.figures.Tie as tie
 
 enum-known-inputs : tie.Need-enum-known-inputs
 enum-known-inputs c = search needs
 
-roughage-figures-requires : tie.Need-roughage-figures-requires
-roughage-figures-requires c κs = search (needs, of-kind)
+roughage-sections-requires : tie.Need-roughage-sections-requires
+roughage-sections-requires c κs = search (needs, of-kind)
+
+by-number-requires : tie.Need-by-number-requires
+by-number-requires c κs = search (needs, kind-steps)
 
 enum-known-inputs-2 : tie.Need-enum-known-inputs-2
 enum-known-inputs-2 c = search needs
 
-cattle-figures-requires : tie.Need-cattle-figures-requires
-cattle-figures-requires c κs = search (needs, of-kind)
+cattle-sections-requires : tie.Need-cattle-sections-requires
+cattle-sections-requires c κs = search (needs, of-kind)
+
+by-number-requires-2 : tie.Need-by-number-requires-2
+by-number-requires-2 c κs = search (needs, kind-steps)
 
 enum-known-inputs-3 : tie.Need-enum-known-inputs-3
 enum-known-inputs-3 c = search needs
 
-pigs-figures-requires : tie.Need-pigs-figures-requires
-pigs-figures-requires c κs = search (needs, of-kind)
+pigs-sections-requires : tie.Need-pigs-sections-requires
+pigs-sections-requires c κs = search (needs, of-kind)
+
+by-number-requires-3 : tie.Need-by-number-requires-3
+by-number-requires-3 c κs = search (needs, kind-steps)
 
 returns : tie.Need-returns
 returns c = search (needs, kind-steps)
@@ -37,11 +46,14 @@ figures-spec =
     tie.close
     (tie.spec
     enum-known-inputs
-    roughage-figures-requires
+    roughage-sections-requires
+    by-number-requires
     enum-known-inputs-2
-    cattle-figures-requires
+    cattle-sections-requires
+    by-number-requires-2
     enum-known-inputs-3
-    pigs-figures-requires
+    pigs-sections-requires
+    by-number-requires-3
     returns
     returns-2
     returns-3)

@@ -4,9 +4,6 @@ use Rattle.housing.proofs.InHousing.{factor-steps}
 use Rattle.housing.proofs.ef_nh3_nhousing.Statement.{statement}
 use Rattle.housing.proofs.ef_nh3_nhousing.Tie as tie
 
-factors-of-requires : tie.Need-factors-of-requires
-factors-of-requires c κs = search needs
-
 returns : tie.Need-returns
 returns c = search (needs, factor-steps)
 
@@ -14,4 +11,4 @@ returns-2 : tie.Need-returns-2
 returns-2 c = search (needs, factor-steps)
 
 pub ef-nh3-nhousing-spec : {M : Type 1} → statement M
-ef-nh3-nhousing-spec = tie.close (tie.spec factors-of-requires returns returns-2)
+ef-nh3-nhousing-spec = tie.close (tie.spec returns returns-2)

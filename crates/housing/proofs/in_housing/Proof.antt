@@ -5,6 +5,9 @@ use Rattle.housing.proofs.InHousing.{is-housing}
 use Rattle.housing.proofs.in_housing.Statement.{statement}
 use Rattle.housing.proofs.in_housing.Tie as tie
 
+factors-of-requires : tie.Need-factors-of-requires
+factors-of-requires c κs = search needs
+
 nh3-in-housing-requires : tie.Need-nh3-in-housing-requires
 nh3-in-housing-requires c κs = search needs
 
@@ -18,4 +21,4 @@ returns : tie.Need-returns
 returns c = search (needs, is-housing)
 
 pub in-housing-spec : {M : Type 1} → statement M
-in-housing-spec = tie.close (tie.spec nh3-in-housing-requires sub-t6 sub-t7 returns)
+in-housing-spec = tie.close (tie.spec factors-of-requires nh3-in-housing-requires sub-t6 sub-t7 returns)

@@ -16,8 +16,8 @@ add-all-2 c = search needs
 add-all-3 : tie.Need-add-all-3
 add-all-3 c = search needs
 
-sub-t6 : tie.Need-sub-t6
-sub-t6 c = search needs
+sub-t7 : tie.Need-sub-t7
+sub-t7 c = search needs
 
 less-requires : tie.Need-less-requires
 less-requires c κs = search needs
@@ -27,4 +27,4 @@ returns c = search (needs, remains)
 
 pub on-pasture-spec : {M : Type 1} → statement M
 on-pasture-spec =
-    tie.close (tie.spec gases-of-requires add-all add-all-2 add-all-3 sub-t6 less-requires returns)
+    tie.close (tie.spec gases-of-requires add-all add-all-2 add-all-3 sub-t7 less-requires returns)

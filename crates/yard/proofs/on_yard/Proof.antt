@@ -11,14 +11,14 @@ into-yard-requires c κs = search needs
 nh3-on-yard-requires : tie.Need-nh3-on-yard-requires
 nh3-on-yard-requires c κs = search needs
 
+sub-t6 : tie.Need-sub-t6
+sub-t6 c = search needs
+
 sub-t7 : tie.Need-sub-t7
 sub-t7 c = search needs
-
-sub-t8 : tie.Need-sub-t8
-sub-t8 c = search needs
 
 returns : tie.Need-returns
 returns c = search (needs, is-yard)
 
 pub on-yard-spec : {M : Type 1} → statement M
-on-yard-spec = tie.close (tie.spec into-yard-requires nh3-on-yard-requires sub-t7 sub-t8 returns)
+on-yard-spec = tie.close (tie.spec into-yard-requires nh3-on-yard-requires sub-t6 sub-t7 returns)

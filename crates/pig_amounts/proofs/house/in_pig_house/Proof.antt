@@ -8,20 +8,23 @@ use Rattle.pig_amounts.proofs.house.in_pig_house.Tie as tie
 nh3-in-pig-house-requires : tie.Need-nh3-in-pig-house-requires
 nh3-in-pig-house-requires c κs = search needs
 
-tan-air-scrubber-requires : tie.Need-tan-air-scrubber-requires
-tan-air-scrubber-requires c κs = search needs
+kept-back-requires : tie.Need-kept-back-requires
+kept-back-requires c κs = search needs
 
-sub-t10 : tie.Need-sub-t10
-sub-t10 c = search (needs, house-steps)
+sub-n-out : tie.Need-sub-n-out
+sub-n-out c = search (needs, house-steps)
 
-sub-t11 : tie.Need-sub-t11
-sub-t11 c = search (needs, house-steps)
+sub-n-out-2 : tie.Need-sub-n-out-2
+sub-n-out-2 c = search (needs, house-steps)
 
-sub-t12 : tie.Need-sub-t12
-sub-t12 c = search (needs, house-steps)
+sub-tan-out : tie.Need-sub-tan-out
+sub-tan-out c = search (needs, house-steps)
 
-sub-t13 : tie.Need-sub-t13
-sub-t13 c = search (needs, house-steps)
+sub-tan-out-2 : tie.Need-sub-tan-out-2
+sub-tan-out-2 c = search (needs, house-steps)
+
+no-factors-requires : tie.Need-no-factors-requires
+no-factors-requires c κs = search needs
 
 in-fractions-requires : tie.Need-in-fractions-requires
 in-fractions-requires c κs = search needs
@@ -34,10 +37,11 @@ in-pig-house-spec =
     tie.close
     (tie.spec
     nh3-in-pig-house-requires
-    tan-air-scrubber-requires
-    sub-t10
-    sub-t11
-    sub-t12
-    sub-t13
+    kept-back-requires
+    sub-n-out
+    sub-n-out-2
+    sub-tan-out
+    sub-tan-out-2
+    no-factors-requires
     in-fractions-requires
     returns)
