@@ -89,7 +89,7 @@ module _ {s : List ℕ} {f : Farm} (k : KeepsRules s f) where
   accepting the-totals = rw read-as (ap writes totals-are)
   accepting (the-whole v) = rw read-as (ap writes (view-is v))
 
-  printed-view : (v : View) → outputOf v s ≡ viewText v hs
+  pub printed-view : (v : View) → outputOf v s ≡ viewText v hs
   unfolding outputOf
   printed-view v = rw read-as (view-is v)
 

@@ -1,7 +1,8 @@
--- Small logs on both sides of the rules, computed from the definitions. Assumes nothing.
+-- Small logs on both sides of the rules, and the inputs of a farm file that take what is printed, computed from the
+-- definitions. Assumes nothing.
 use Prim.Native.String.{String}
 use mathlib.Core.Path.{_≡_, refl}
-use mathlib.Core.List.{[], _∷_, map}
+use mathlib.Core.List.{List, [], _∷_, map}
 use Rattle.base.specs.Text.{bytes}
 use Rattle.grammar.specs.Reading.{atStart, inPlain, inQuotes, pastQuote, pastCR, readingFrom, readingOf}
 use Rattle.numbers.specs.Reading.{wholeFrom, zeroFrom, anyNumberOf, numberOf}
@@ -16,6 +17,8 @@ use Rattle.gate_days.specs.Days.{day, hoursOf, dayOf}
 use Rattle.outdoors.specs.Outdoors.{outdoorsOf}
 use Rattle.outdoors.specs.Tallies.{withDay}
 use Rattle.gate.specs.Logs.{finished, readFrom, readLog}
+use Rattle.inputs.specs.Inputs.{rowAt}
+use Rattle.gate_rules.specs.FarmFile.{Input, inputsNamed}
 
 abbrev answer : String → LogAnswer
 answer text = readLog (bytes text)
@@ -53,3 +56,15 @@ pub outdoors-row :
     ≡ record { «grazing_days» = 2; «yard_days» = 1; «grazing_hours» = 52 }
 unfolding outdoorsOf
 outdoors-row = refl
+
+-- the modules that have an input of a name
+abbrev modulesWith : String → List String
+modulesWith t = map (λ (i : Input). rowAt (i .kind) (i .slot) .path) (inputsNamed t)
+
+pub taken-by :
+    map modulesWith ("grazing_days" ∷ "yard_days" ∷ "grazing_hours" ∷ [])
+    ≡ ("Livestock::RoughageConsuming::Grazing" ∷ "Livestock::OtherCattle::Outdoor" ∷ "Livestock::DairyCow::Outdoor" ∷ [])
+    ∷ ("Livestock::OtherCattle::Outdoor" ∷ "Livestock::DairyCow::Outdoor" ∷ [])
+    ∷ ("Livestock::RoughageConsuming::Grazing" ∷ "Livestock::OtherCattle::Outdoor" ∷ "Livestock::DairyCow::Outdoor" ∷ [])
+    ∷ []
+taken-by = refl

@@ -19,9 +19,11 @@ use Rattle.outdoors.specs.declared.Outdoors.{Outdoors}
 use Rattle.gate.specs.declared.LogAnswer.the-variants.{Gives}
 use Rattle.gate.specs.Logs.{readLog}
 use Rattle.outdoors_lines.specs.Lines.{tenthsOf}
-use Rattle.gate_rules.specs.FarmFile.{Fits, entriesOf, Takes}
+use Rattle.gate_answer.specs.Program.{logOutput}
+use Rattle.gate_rules.specs.FarmFile.{Fits, Printed, printedOf, inputsNamed, Takes, TakesAll}
 use Rattle.gate_rules.proofs.Accepts.{accepts-exactly}
 use Rattle.gate_rules.proofs.Ranges.{log-fits}
+use Rattle.gate_rules.proofs.Printed.{log-prints-records}
 
 -- ---- tenths that are written read as themselves
 
@@ -55,34 +57,33 @@ tenths-number n =
     (rw one (mul-one (value (wholeOf (n / 10) ++ wholeOf (n % 10))) ∙ is))
     (IsNumber.pointed {d = 1} (w .whole) (digits (f .whole)) (omega arith) (omega arith))
 
--- ---- the entries
+-- ---- the inputs of each name
 
 module _ (o : Outdoors) (fits : Fits o) (label : List ℕ) (good : GoodLabel label) where
-  entries-taken : Each (Takes label) (entriesOf o)
+  all-taken : Each (λ p. Each (Takes label p) (inputsNamed (p .name))) (printedOf o)
   unfolding formOf
-  entries-taken =
+  all-taken =
       let grazing = ValueIs.number (whole-number (o .«grazing_days»)) (fits .grazing) in
       let yard = ValueIs.number (whole-number (o .«yard_days»)) (fits .yard) in
       let hours = ValueIs.number (tenths-number (o .«grazing_hours»)) (fits .hours) in
       more
-      (record { slot = 5; says = RecordSays.says good (record { inside = lit< tt; path = refl; name = refl }) grazing })
+      (more (RecordSays.says good (record { inside = lit< tt; path = refl; name = refl }) grazing)
+      (more (RecordSays.says good (record { inside = lit< tt; path = refl; name = refl }) grazing)
+      (more (RecordSays.says good (record { inside = lit< tt; path = refl; name = refl }) grazing) none)))
       (more
-      (record { slot = 6; says = RecordSays.says good (record { inside = lit< tt; path = refl; name = refl }) hours })
+      (more (RecordSays.says good (record { inside = lit< tt; path = refl; name = refl }) yard)
+      (more (RecordSays.says good (record { inside = lit< tt; path = refl; name = refl }) yard) none))
       (more
-      (record { slot = 3; says = RecordSays.says good (record { inside = lit< tt; path = refl; name = refl }) yard })
-      (more
-      (record { slot = 7; says = RecordSays.says good (record { inside = lit< tt; path = refl; name = refl }) grazing })
-      (more
-      (record { slot = 8; says = RecordSays.says good (record { inside = lit< tt; path = refl; name = refl }) hours })
-      (more
-      (record { slot = 3; says = RecordSays.says good (record { inside = lit< tt; path = refl; name = refl }) yard })
-      (more
-      (record { slot = 7; says = RecordSays.says good (record { inside = lit< tt; path = refl; name = refl }) grazing })
-      (more
-      (record { slot = 8; says = RecordSays.says good (record { inside = lit< tt; path = refl; name = refl }) hours })
-      none)))))))
+      (more (RecordSays.says good (record { inside = lit< tt; path = refl; name = refl }) hours)
+      (more (RecordSays.says good (record { inside = lit< tt; path = refl; name = refl }) hours)
+      (more (RecordSays.says good (record { inside = lit< tt; path = refl; name = refl }) hours) none)))
+      none))
 
--- whatever a log comes to, a farm file takes it, for a herd of any good label
+-- whatever a log comes to, a farm file takes it as it is printed, for a herd of any good label
 pub farm-file-takes : (s : List ℕ) (o : Outdoors) → readLog s ≡ Gives o → (label : List ℕ) → GoodLabel label
-    → Each (Takes label) (entriesOf o)
-farm-file-takes s o e label good = entries-taken o (log-fits s o (accepts-exactly s o .0 e)) label good
+    → TakesAll label (printedOf o) (logOutput s)
+farm-file-takes s o e label good =
+    record {
+      printed = rw e at (log-prints-records s);
+      taken = all-taken o (log-fits s o (accepts-exactly s o .0 e)) label good;
+    }

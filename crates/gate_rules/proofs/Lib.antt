@@ -4,5 +4,6 @@ pub mod Answers
 pub mod Accepts
 pub mod Refuses
 pub mod Ranges
+pub mod Printed
 pub mod FarmFile
 pub mod Examples

@@ -1,3 +1,4 @@
 pub mod Rules
 pub mod Refusals
 pub mod FarmFile
+pub mod Printed

@@ -4,3 +4,4 @@ pub mod OneByOne
 pub mod Middles
 pub mod Records
 pub mod Lengths
+pub mod Examples

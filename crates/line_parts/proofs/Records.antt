@@ -1,41 +1,29 @@
--- Lines as RFC 4180 records: fields that need no quotes, a label's field, and lines one after the other, which are a
--- file. Assumes nothing.
-use Prim.Native.Nat.{ℕ, _≤_, _<_}
-use mathlib.Core.Path.{_≡_, refl, sym, ap, subst, _∙_}
+-- Lines as RFC 4180 records: the label's field, the path of a kind, and the lines of a list's entries one after the
+-- other. Assumes nothing.
+use Prim.Native.Nat.{ℕ, _≤_}
+use mathlib.Core.Path.{_≡_, refl, sym, subst}
 use mathlib.Core.Bool.{Bool, true, false, not, _&&_}
-use mathlib.Core.List.{List, [], _∷_, _++_, map, append-assoc}
+use mathlib.Core.List.{List, [], _∷_, map}
 use native.Mathlib.Omega.{arith}
-use borrow.Author.Tests.{ltb-true, leb-true, eqb-false, not-true}
-use lib.Dec.{ltb, leb, eqb}
+use borrow.Author.Tests.{leb-true, eqb-false, not-true}
+use lib.Dec.{leb, eqb}
 use Rattle.base.specs.Pick.{pick}
+use Rattle.base.specs.Text.{bytes}
+use Rattle.base.specs.Each.{Each, none, more}
 use Rattle.base.specs.Runs.{all}
 use Rattle.base.proofs.Clash.{clash}
 use Rattle.base.proofs.Holds.{both-true}
-use Rattle.grammar.specs.Grammar.{comma, quote, cr, lf, Text, Plain, Inside, FieldOf, RecordOf, FileOf}
+use Rattle.grammar.specs.Grammar.{comma, quote, Plain, Inside, FieldOf}
+use Rattle.record_lines.specs.Records.{RecordsOf}
+use Rattle.record_lines.proofs.Plain.{plain}
+use Rattle.record_lines.proofs.Records.{no-records, both}
+use Rattle.inputs.specs.declared.Kind.{Kind}
+use Rattle.inputs.specs.declared.Kind.the-variants.{Roughage, Cattle, Pigs, DairyCow}
 use Rattle.farm.specs.declared.Label.{Label}
 use Rattle.farm.specs.Labels.{byteOk, allOk, text, labelOk}
 use Rattle.line_parts.specs.Fields.{hasComma, labelField, each}
+use Rattle.line_parts.specs.Paths.{pathOf}
 use Rattle.line_parts.proofs.LabelField.{quoted, bare}
-
--- ---- fields that need no quotes
-
--- bytes past the comma are text: letters, digits, `_`, `:`, `.` and `-`
-pub past-comma : (b : ℕ) → 44 < b → Text b
-past-comma b h = record
-    { no-comma = λ e. omega arith; no-quote = λ e. omega arith; no-cr = λ e. omega arith; no-lf = λ e. omega arith }
-
-abbrev pub allPast : List ℕ → Bool
-allPast s = all (ltb 44) s
-
-pub plain : (s : List ℕ) → allPast s ≡ true → Plain s
-plain [] e = Plain.none
-plain (b ∷ s) e =
-    let h = both-true (ltb 44 b) (allPast s) e in
-    Plain.byte (past-comma b (ltb-true 44 b (h .0))) (plain s (h .1))
-
-pub plain-append : {a b : List ℕ} → Plain a → Plain b → Plain (a ++ b)
-plain-append Plain.none q = q
-plain-append (Plain.byte t p) q = Plain.byte t (plain-append p q)
 
 -- ---- the label
 
@@ -88,22 +76,28 @@ label-field s e = go (hasComma s) refl
     go true h = subst (FieldOf s) (quoted s true h refl) (FieldOf.quoted (inside s e))
     go false h = subst (FieldOf s) (bare s false h refl) (FieldOf.plain (unquoted s e (sym h)))
 
--- ---- a line, and lines
+-- ---- the path
 
--- a line is a record of these fields and CRLF
-pub record Line (cs : List (List ℕ)) (t : List ℕ) : Type 0 where
-  pub front : List ℕ
-  pub reads : RecordOf cs front
-  pub ended : t ≡ front ++ (cr ∷ lf ∷ [])
+pub plain-path : (k : Kind) → Plain (bytes (pathOf k))
+plain-path Roughage = plain _ refl
+plain-path Cattle = plain _ refl
+plain-path Pigs = plain _ refl
+plain-path DairyCow = plain _ refl
 
--- lines of what passes a test, one after the other
-pub file : {A : Type 0} (fields : A → List (List ℕ)) (of : A → List ℕ) (test : A → Bool)
-    → ((x : A) → test x ≡ true → Line (fields x) (of x)) → (xs : List A) → all test xs ≡ true
-    → FileOf (map fields xs) (each of xs)
-file fields of test h [] t = FileOf.none
-file fields of test h (x ∷ xs) t =
+-- ---- one after the other
+
+-- of each of a list its records
+pub records : {A : Type 0} {P : A → Type 0} {n : ℕ} (fields : A → List (List (List ℕ))) (of : A → List ℕ)
+    → ((x : A) → P x → RecordsOf n (fields x) (of x)) → {xs : List A} → Each P xs
+    → RecordsOf n (each fields xs) (each of xs)
+records fields of h none = no-records
+records fields of h (more p ps) = both (h _ p) (records fields of h ps)
+
+-- of each of what passes a test one
+pub lines : {A : Type 0} {n : ℕ} (fields : A → List (List ℕ)) (of : A → List ℕ) (test : A → Bool)
+    → ((x : A) → test x ≡ true → RecordsOf n (fields x ∷ []) (of x)) → (xs : List A) → all test xs ≡ true
+    → RecordsOf n (map fields xs) (each of xs)
+lines fields of test h [] t = no-records
+lines fields of test h (x ∷ xs) t =
     let b = both-true (test x) (all test xs) t in
-    let l = h x (b .0) in
-    let e : l .front ++ (cr ∷ lf ∷ each of xs) ≡ of x ++ each of xs =
-    sym (ap (λ (t : List ℕ). t ++ each of xs) (l .ended) ∙ append-assoc (l .front) (cr ∷ lf ∷ []) (each of xs)) in
-    subst (FileOf (fields x ∷ map fields xs)) e (FileOf.more (l .reads) (file fields of test h xs (b .1)))
+    both (h x (b .0)) (lines fields of test h xs (b .1))

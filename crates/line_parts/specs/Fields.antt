@@ -14,7 +14,7 @@ hasComma (b ∷ rest) = if b is comma then true else hasComma rest
 unfoldable pub labelField : List ℕ → List ℕ
 labelField label = pick (hasComma label) (bytes "\"" ++ label ++ bytes "\"") label
 
--- the texts of a list's entries, one after the other
-abbrev pub each : {A : Type 0} → (A → List ℕ) → List A → List ℕ
+-- what a list's entries have, one after the other: texts, or records
+abbrev pub each : {A B : Type 0} → (A → List B) → List A → List B
 each f [] = []
 each f (x ∷ xs) = f x ++ each f xs

@@ -1,17 +1,14 @@
--- A listing is an RFC 4180 file, of which every record ends with CRLF, and its records are those of specs/Records.antt.
--- Assumes nothing.
-use Prim.Native.Nat.{ℕ, zero, suc, _+_, _/_, _%_}
+-- A listing is RFC 4180 records, each ended by CRLF: those of specs/Records.antt. Assumes nothing.
+use Prim.Native.Nat.{ℕ, _/_}
 use Prim.Native.String.{String}
 use mathlib.Core.Path.{_≡_, refl}
 use mathlib.Core.Bool.{Bool, true, _&&_}
 use mathlib.Core.List.{List, [], _∷_, _++_, append-assoc}
-use native.Mathlib.Omega.{arith}
 use lib.IntN.{ℤ, pos, negsuc, natAbs}
 use Rattle.base.specs.Runs.{all}
 use Rattle.base.specs.Text.{bytes}
 use Rattle.base.proofs.Holds.{both-true}
-use Rattle.grammar.specs.Grammar.{comma, Plain, FieldOf, RecordOf, FileOf}
-use Rattle.decimal.specs.Writing.{lowest, width, wholeOf}
+use Rattle.grammar.specs.Grammar.{Plain, FieldOf, RecordOf}
 use Rattle.kilogram_text.specs.Kilograms.{thousandthsOf, sign, kilogramsOf}
 use Rattle.inputs.specs.declared.Kind.{Kind}
 use Rattle.inputs.specs.declared.Kind.the-variants.{Roughage, Cattle, Pigs, DairyCow}
@@ -22,8 +19,10 @@ use Rattle.outputs.specs.declared.Totals.{Totals}
 use Rattle.outputs.specs.Names.{sectionOf, totalTexts}
 use Rattle.outputs.specs.Grams.{figure, total}
 use Rattle.line_parts.specs.Fields.{labelField}
-use Rattle.line_parts.specs.Paths.{pathOf}
-use Rattle.line_parts.proofs.Records.{allPast, past-comma, plain, plain-append, good-bytes, label-field, Line, file}
+use Rattle.line_parts.proofs.Records.{good-bytes, label-field, plain-path, lines}
+use Rattle.record_lines.specs.Records.{RecordsOf}
+use Rattle.record_lines.proofs.Plain.{allPast, plain, plain-append, plain-lowest, plain-whole}
+use Rattle.record_lines.proofs.Records as records
 use Rattle.listing.specs.HerdLines.{linesOf}
 use Rattle.listing.specs.Listing.{lineOf, moduleOf, herdLine, herdLines, herdListing}
 use Rattle.listing.specs.Listing.{totalPath, totalLine, totalsListing}
@@ -31,28 +30,16 @@ use Rattle.listing.specs.Records.{fieldsOf, herdRecords, totalRecords}
 
 -- ---- fields that need no quotes
 
-plain-lowest : (k n : ℕ) → Plain (lowest k n)
-plain-lowest zero n = Plain.none
-plain-lowest (suc k) n =
-    plain-append (plain-lowest k (n / 10)) (Plain.byte (past-comma (48 + n % 10) (omega arith)) Plain.none)
-
 plain-sign : (g : ℤ) → Plain (sign g)
 unfolding sign
 plain-sign (pos n) = Plain.none
 plain-sign (negsuc n) = plain (bytes "-") refl
 
 plain-kilograms : (g : ℤ) → Plain (kilogramsOf g)
-unfolding kilogramsOf thousandthsOf wholeOf
+unfolding kilogramsOf thousandthsOf
 plain-kilograms g =
-    let n = natAbs g / 1000 in
     plain-append (plain-sign g)
-    (plain-append (plain-append (plain-lowest (width n) n) (plain (bytes ".") refl)) (plain-lowest 3 (natAbs g)))
-
-plain-path : (k : Kind) → Plain (bytes (pathOf k))
-plain-path Roughage = plain _ refl
-plain-path Cattle = plain _ refl
-plain-path Pigs = plain _ refl
-plain-path DairyCow = plain _ refl
+    (plain-append (plain-append (plain-whole (natAbs g / 1000)) (plain (bytes ".") refl)) (plain-lowest 3 (natAbs g)))
 
 -- the section of a name and the name itself; every one that a kind lists, and every total, computed
 abbrev plainName : String → Bool
@@ -70,35 +57,32 @@ totals-plain = refl
 -- ---- a line
 
 line : (label path name : List ℕ) (g : ℤ) → FieldOf label (labelField label) → Plain path → Plain name
-    → Line (fieldsOf label path name g) (lineOf label path name g)
+    → RecordsOf 4 (fieldsOf label path name g ∷ []) (lineOf label path name g)
 unfolding lineOf
 line label path name g l p n =
-    record {
-      front = labelField label ++ (comma ∷ (path ++ (comma ∷ (name ++ (comma ∷ kilogramsOf g)))));
-      reads = RecordOf.more l
-          (RecordOf.more (FieldOf.plain p)
-          (RecordOf.more (FieldOf.plain n) (RecordOf.last (FieldOf.plain (plain-kilograms g)))));
-      ended = simp append-assoc;
-    }
+    records.line
+    (RecordOf.more l
+    (RecordOf.more (FieldOf.plain p)
+    (RecordOf.more (FieldOf.plain n) (RecordOf.last (FieldOf.plain (plain-kilograms g)))))) refl (simp append-assoc)
 
 -- ---- the listings
 
--- a herd's listing, of a good label, is a file of its records
+-- a herd's listing, of a good label
 pub listing-reads : (l : Label) (k : Kind) (f : Figures) → labelOk l ≡ true
-    → FileOf (herdRecords l k f) (herdListing l k f)
+    → RecordsOf 4 (herdRecords l k f) (herdListing l k f)
 unfolding herdLines
 listing-reads l k f ok =
-    file (λ (n : String). fieldsOf (text l) (moduleOf k n) (bytes n) (figure n f)) (herdLine (text l) k f) plainName
+    lines (λ (n : String). fieldsOf (text l) (moduleOf k n) (bytes n) (figure n f)) (herdLine (text l) k f) plainName
     (λ n e. let p = both-true (allPast (bytes (sectionOf n))) (allPast (bytes n)) e in
     line (text l) (moduleOf k n) (bytes n) (figure n f) (label-field (text l) (good-bytes l ok))
     (plain-append (plain-append (plain-path k) (plain (bytes "::") refl)) (plain _ (p .0))) (plain _ (p .1)))
     (linesOf k) (names-plain k)
 
--- the totals' listing is a file of its records
-pub totals-read : (t : Totals) → FileOf (totalRecords t) (totalsListing t)
+-- the totals' listing
+pub totals-read : (t : Totals) → RecordsOf 4 (totalRecords t) (totalsListing t)
 unfolding totalsListing
 totals-read t =
-    file (λ (n : String). fieldsOf [] (bytes totalPath) (bytes n) (total n t)) (totalLine t)
+    lines (λ (n : String). fieldsOf [] (bytes totalPath) (bytes n) (total n t)) (totalLine t)
     (λ (n : String). allPast (bytes n))
     (λ n e. line [] (bytes totalPath) (bytes n) (total n t) (label-field [] refl) (plain _ refl) (plain _ e))
     totalTexts totals-plain

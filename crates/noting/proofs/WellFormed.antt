@@ -8,8 +8,11 @@ use Rattle.farm.specs.declared.Herd.{Herd}
 use Rattle.farm.specs.Labels.{text, labelOk}
 use Rattle.notes.specs.Notes.{notesOf, inOrder}
 use Rattle.typed.specs.Typed.{typedOf}
-use Rattle.line_parts.specs.Fields.{labelField, each}
-use Rattle.line_parts.proofs.Records.{plain, good-bytes, label-field, Line}
+use Rattle.line_parts.specs.Fields.{each}
+use Rattle.line_parts.proofs.Records.{good-bytes, label-field}
+use Rattle.record_lines.specs.Records.{RecordsOf}
+use Rattle.record_lines.proofs.Plain.{plain}
+use Rattle.record_lines.proofs.Records.{line}
 use Rattle.noting.specs.Records.{word, noteField, notesRecord, herdNotes, herdFields}
 
 word-plain : (b : Bool) → Plain (word b)
@@ -21,12 +24,7 @@ further : {c t : List ℕ} → FieldOf c t → (bs : List Bool) → RecordOf (c 
 further {c} {t} f [] = subst (RecordOf (c ∷ [])) (sym (append-nil t)) (RecordOf.last f)
 further {c} {t} f (b ∷ bs) = RecordOf.more f (further (FieldOf.plain (word-plain b)) bs)
 
-pub notes-line : (h : Herd) → labelOk (h .label) ≡ true → Line (herdFields h) (herdNotes h)
+pub notes-read : (h : Herd) → labelOk (h .label) ≡ true → RecordsOf 6 (herdFields h ∷ []) (herdNotes h)
 unfolding notesRecord
-notes-line h ok =
-    let bs = inOrder (notesOf (typedOf h)) in
-    record {
-      front = labelField (text (h .label)) ++ each noteField bs;
-      reads = further (label-field (text (h .label)) (good-bytes (h .label) ok)) bs;
-      ended = refl;
-    }
+notes-read h ok =
+    line (further (label-field (text (h .label)) (good-bytes (h .label) ok)) (inOrder (notesOf (typedOf h)))) refl refl

@@ -1,22 +1,16 @@
 -- 01, The listing: its example, with the inputs of 02, W1, from the file's bytes to the listing's.
 -- Assumes nothing.
-use Prim.Native.Nat.{ℕ}
 use Prim.Native.String.{String}
 use mathlib.Core.Path.{_≡_, refl, ap, _∙_}
 use mathlib.Core.List.{List, [], _∷_}
-use lib.IntN.{pos}
 use Rattle.base.specs.Text.{bytes}
 use Rattle.inputs.specs.declared.Kind.the-variants.{Pigs}
-use Rattle.farm.specs.declared.Given.the-variants.{Value, Signed}
-use Rattle.farm.specs.declared.Slot.{Slot}
-use Rattle.farm.specs.declared.Herd.{Herd}
 use Rattle.farm.specs.declared.Checked.the-variants.{Accepted}
 use Rattle.farm.specs.Labels.{labelOf}
-use Rattle.farm.specs.Herds.{noSlot}
 use Rattle.reader.specs.Files.{readOf, accepted}
 use Rattle.rules.specs.Rules.{farmOf}
 use Rattle.rules.proofs.Accepts.{accepts-exactly}
-use Rattle.worked_files.proofs.Examples.{pigs-keep}
+use Rattle.worked_files.proofs.Examples.{pigHerd, pigs-keep}
 use Rattle.outputs.specs.declared.Figures.{Figures}
 use Rattle.kinds.specs.Choices.{housingAt, scrubberAt, housingFloorAt, housingAirAt}
 use Rattle.typed.specs.Typed.{typedOf, pigsOf}
@@ -24,7 +18,7 @@ use Rattle.herd.specs.Herd.{figuresOf}
 use Rattle.model.specs.Answers.{herdFigures}
 use Rattle.line_parts.specs.Fields.{each}
 use Rattle.listing.specs.Listing.{herdListing}
-use Rattle.listing.proofs.Examples.{pigFigures, pigLines, pig-listing}
+use Rattle.listing.proofs.Examples.{pigFigures, pigLines, pig-listed}
 use Rattle.views.specs.declared.View.the-variants as view
 use Rattle.views.specs.Views.{herdText}
 use Rattle.contracts.specs.Listings.{fileHerdCall, textAt}
@@ -42,21 +36,6 @@ pigFile =
     ∷ "P1,Livestock::FatteningPigs::Housing::CFreeFactor,free_correction_factor,0\r\n"
     ∷ []
 
-abbrev slot : ℕ → Slot
-slot v = record { given = Value v }
-
-abbrev signed : ℕ → Slot
-signed v = record { given = Signed (pos v) }
-
--- the herd that it says
-abbrev pigHerd : Herd
-pigHerd =
-    record {
-      label = labelOf (bytes "P1");
-      kind = Pigs;
-      slots = slot 10 ∷ slot 13000 ∷ slot 7000 ∷ slot 4 ∷ slot 2 ∷ slot 0 ∷ slot 1 ∷ signed 0 ∷ noSlot ∷ [];
-    }
-
 pigs-read : readOf (each bytes pigFile) ≡ accepted (farmOf (pigHerd ∷ []))
 pigs-read = accepts-exactly (each bytes pigFile) (farmOf (pigHerd ∷ [])) .1 pigs-keep
 
@@ -67,7 +46,7 @@ pigs-figured = refl
 
 pigs-listed : textAt view.Figures (farmOf (pigHerd ∷ [])) 0 ≡ each bytes pigLines
 unfolding labelOf herdText
-pigs-listed = ap (λ (f : Figures). herdListing (pigHerd .label) Pigs f) pigs-figured ∙ pig-listing (pigHerd .label) refl
+pigs-listed = ap (λ (f : Figures). herdListing (pigHerd .label) Pigs f) pigs-figured ∙ pig-listed
 
 -- the herd call on 01's file, for its first herd: accepted, with 01's lines
 pub pig-file-listed : fileHerdCall view.Figures (each bytes pigFile) 0

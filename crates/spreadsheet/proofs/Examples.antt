@@ -1,13 +1,23 @@
 -- A file of a spreadsheet and its changes, computed from the definitions. Assumes nothing.
+use Prim.Native.Nat.{ℕ}
 use mathlib.Core.Path.{_≡_, refl}
-use mathlib.Core.List.{[], _∷_, _++_}
+use mathlib.Core.List.{List, [], _∷_, _++_}
 use Rattle.base.specs.Text.{bytes}
 use Rattle.base.specs.Part.{sameBytes}
 use Rattle.spreadsheet.specs.Faults.{mark, marked, bare}
-use Rattle.spreadsheet.specs.Mended.{changesFrom, changesOf}
+use Rattle.spreadsheet.specs.Mended.{entries, changesFrom, changesOf}
 use Rattle.spreadsheet.specs.Mended.Change.{mark-dropped, cr-put}
 
--- a mark, an LF inside quotes, one that has its CR, and one that lacks it: the places are those of the old file
-pub listed : changesOf (mark ++ bytes "a\n\"b\n\"\r\nc\n") ≡ mark-dropped ∷ cr-put 4 ∷ cr-put 12 ∷ []
+-- a mark, an LF inside quotes, one that has its CR, and two that lack it
+abbrev file : List ℕ
+file = mark ++ bytes "a\n\"b\n\"\r\nc\n"
+
+-- the places are those of the old file
+pub listed : changesOf file ≡ mark-dropped ∷ cr-put 4 ∷ cr-put 12 ∷ []
 unfolding changesOf changesFrom marked bare sameBytes
 listed = refl
+
+-- as numbers: "its kind (1 mark dropped, 2 CR put in) and its place"
+pub numbered : entries (changesOf file) ≡ 1 ∷ 0 ∷ 2 ∷ 4 ∷ 2 ∷ 12 ∷ []
+unfolding changesOf changesFrom marked bare sameBytes
+numbered = refl

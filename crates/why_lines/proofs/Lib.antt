@@ -3,3 +3,4 @@ pub mod ReasonSteps
 pub mod HerdSteps
 pub mod Fits
 pub mod Examples
+pub mod WellFormed

@@ -134,7 +134,7 @@ pigsHoused type scrubber floor air free =
           ∷ replicate (slots - countOf Pigs) noSlot;
     }
 
-abbrev pigHerd : Herd
+abbrev pub pigHerd : Herd
 pigHerd = pigsHoused 4 2 0 1 (pos 0)
 
 -- ten red deer by the standards
@@ -184,6 +184,70 @@ grazingHerd k tan =
           ∷ slot (Signed (negsuc 24)) ∷ slot (Value 200) ∷ slot (Value 120) ∷ replicate (slots - countOf k) noSlot;
     }
 
+-- a herd of each kind: 01's pigs, the cattle of its row 1, ten dairy cows, ten fallow deer
+abbrev outdoors : String → String → String → List ℕ
+outdoors label kind yard =
+    line label kind "yard_days" "365"
+    ++ line label kind "exercise_yard" yard
+    ++ line label kind "floor_properties_exercise_yard" "solid_floor"
+    ++ line label kind "free_correction_factor" "0"
+    ++ line label kind "grazing_days" "200"
+    ++ line label kind "grazing_hours" "12"
+
+abbrev pub fourKinds : List ℕ
+fourKinds =
+    pigs
+    ++ line "\"C, partly\"" "Livestock::OtherCattle::Excretion" "animals" "10"
+    ++ line "\"C, partly\"" "Livestock::OtherCattle::Excretion" "inp_n_excretion" "73"
+    ++ line "\"C, partly\"" "Livestock::OtherCattle::Excretion" "tan_fraction" "60"
+    ++ outdoors "\"C, partly\"" "Livestock::OtherCattle::Outdoor"
+    "available_roughage_is_partly_supplied_in_the_exercise_yard"
+    ++ line "Milk" "Livestock::DairyCow::Excretion" "animals" "10"
+    ++ line "Milk" "Livestock::DairyCow::Excretion" "inp_n_excretion" "112"
+    ++ line "Milk" "Livestock::DairyCow::Excretion" "tan_fraction" "standard"
+    ++ outdoors "Milk" "Livestock::DairyCow::Outdoor" "available_roughage_is_exclusively_supplied_in_the_exercise_yard"
+    ++ line "Deer" "Livestock::RoughageConsuming::Excretion" "animalcategory" "fallow_deer"
+    ++ line "Deer" "Livestock::RoughageConsuming::Excretion" "animals" "10"
+    ++ line "Deer" "Livestock::RoughageConsuming::Excretion" "inp_n_excretion" "standard"
+    ++ line "Deer" "Livestock::RoughageConsuming::Excretion" "tan_fraction" "standard"
+    ++ line "Deer" "Livestock::RoughageConsuming::Housing::CFreeFactor" "free_correction_factor" "0"
+    ++ line "Deer" "Livestock::RoughageConsuming::Grazing" "grazing_days" "100"
+    ++ line "Deer" "Livestock::RoughageConsuming::Grazing" "grazing_hours" "6"
+
+-- the slots of `outdoors`, by the place of the yard's name
+abbrev outdoorSlots : ℕ → List Slot
+outdoorSlots yard =
+    slot (Value 365) ∷ slot (Value yard) ∷ slot (Value 0) ∷ slot (Signed (pos 0)) ∷ slot (Value 200)
+    ∷ slot (Value 120) ∷ []
+
+abbrev pub cattleHerd : Herd
+cattleHerd =
+    record {
+      label = labelOf (bytes "C, partly");
+      kind = Cattle;
+      slots = slot (Value 10) ∷ slot (Value 73000) ∷ slot (Value 6000) ∷ outdoorSlots 2;
+    }
+
+abbrev pub dairyHerd : Herd
+dairyHerd =
+    record {
+      label = labelOf (bytes "Milk");
+      kind = DairyCow;
+      slots = slot (Value 10) ∷ slot (Value 112000) ∷ slot Standard ∷ outdoorSlots 3;
+    }
+
+abbrev pub fallowHerd : Herd
+fallowHerd =
+    record {
+      label = labelOf (bytes "Deer");
+      kind = Roughage;
+      slots = slot (Value 0) ∷ slot (Value 10) ∷ slot Standard ∷ slot Standard ∷ slot (Signed (pos 0))
+          ∷ slot (Value 100) ∷ slot (Value 60) ∷ replicate (slots - countOf Roughage) noSlot;
+    }
+
+abbrev pub fourHerds : List Herd
+fourHerds = pigHerd ∷ cattleHerd ∷ dairyHerd ∷ fallowHerd ∷ []
+
 -- so many herds of one record each, by two digits from these on
 abbrev herdsFrom : ℕ → ℕ → List ℕ
 herdsFrom n zero = []
@@ -215,6 +279,7 @@ examples =
     ∷ (pigs ++ deerFile gives accepted (farmOf (pigHerd ∷ deerHerd ∷ [])))
     ∷ (cattleFile gives accepted (farmOf (grazingHerd Cattle (Value 6000) ∷ [])))
     ∷ (dairyFile gives accepted (farmOf (grazingHerd DairyCow Standard ∷ [])))
+    ∷ (fourKinds gives accepted (farmOf fourHerds))
     ∷ (pigs ++ bytes "\n" gives refused 9 RecordBroken)
     ∷ (bytes "a,b,c,d,e,f\"" gives refused 1 RecordBroken)
     ∷ (pigs ++ bytes "\r" gives refused 9 RecordBroken)
@@ -281,3 +346,7 @@ worked = refl
 pub pigs-keep : KeepsRules pigs (farmOf (pigHerd ∷ []))
 pigs-keep = accepts-exactly pigs (farmOf (pigHerd ∷ [])) .0
     (ap (λ (l : List FileAnswer). getD l 3 (accepted (farmOf []))) worked)
+
+-- the herds of each kind are read
+pub four-kinds-read : readOf fourKinds ≡ accepted (farmOf fourHerds)
+four-kinds-read = ap (λ (l : List FileAnswer). getD l 9 (accepted (farmOf []))) worked

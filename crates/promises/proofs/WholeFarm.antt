@@ -1,0 +1,141 @@
+-- A farm of a herd of each kind, from the bytes of its file to the bytes of all that is printed of it: the pigs of 01,
+-- the cattle of its row 1, dairy cows (02, W9) and fallow deer, in every view. Assumes nothing.
+use Prim.Native.String.{String}
+use mathlib.Core.Path.{_≡_, refl, ap, _∙_}
+use mathlib.Core.List.{List, [], _∷_, _++_, map}
+use Rattle.base.specs.Text.{bytes}
+use Rattle.decimal.specs.Writing.{width, wholeOf}
+use Rattle.kilogram_text.specs.Kilograms.{thousandthsOf, sign, kilogramsOf}
+use Rattle.farm.specs.Labels.{labelOf}
+use Rattle.rules.specs.Rules.{farmOf}
+use Rattle.rules.proofs.Passing.{accepted-passes}
+use Rattle.worked_files.proofs.Examples.{fourKinds, fourHerds, four-kinds-read}
+use Rattle.tables.specs.Standards.{standardOf}
+use Rattle.tables.specs.Growth.{kOf, withinDay, kAt, nearest, growthNum, growthDen, expNum, expDen}
+use Rattle.kinds.specs.Choices.{yardAt, floorAt, housingAt, scrubberAt, housingFloorAt, housingAirAt}
+use Rattle.yard.specs.Yard.{«days_with_grazing_and_yard», shareLowered, «share_excretion_with_grazing», yardTime}
+use Rattle.pasture.specs.Pasture.{outdoorGrazingTime, roughageGrazingTime}
+use Rattle.notes.specs.Notes.{notesOf}
+use Rattle.typed.specs.Typed.{roughageOf, outdoorOf, cattleOf, pigsOf, typedOf}
+use Rattle.outputs.specs.Grams.{byNumber, farmTotal, totalsOf}
+use Rattle.herd.specs.Herd.{figuresOf}
+use Rattle.cuts.specs.Herd.{cutsOf}
+use Rattle.reasons.specs.Reasons.{reasonOf, toldOf}
+use Rattle.model.specs.Answers.{herdFigures, farmAnswer}
+use Rattle.line_parts.specs.Fields.{hasComma, labelField, each}
+use Rattle.listing.specs.Listing.{lineOf, herdLines, totalsListing}
+use Rattle.listing.proofs.Examples.{pigLines, cattleLines, dairyLines, deerLines, totalLines}
+use Rattle.figure_lines.specs.Lines.{farmListing}
+use Rattle.noting.specs.Records.{notesRecord}
+use Rattle.cut_lines.specs.Lines.{cutLine, numbersOf as cutNumbers, cutLines as herdCuts}
+use Rattle.why_lines.specs.Lines.{tenthsOf, numbersOf as whyNumbers, whyRecord, daysWords, sharesWords, whySentence}
+use Rattle.views.specs.declared.View.{View}
+use Rattle.views.specs.declared.View.the-variants.{Figures, Notes, Cuts, Reasons, Sentences}
+use Rattle.views.specs.Views.{herdText, viewed}
+use Rattle.views.specs.Program.{outputOf}
+use Rattle.contracts.proofs.RecordSteps.{farm-figured}
+
+-- ---- what is printed
+
+abbrev noteLines : List String
+noteLines =
+    "P1,no,no,no,no,no\r\n"
+    ∷ "\"C, partly\",no,no,no,no,no\r\n"
+    ∷ "Milk,no,no,no,yes,no\r\n"
+    ∷ "Deer,no,no,no,no,no\r\n"
+    ∷ []
+
+abbrev cutLines : List String
+cutLines =
+    "P1,Livestock::FatteningPigs::Excretion,tan_excretion,0,10000\r\n"
+    ∷ "P1,Livestock::FatteningPigs::Grazing,nh3_ngrazing,0,10000\r\n"
+    ∷ "P1,Livestock::FatteningPigs::Grazing,n2_ngrazing,0,10000\r\n"
+    ∷ "P1,Livestock::FatteningPigs::Grazing,no_ngrazing,0,10000\r\n"
+    ∷ "P1,Livestock::FatteningPigs::Grazing,n2o_ngrazing,0,10000\r\n"
+    ∷ "P1,Livestock::FatteningPigs::Housing,ef_housing_indoor_before_air_scrubber:c_free_factor_housing,0,100\r\n"
+    ∷ "P1,Livestock::FatteningPigs::Housing,ef_housing_indoor_before_air_scrubber:red_housing_air,0,10\r\n"
+    ∷ "P1,Livestock::FatteningPigs::Housing,ef_housing_indoor,0,10\r\n"
+    ∷ "P1,Livestock::FatteningPigs::Housing,ef_housing_grazing:c_free_factor_housing,0,100\r\n"
+    ∷ "P1,Livestock::FatteningPigs::Housing,ef_nh3_nhousing:ef_housing_indoor,0,10\r\n"
+    ∷ "P1,Livestock::FatteningPigs::Housing,ef_nh3_nhousing:ef_housing_grazing,0,10\r\n"
+    ∷ "P1,Livestock::FatteningPigs::Housing,nh3_nhousing,0,1000000000\r\n"
+    ∷ "P1,Livestock::FatteningPigs::NxOx,n2_nsolid,0,10000\r\n"
+    ∷ "P1,Livestock::FatteningPigs::NxOx,no_nsolid,0,10000\r\n"
+    ∷ "P1,Livestock::FatteningPigs::NxOx,n2o_nsolid,0,10000\r\n"
+    ∷ "P1,Livestock::FatteningPigs::NxOx,n2_nliquid,0,10000\r\n"
+    ∷ "P1,Livestock::FatteningPigs::NxOx,no_nliquid,0,10000\r\n"
+    ∷ "P1,Livestock::FatteningPigs::NxOx,n2o_nliquid,0,10000\r\n"
+    ∷ "\"C, partly\",Livestock::OtherCattle::Excretion,tan_excretion,0,10000\r\n"
+    ∷ "\"C, partly\",Livestock::OtherCattle::Yard,n_into_yard,0,3650\r\n"
+    ∷ "\"C, partly\",Livestock::OtherCattle::Yard,tan_into_yard,0,3650\r\n"
+    ∷ "\"C, partly\",Livestock::OtherCattle::Yard,nh3_nyard,0,100000000\r\n"
+    ∷ "\"C, partly\",Livestock::OtherCattle::Grazing,n_into_grazing,0,876000\r\n"
+    ∷ "\"C, partly\",Livestock::OtherCattle::Grazing,tan_into_grazing,0,876000\r\n"
+    ∷ "\"C, partly\",Livestock::OtherCattle::Grazing,nh3_ngrazing,0,10000\r\n"
+    ∷ "\"C, partly\",Livestock::OtherCattle::Grazing,n2_ngrazing,0,10000\r\n"
+    ∷ "\"C, partly\",Livestock::OtherCattle::Grazing,no_ngrazing,0,10000\r\n"
+    ∷ "\"C, partly\",Livestock::OtherCattle::Grazing,n2o_ngrazing,0,10000\r\n"
+    ∷ "Milk,Livestock::DairyCow::Excretion,tan_excretion,0,10000\r\n"
+    ∷ "Milk,Livestock::DairyCow::Yard,n_into_yard,2000,3650\r\n"
+    ∷ "Milk,Livestock::DairyCow::Yard,tan_into_yard,1100,3650\r\n"
+    ∷ "Milk,Livestock::DairyCow::Yard,nh3_nyard,20000000,100000000\r\n"
+    ∷ "Milk,Livestock::DairyCow::Grazing,n_into_grazing,396000,876000\r\n"
+    ∷ "Milk,Livestock::DairyCow::Grazing,tan_into_grazing,612000,876000\r\n"
+    ∷ "Milk,Livestock::DairyCow::Grazing,nh3_ngrazing,790,10000\r\n"
+    ∷ "Milk,Livestock::DairyCow::Grazing,n2_ngrazing,0,10000\r\n"
+    ∷ "Milk,Livestock::DairyCow::Grazing,no_ngrazing,1345,10000\r\n"
+    ∷ "Milk,Livestock::DairyCow::Grazing,n2o_ngrazing,5800,10000\r\n"
+    ∷ "Deer,Livestock::RoughageConsuming::Excretion,tan_excretion,0,10000\r\n"
+    ∷ "Deer,Livestock::RoughageConsuming::Grazing,n_into_grazing,55200,87600\r\n"
+    ∷ "Deer,Livestock::RoughageConsuming::Grazing,tan_into_grazing,39600,87600\r\n"
+    ∷ "Deer,Livestock::RoughageConsuming::Grazing,nh3_ngrazing,8750,10000\r\n"
+    ∷ "Deer,Livestock::RoughageConsuming::Grazing,n2_ngrazing,0,10000\r\n"
+    ∷ "Deer,Livestock::RoughageConsuming::Grazing,no_ngrazing,3390,10000\r\n"
+    ∷ "Deer,Livestock::RoughageConsuming::Grazing,n2o_ngrazing,9800,10000\r\n"
+    ∷ "Deer,Livestock::RoughageConsuming::Housing,c_grazing,44400,81600\r\n"
+    ∷ "Deer,Livestock::RoughageConsuming::Housing,ef_nh3_nhousing:er_housing,150,1000\r\n"
+    ∷ "Deer,Livestock::RoughageConsuming::Housing,ef_nh3_nhousing:c_free_factor_housing,0,100\r\n"
+    ∷ "Deer,Livestock::RoughageConsuming::Housing,nh3_nhousing,830718106,1000000000\r\n"
+    ∷ []
+
+abbrev reasonLines : List String
+reasonLines =
+    "\"C, partly\",as_chosen,200,0.2\r\n"
+    ∷ "Milk,lowered,200,0.2\r\n"
+    ∷ []
+
+abbrev sentences : List String
+sentences =
+    "\"C, partly\": with both yard and pasture on 200 of 365 days, the yard's share on such days is 0.2, "
+    ∷ "the same as the chosen share of 0.2.\r\n"
+    ∷ "Milk: with both yard and pasture on 200 of 365 days, the yard's share on such days is 0.2, "
+    ∷ "lowered from the chosen share of 0.6.\r\n"
+    ∷ []
+
+abbrev pub linesOf : View → List String
+linesOf Figures = pigLines ++ cattleLines ++ dairyLines ++ deerLines ++ totalLines
+linesOf Notes = noteLines
+linesOf Cuts = cutLines
+linesOf Reasons = reasonLines
+linesOf Sentences = sentences
+
+-- the totals are those of the herds, since they pass the checks
+totals-are : farmAnswer (farmOf fourHerds) .totals ≡ totalsOf (map herdFigures fourHerds)
+totals-are = farm-figured (farmOf fourHerds) (accepted-passes fourKinds (farmOf fourHerds) four-kinds-read)
+
+viewed-whole : (v : View) → viewed v (farmOf fourHerds) ≡ each bytes (linesOf v)
+unfolding viewed herdText farmListing herdLines totalsListing lineOf notesRecord herdCuts cutLine cutNumbers whyRecord
+    whyNumbers whySentence daysWords sharesWords tenthsOf labelField hasComma labelOf kilogramsOf sign thousandthsOf
+    wholeOf width totalsOf byNumber farmTotal figuresOf notesOf cutsOf toldOf reasonOf typedOf roughageOf outdoorOf
+    cattleOf pigsOf yardAt floorAt housingAt scrubberAt housingFloorAt housingAirAt standardOf
+    «days_with_grazing_and_yard» shareLowered «share_excretion_with_grazing» yardTime outdoorGrazingTime
+    roughageGrazingTime kOf withinDay kAt nearest growthNum growthDen expNum expDen
+viewed-whole Figures = rw totals-are refl
+viewed-whole Notes = refl
+viewed-whole Cuts = refl
+viewed-whole Reasons = refl
+viewed-whole Sentences = refl
+
+pub farm-printed : (v : View) → outputOf v fourKinds ≡ each bytes (linesOf v)
+unfolding outputOf
+farm-printed v = rw four-kinds-read (viewed-whole v)
