@@ -4,7 +4,8 @@
 use Prim.Native.Nat.{ℕ}
 use Prim.Native.String.{String}
 use mathlib.Core.Path.{_≡_, refl}
-use mathlib.Core.List.{List, [], _∷_, map}
+use mathlib.Core.List.{List, [], _∷_, _++_, map}
+use lib.ListN.{getD}
 use lib.IntN.{pos}
 use Rattle.tables.specs.Standards.{standardOf}
 use Rattle.tables.specs.Growth.{expNum, expDen, growthNum, growthDen, nearest, kAt, withinDay, kOf}
@@ -28,21 +29,36 @@ use Rattle.yard.specs.Yard.{
   «days_with_grazing_and_yard»,
 }
 use Rattle.pasture.specs.Pasture.{outdoorGrazingTime, roughageGrazingTime}
+use Rattle.cuts.specs.declared.Cuts.{Cuts}
+use Rattle.cuts.specs.Names.{Row, rows, cutNumber}
 use Rattle.cuts.specs.Cuts.{cutOff, divisorOf, namesMade}
 use Rattle.cuts.specs.Herd.{cutsOf}
 
--- a record of a cut: its name, what was cut off, and the divisor
+-- a cut: its name, what was cut off, and the divisor; and the section that it is listed under
 pub record Cut : Type 0 where
   pub name : String
   pub off : ℕ
   pub by : ℕ
 
+pub record Shown : Type 0 where
+  pub section : String
+  pub cut : Cut
+
 infix 68 _cut_by_
 abbrev _cut_by_ : String → ℕ → ℕ → Cut
 t cut off by d = record { name = t; off = off; by = d }
 
-abbrev pub cutsShown : Inputs → List Cut
-cutsShown i = map (λ t. t cut cutOff t (cutsOf i) by divisorOf t (cutsOf i)) (namesMade (cutsOf i))
+abbrev under : String → List Cut → List Shown
+under section cuts = map (λ (c : Cut). record { section = section; cut = c }) cuts
+
+abbrev sectionUnder : String → String
+sectionUnder t = getD (map (λ (r : Row). r .section) rows) (cutNumber t) ""
+
+abbrev shown : Cuts → String → Shown
+shown c t = record { section = sectionUnder t; cut = t cut cutOff t c by divisorOf t c }
+
+abbrev pub cutsShown : Inputs → List Shown
+cutsShown i = map (shown (cutsOf i)) (namesMade (cutsOf i))
 
 -- 23 head, 41.3 kg, TAN 55 percent; a yard on 341 days, roughage exclusively supplied there, perforated floor, free 5;
 -- 210 days of 9.5 hours on pasture
@@ -66,11 +82,14 @@ heifers =
 
 pub heifers-cuts :
     cutsShown (kinds.Cattle heifers)
-    ≡ ("tan_excretion" cut 0 by 10_000
-    ∷ "n_into_yard" cut 150 by 3_650
+    ≡ under "Excretion" ("tan_excretion" cut 0 by 10_000 ∷ [])
+    ++ under "Yard"
+    ("n_into_yard" cut 150 by 3_650
     ∷ "tan_into_yard" cut 2_090 by 3_650
     ∷ "nh3_nyard" cut 68_250_000 by 100_000_000
-    ∷ "n_into_grazing" cut 576_000 by 876_000
+    ∷ [])
+    ++ under "Grazing"
+    ("n_into_grazing" cut 576_000 by 876_000
     ∷ "tan_into_grazing" cut 667_200 by 876_000
     ∷ "nh3_ngrazing" cut 320 by 10_000
     ∷ "n2_ngrazing" cut 0 by 10_000
@@ -95,14 +114,17 @@ deerInside =
 
 pub deer-inside-cuts :
     cutsShown (kinds.Roughage deerInside)
-    ≡ ("tan_excretion" cut 0 by 10_000
-    ∷ "n_into_grazing" cut 16_400 by 87_600
+    ≡ under "Excretion" ("tan_excretion" cut 0 by 10_000 ∷ [])
+    ++ under "Grazing"
+    ("n_into_grazing" cut 16_400 by 87_600
     ∷ "tan_into_grazing" cut 41_600 by 87_600
     ∷ "nh3_ngrazing" cut 0 by 10_000
     ∷ "n2_ngrazing" cut 0 by 10_000
     ∷ "no_ngrazing" cut 355 by 10_000
     ∷ "n2o_ngrazing" cut 6_100 by 10_000
-    ∷ "c_grazing" cut 50_200 by 68_600
+    ∷ [])
+    ++ under "Housing"
+    ("c_grazing" cut 50_200 by 68_600
     ∷ "ef_nh3_nhousing:er_housing" cut 450 by 1_000
     ∷ "ef_nh3_nhousing:c_free_factor_housing" cut 65 by 100
     ∷ "nh3_nhousing" cut 173_636_784 by 1_000_000_000
@@ -125,14 +147,17 @@ deerOutside =
 
 pub deer-outside-cuts :
     cutsShown (kinds.Roughage deerOutside)
-    ≡ ("tan_excretion" cut 0 by 10_000
-    ∷ "n_into_grazing" cut 0 by 87_600
+    ≡ under "Excretion" ("tan_excretion" cut 0 by 10_000 ∷ [])
+    ++ under "Grazing"
+    ("n_into_grazing" cut 0 by 87_600
     ∷ "tan_into_grazing" cut 0 by 87_600
     ∷ "nh3_ngrazing" cut 8_750 by 10_000
     ∷ "n2_ngrazing" cut 0 by 10_000
     ∷ "no_ngrazing" cut 9_000 by 10_000
     ∷ "n2o_ngrazing" cut 0 by 10_000
-    ∷ "ef_nh3_nhousing:er_housing" cut 0 by 1_000
+    ∷ [])
+    ++ under "Housing"
+    ("ef_nh3_nhousing:er_housing" cut 0 by 1_000
     ∷ "ef_nh3_nhousing:c_free_factor_housing" cut 0 by 100
     ∷ "nh3_nhousing" cut 0 by 1_000_000_000
     ∷ [])
@@ -155,12 +180,15 @@ label =
 
 pub label-cuts :
     cutsShown (kinds.Pigs label)
-    ≡ ("tan_excretion" cut 5_000 by 10_000
-    ∷ "nh3_ngrazing" cut 0 by 10_000
+    ≡ under "Excretion" ("tan_excretion" cut 5_000 by 10_000 ∷ [])
+    ++ under "Grazing"
+    ("nh3_ngrazing" cut 0 by 10_000
     ∷ "n2_ngrazing" cut 0 by 10_000
     ∷ "no_ngrazing" cut 0 by 10_000
     ∷ "n2o_ngrazing" cut 0 by 10_000
-    ∷ "ef_housing_indoor_before_air_scrubber:c_free_factor_housing" cut 0 by 100
+    ∷ [])
+    ++ under "Housing"
+    ("ef_housing_indoor_before_air_scrubber:c_free_factor_housing" cut 0 by 100
     ∷ "ef_housing_indoor_before_air_scrubber:red_housing_air" cut 0 by 10
     ∷ "ef_housing_indoor" cut 0 by 10
     ∷ "ef_housing_grazing:c_free_factor_housing" cut 0 by 100
@@ -169,7 +197,9 @@ pub label-cuts :
     ∷ "nh3_nhousing" cut 540_677_200 by 1_000_000_000
     ∷ "tan_air_scrubber:tan_excretion" cut 950_000_000 by 1_000_000_000
     ∷ "tan_air_scrubber:ef_housing_indoor_before_air_scrubber" cut 900_672_000 by 1_000_000_000
-    ∷ "n2_nsolid" cut 0 by 10_000
+    ∷ [])
+    ++ under "NxOx"
+    ("n2_nsolid" cut 0 by 10_000
     ∷ "no_nsolid" cut 0 by 10_000
     ∷ "n2o_nsolid" cut 0 by 10_000
     ∷ "n2_nliquid" cut 5_000 by 10_000
