@@ -29,7 +29,7 @@ def made():
         "sums/src/total_addends.rt": addends,
         "listing/src/texts.rt": listing_texts,
         "cuts/src/names.rt": cut_numbers,
-        "cut_lines/src/texts.rt": cut_texts,
+        "lines_cuts/src/texts.rt": cut_texts,
         "texts/src/lib.rt": program_texts,
     }
     return {CRATES / path: source() for path, source in sources.items()}

@@ -3,7 +3,7 @@
 
     printed.py DOCUMENT     DOCUMENT is the text of 001, which is not in this repository
 
-The table is `crates/page/specs/Printed.antt`: its rows name a section, a technical
+The table is `crates/printed_numbers/specs/Printed.antt`: its rows name a section, a technical
 parameter or an output there, and the number as the page has it. Three things are
 looked for: that each parameter's number stands behind its name, that each other
 number stands in the formula of its output, and that no parameter of these sections
@@ -15,7 +15,7 @@ import sys
 from dataclasses import dataclass
 from pathlib import Path
 
-TABLE = Path(__file__).resolve().parent.parent / "crates" / "page" / "specs" / "Printed.antt"
+TABLE = Path(__file__).resolve().parent.parent / "crates" / "printed_numbers" / "specs" / "Printed.antt"
 ROW = re.compile(r'prints\s+"([^"]*)"\s+\((tech|out)\s+"([^"]*)"\)\s+"([^"]*)"')
 SECTION = re.compile(r"^## (?:\*\*)?(\d+\.\d+) ", re.MULTILINE)
 NAMED = re.compile(r"^(?:#+ )?\*\*(\w+)\*\*(.*)$", re.MULTILINE)

@@ -6,19 +6,19 @@ use native.Mathlib.Nat.{mul-le-mul-left, le-refl, le-trans, add-mul-div-right, d
 use native.Mathlib.Omega.{arith}
 use mir.Syntax.{w64}
 use mir.Val.{Fits}
-use Rattle.cut.specs.declared.Quotient.{Quotient}
-use Rattle.cut.specs.Cut.{quotientOf}
-use Rattle.cut.proofs.Products.{mul-fits}
-use Rattle.cut.proofs.Shares.{cut-mono, part-le, part-mono}
+use Rattle.cut_division.specs.declared.Quotient.{Quotient}
+use Rattle.cut_division.specs.Cut.{quotientOf}
+use Rattle.cut_division.proofs.Products.{mul-fits}
+use Rattle.cut_division.proofs.Shares.{cut-mono, part-le, part-mono}
 use Rattle.amounts.specs.Units.{billionths}
 use Rattle.amounts.specs.Arithmetic.{cutting}
 use Rattle.amounts.specs.Portion.{portion}
 use Rattle.amounts.specs.declared.Parts.{Parts}
-use Rattle.amounts.specs.Bounds.{Fit, PortionOf, FitTwice, TwiceOf, PortionsOf, Modest, UpTo}
+use Rattle.amounts.specs.Bounds.{FitsPortion, PortionOf, FitsPortionTwice, PortionToTwice, PortionsOf, WithinMostN, UpTo}
 
 -- ---- the code's step
 
-module _ (amount shares of : ℕ) (fit : Fit amount shares of) where
+module _ (amount shares of : ℕ) (fit : FitsPortion amount shares of) where
   pub product-fits : Fits w64 (amount * shares)
   product-fits = mul-fits (2 ^ 32) billionths tt (omega arith) (omega arith)
 
@@ -28,11 +28,11 @@ module _ (amount shares of : ℕ) (fit : Fit amount shares of) where
 pub ruleset portion-steps = (product-fits, is-portion)
 
 -- the same of up to twice the shares
-module _ (amount shares of : ℕ) (fit : FitTwice amount shares of) where
+module _ (amount shares of : ℕ) (fit : FitsPortionTwice amount shares of) where
   pub twice-fits : Fits w64 (amount * shares)
   twice-fits = mul-fits (2 ^ 32) (billionths + billionths) tt (omega arith) (omega arith)
 
-  pub is-twice : (q : Quotient) → q ≡ quotientOf (amount * shares) of → TwiceOf amount shares of q
+  pub is-twice : (q : Quotient) → q ≡ quotientOf (amount * shares) of → PortionToTwice amount shares of q
   is-twice q e =
       record { cut = e; most = rw e (div-le-of-le-mul of (omega (arith, mul-le-mul-left amount (fit .within)))) }
 
@@ -56,16 +56,16 @@ portion-grows x y shares of h = part-mono of {x = x} {y = y} {m = shares} {n = s
 
 -- ---- the same portion of the N and of the TAN in it
 
-module _ (n tan shares of : ℕ) (m : Modest n tan) where
+module _ (n tan shares of : ℕ) (m : WithinMostN n tan) where
   tan-in-n : portion cutting tan shares of ≤ portion cutting n shares of
   tan-in-n = portion-grows tan n shares of (m .tan-most)
 
-  pub modest-share : shares ≤ of → Modest (portion cutting n shares of) (portion cutting tan shares of)
+  pub modest-share : shares ≤ of → WithinMostN (portion cutting n shares of) (portion cutting tan shares of)
   modest-share h = record { n-most = le-trans (part-le n shares of h) (m .n-most); tan-most = tan-in-n }
 
   -- of two portions that the code has made
   pub modest-portion : (a b : Quotient) → PortionOf n shares of a → PortionOf tan shares of b
-      → Modest (a .whole) (b .whole)
+      → WithinMostN (a .whole) (b .whole)
   modest-portion a b p q = record { n-most = omega arith; tan-most = omega (arith, tan-in-n) }
 
 -- ---- nor a smaller rest: by no more than it grew has its portion grown
@@ -82,7 +82,7 @@ rest-grows x y shares of h k l =
     let g : y * shares / of ≤ x * shares / of + (y - x) = rw e at (grows-by x (y - x) shares of h k) in
     omega arith
 
-pub modest-rest : (n tan shares of : ℕ) → Modest n tan → 0 < of → shares ≤ of
-    → Modest (n - portion cutting n shares of) (tan - portion cutting tan shares of)
+pub modest-rest : (n tan shares of : ℕ) → WithinMostN n tan → 0 < of → shares ≤ of
+    → WithinMostN (n - portion cutting n shares of) (tan - portion cutting tan shares of)
 modest-rest n tan shares of m h k =
     record { n-most = omega (arith, m .n-most); tan-most = rest-grows tan n shares of h k (m .tan-most) }

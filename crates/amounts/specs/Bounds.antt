@@ -2,8 +2,8 @@
 -- from less. No figure of 001 is defined here.
 use mathlib.Core.Path.{_≡_}
 use Prim.Native.Nat.{ℕ, _+_, _*_, _≤_, _<_, _^_}
-use Rattle.cut.specs.declared.Quotient.{Quotient}
-use Rattle.cut.specs.Cut.{quotientOf}
+use Rattle.cut_division.specs.declared.Quotient.{Quotient}
+use Rattle.cut_division.specs.Cut.{quotientOf}
 use Rattle.amounts.specs.declared.Parts.{Parts}
 use Rattle.amounts.specs.Units.{billionths}
 use Rattle.amounts.specs.Arithmetic.{cutting}
@@ -14,12 +14,12 @@ abbrev pub mostN : ℕ
 mostN = 2000000000
 
 -- what a herd excretes, or a portion of it: a bounded amount of N, and the TAN in it
-pub record Modest (n tan : ℕ) : Type 0 where
+pub record WithinMostN (n tan : ℕ) : Type 0 where
   pub n-most : n ≤ mostN
   pub tan-most : tan ≤ n
 
 -- what is asked of a portion on whole grams, so that the product fits
-pub record Fit (amount shares of : ℕ) : Type 0 where
+pub record FitsPortion (amount shares of : ℕ) : Type 0 where
   pub amount-most : amount < 2 ^ 32
   pub of-most : of ≤ billionths
   pub above : 0 < of
@@ -32,13 +32,13 @@ pub record PortionOf (amount shares of : ℕ) (q : Quotient) : Type 0 where
   pub most : q .whole ≤ amount
 
 -- what is asked where the shares may be twice the whole (02, W3), and what comes of it: no more than twice the amount
-pub record FitTwice (amount shares of : ℕ) : Type 0 where
+pub record FitsPortionTwice (amount shares of : ℕ) : Type 0 where
   pub amount-most : amount < 2 ^ 32
   pub of-most : of ≤ billionths
   pub above : 0 < of
   pub within : shares ≤ of + of
 
-pub record TwiceOf (amount shares of : ℕ) (q : Quotient) : Type 0 where
+pub record PortionToTwice (amount shares of : ℕ) (q : Quotient) : Type 0 where
   pub cut : q ≡ quotientOf (amount * shares) of
   pub most : q .whole ≤ amount + amount
 
@@ -46,7 +46,7 @@ pub record TwiceOf (amount shares of : ℕ) (q : Quotient) : Type 0 where
 pub record PortionsOf (n tan shares of : ℕ) (r : Parts) : Type 0 where
   pub of-n : PortionOf n shares of (r .n)
   pub of-tan : PortionOf tan shares of (r .tan)
-  pub modest : Modest (r .n .whole) (r .tan .whole)
+  pub modest : WithinMostN (r .n .whole) (r .tan .whole)
 
 -- a number as the code hands it on: what it is, and that it is at most m
 pub record UpTo (m is-it r : ℕ) : Type 0 where

@@ -4,7 +4,7 @@
 use Prim.Native.Nat.{ℕ, _+_, _-_, _*_}
 use mathlib.Core.List.{List, [], _∷_, _++_}
 use lib.IntN.{ℤ, pos, _-ℤ_}
-use Rattle.cut.specs.Cut.{_cutBy_, least}
+use Rattle.cut_division.specs.Cut.{_cutBy_, least}
 use Rattle.tables.specs.Growth.{kOf}
 use Rattle.amounts.specs.Arithmetic.{Arithmetic}
 

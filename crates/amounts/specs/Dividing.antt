@@ -3,8 +3,8 @@
 -- else. To be believed.
 use Prim.Native.Nat.{ℕ, _+_, _-_, _*_}
 use lib.IntN.{ℤ, pos, _-ℤ_}
-use Rattle.cut.specs.declared.Quotient.{Quotient}
-use Rattle.cut.specs.Cut.{quotientOf, undivided, least}
+use Rattle.cut_division.specs.declared.Quotient.{Quotient}
+use Rattle.cut_division.specs.Cut.{quotientOf, undivided, least}
 use Rattle.tables.specs.Growth.{kOf}
 use Rattle.amounts.specs.Arithmetic.{Arithmetic}
 

@@ -1,7 +1,7 @@
 // The units of the formulas, and a portion of an amount with one cut. Every division that a herd's formulas make is that
 // of `portion` or of `portion_to_twice`, but for c_grazing, which cuts a sum (crate `housing`).
-use cut::Quotient;
-ghost use Rattle.amounts.specs.Bounds.{Modest, Fit, PortionOf, FitTwice, TwiceOf, PortionsOf};
+use cut_division::Quotient;
+ghost use Rattle.amounts.specs.Bounds.{WithinMostN, FitsPortion, PortionOf, FitsPortionTwice, PortionToTwice, PortionsOf};
 
 // Days of a year; a day, in tenths of an hour; a year of such days.
 pub const YEAR: u64 = 365;
@@ -29,23 +29,23 @@ pub struct Parts {
 
 // `shares` of the `of` that make the whole.
 pub fn portion(amount: u64, shares: u64, of: u64) -> Quotient
-    requires { ⌜ Fit amount shares of ⌝ }
+    requires { ⌜ FitsPortion amount shares of ⌝ }
     ensures { λ q. ⌜ PortionOf amount shares of q ⌝ }
 {
-    cut::cut(amount * shares, of)
+    cut_division::cut(amount * shares, of)
 }
 
 // The same of up to twice the shares that make the whole.
 pub fn portion_to_twice(amount: u64, shares: u64, of: u64) -> Quotient
-    requires { ⌜ FitTwice amount shares of ⌝ }
-    ensures { λ q. ⌜ TwiceOf amount shares of q ⌝ }
+    requires { ⌜ FitsPortionTwice amount shares of ⌝ }
+    ensures { λ q. ⌜ PortionToTwice amount shares of q ⌝ }
 {
-    cut::cut(amount * shares, of)
+    cut_division::cut(amount * shares, of)
 }
 
 // "Done for N and for TAN" (01).
 pub fn portions(n: u64, tan: u64, shares: u64, of: u64) -> Parts
-    requires { ⌜ Modest n tan × Fit n shares of ⌝ }
+    requires { ⌜ WithinMostN n tan × FitsPortion n shares of ⌝ }
     ensures { λ r. ⌜ PortionsOf n tan shares of r ⌝ }
 {
     Parts {

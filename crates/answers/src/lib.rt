@@ -23,10 +23,10 @@ pub fn herd_answer(h: Herd) -> HerdAnswer
                 cuts: herd_figures::cuts_of(inputs),
             }
         }
-        Checked::Refused(fault, record) => {
+        Checked::Refused(refusal, record) => {
             let figures = sums::no_figures();
             HerdAnswer {
-                checked: Checked::Refused(fault, record),
+                checked: Checked::Refused(refusal, record),
                 figures,
                 kilograms: kilograms::kilograms_of(figures),
                 notes: herd_notes::no_notes(),
@@ -48,10 +48,10 @@ pub fn farm_answer(farm: Farm) -> FarmAnswer
                 kilograms: kilograms::total_kilograms_of(totals),
             }
         }
-        Checked::Refused(fault, record) => {
+        Checked::Refused(refusal, record) => {
             let totals = sums::totals_from(sums::no_figures());
             FarmAnswer {
-                checked: Checked::Refused(fault, record),
+                checked: Checked::Refused(refusal, record),
                 totals,
                 kilograms: kilograms::total_kilograms_of(totals),
             }

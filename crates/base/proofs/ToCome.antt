@@ -6,7 +6,7 @@ use native.Mathlib.Omega.{arith}
 use lib.ListN.{length, length-append}
 use lib.Seq.{sets}
 use Rattle.base.specs.Wrote.{Wrote}
-use Rattle.base.proofs.Writes.{sets-join, kept}
+use Rattle.base.proofs.Writes.{sets-join, wrote-keeps-length}
 
 -- `left`, stored from `next` on, would make `now` the buffer in which the whole is written from `start` on
 pub record ToCome (old : List ℕ) (start : ℕ) (whole now left : List ℕ) (next : ℕ) : Type 0 where
@@ -26,7 +26,7 @@ module _ {old whole : List ℕ} {start : ℕ} where
         to-come = ap (λ (m : List ℕ). sets m after b) (w .bytes) ∙ ap (λ (n : ℕ). sets (sets now next a) n b) (w .past)
             ∙ sets-join now next a b ∙ t .to-come;
         adds-up = omega (arith, w .past, t .adds-up, length-append a b);
-        same = kept w ∙ t .same;
+        same = wrote-keeps-length w ∙ t .same;
       }
 
   pub ended : {now : List ℕ} {next : ℕ} → ToCome old start whole now [] next → Wrote old start whole now next

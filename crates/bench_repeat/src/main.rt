@@ -4,8 +4,8 @@
 // it costs nearly nothing and still needs the answer.
 use farm::Checked;
 use farm::Farm;
-use farm::Fault;
 use farm::Given;
+use farm::Refusal;
 use libc::STDIN_FILENO;
 use libc::STDOUT_FILENO;
 use views::View;
@@ -70,8 +70,11 @@ fn mixed(sum: u64, x: u64) -> u64 {
     (sum % PRIME * 31 + x % PRIME) % PRIME
 }
 
-fn refusal_sum(sum: u64, fault: Fault, record: usize) -> u64 {
-    mixed(mixed(sum, fault_numbers::number_of(fault)), record as u64)
+fn refusal_sum(sum: u64, refusal: Refusal, record: usize) -> u64 {
+    mixed(
+        mixed(sum, refusal_numbers::number_of(refusal)),
+        record as u64,
+    )
 }
 
 fn given_number(given: Given) -> u64 {
@@ -79,7 +82,7 @@ fn given_number(given: Given) -> u64 {
         Given::Missing => 0,
         Given::Standard => 1,
         Given::Value(v) => v as u64,
-        Given::Signed(v) => cut::magnitude(v as i64),
+        Given::Signed(v) => cut_division::magnitude(v as i64),
     }
 }
 
@@ -118,21 +121,21 @@ fn read_sum(sum: u64, turn: u64, file: &[u8]) -> u64 {
     let checked = answer.checked;
     match checked {
         Checked::Accepted => farm_sum(sum, turn, answer.farm),
-        Checked::Refused(fault, record) => refusal_sum(sum, fault, record),
+        Checked::Refused(refusal, record) => refusal_sum(sum, refusal, record),
     }
 }
 
 fn whole_sum(sum: u64, turn: u64, file: &[u8], out: &mut [u8]) -> u64 {
     match calls::file_view(View::Figures, file, out) {
         Written::Length(n) => text_sum(sum, turn, out, n),
-        Written::Refused(fault, record) => refusal_sum(sum, fault, record),
+        Written::Refused(refusal, record) => refusal_sum(sum, refusal, record),
     }
 }
 
 fn listing_sum(sum: u64, turn: u64, farm: Farm, out: &mut [u8]) -> u64
     requires { ⌜ (checkFarm farm ≡ Accepted) × (farmRoom ≤ length (now out)) ⌝ }
 {
-    let n = figure_lines::put_farm(out, farm);
+    let n = lines_figures::put_farm(out, farm);
     text_sum(sum, turn, out, n)
 }
 
@@ -177,7 +180,7 @@ fn listed(times: u64, file: &[u8], out: &mut [u8]) -> u64
     let checked = answer.checked;
     match checked {
         Checked::Accepted => repeat_listing(times, answer.farm, out),
-        Checked::Refused(fault, record) => refusal_sum(0, fault, record),
+        Checked::Refused(refusal, record) => refusal_sum(0, refusal, record),
     }
 }
 

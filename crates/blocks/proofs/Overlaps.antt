@@ -8,7 +8,7 @@ use lib.ListN.{length, take, drop, set, length-append, length-drop, drop-of-leng
 use lib.Seq.{sets, set-set, set-comm, take-add, take-length, length-take-le}
 use Rattle.base.specs.Part.{part}
 use Rattle.base.specs.Wrote.{Wrote}
-use Rattle.base.proofs.Writes.{sets-join, said, front}
+use Rattle.base.proofs.Writes.{sets-join, wrote-as, wrote-in-front}
 use Rattle.blocks.specs.Blocks.{block}
 
 set-before : (l : List ℕ) (i j v : ℕ) (a : List ℕ) → i < j → set (sets l j a) i v ≡ sets (set l i v) j a
@@ -47,7 +47,7 @@ block-is t k {old} w n h =
     let l : length (take (k + block - k) (drop k t)) ≡ block =
     rw b (length-take-le block (drop k t) (omega (arith, length-drop k t))) in
     let f : length old ≤ length (take (k + block - k) (drop k t)) = omega arith in
-    front w (omega arith) ∙ rw (drop-of-length-le old f, append-nil)
+    wrote-in-front w (omega arith) ∙ rw (drop-of-length-le old f, append-nil)
 
 -- of a text j bytes were written, and then the block from k on
 block-put : (t : List ℕ) (j k : ℕ) {old mid new : List ℕ} {at p q : ℕ} → Wrote old at (take j t) mid p
@@ -61,8 +61,8 @@ block-put t j k {old} {mid} {new} {at} {p} {q} v w h g f =
     let m = length-take-le block (drop k t) (omega (arith, length-drop k t)) in
     rw (take-add k block t)
     (wrote-over (take k t) (take (j - k) (drop k t)) (take block (drop k t))
-    (said (ap (λ (x : ℕ). take x t) i ∙ take-add k (j - k) t) v)
-    (said (ap (λ (x : ℕ). take x (drop k t)) b) w)
+    (wrote-as (ap (λ (x : ℕ). take x t) i ∙ take-add k (j - k) t) v)
+    (wrote-as (ap (λ (x : ℕ). take x (drop k t)) b) w)
     (length-take-le k t (omega arith))
     (omega arith))
 
@@ -81,7 +81,7 @@ module _ (t old mid : List ℕ) (at p : ℕ) (first : Wrote old at (part t 0 (0 
       → last ≤ j → j ≤ length t → Wrote old at t new r
   last-put j v w h g =
       let e : last + block ≡ length t = omega arith in
-      said (ap (λ (x : ℕ). take x t) e ∙ take-length t) (block-put t j last v w h (omega arith) (omega arith))
+      wrote-as (ap (λ (x : ℕ). take x t) e ∙ take-length t) (block-put t j last v w h (omega arith) (omega arith))
 
   pub in-two : (new : List ℕ) (r : ℕ) → Wrote mid (at + last) (part t last (last + block)) new r → last ≤ block
       → Wrote old at t new r

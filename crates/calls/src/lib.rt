@@ -12,11 +12,11 @@ ghost use Rattle.contracts.specs.Listings.{Called, fileHerdCall, fileTotalsCall
 ghost use Rattle.contracts.specs.Reasons.{fileReason};
 
 // from a record
-pub use record_calls::farm_totals;
-pub use record_calls::herd_figures;
-pub use record_calls::herd_reason;
-pub use record_calls::herd_view;
-pub use record_calls::totals_listing;
+pub use herd_calls::farm_totals;
+pub use herd_calls::herd_figures;
+pub use herd_calls::herd_reason;
+pub use herd_calls::herd_view;
+pub use herd_calls::totals_listing;
 
 // Room for any view of any file.
 pub const VIEW_ROOM: usize = views::FARM_ROOM;
@@ -44,7 +44,7 @@ pub fn file_herd_reason(s: &[u8], number: usize) -> ReasonAnswer
             }
             ReasonAnswer::NoHerd
         }
-        Checked::Refused(fault, record) => ReasonAnswer::Refused(fault, record),
+        Checked::Refused(refusal, record) => ReasonAnswer::Refused(refusal, record),
     }
 }
 
@@ -63,7 +63,7 @@ pub fn file_herd_view(view: View, s: &[u8], number: usize, out: &mut [u8]) -> Wr
             let h = farm.herds[number];
             herd_view(view, h, out)
         }
-        Checked::Refused(fault, record) => Written::Refused(fault, record),
+        Checked::Refused(refusal, record) => Written::Refused(refusal, record),
     }
 }
 
@@ -75,7 +75,7 @@ pub fn file_totals_listing(s: &[u8], out: &mut [u8]) -> Written
     let checked = answer.checked;
     match checked {
         Checked::Accepted => totals_listing(answer.farm, out),
-        Checked::Refused(fault, record) => Written::Refused(fault, record),
+        Checked::Refused(refusal, record) => Written::Refused(refusal, record),
     }
 }
 
@@ -94,6 +94,6 @@ pub fn file_view(view: View, s: &[u8], out: &mut [u8]) -> Written
     let mut scratch = room();
     match views::files::put_file(s, &mut scratch, view) {
         Written::Length(n) => written::hand_over(out, &scratch, n),
-        Written::Refused(fault, record) => Written::Refused(fault, record),
+        Written::Refused(refusal, record) => Written::Refused(refusal, record),
     }
 }

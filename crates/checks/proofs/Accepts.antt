@@ -16,7 +16,7 @@ use Rattle.farm.specs.declared.Label.{Label}
 use Rattle.farm.specs.declared.Slot.{Slot}
 use Rattle.farm.specs.declared.Herd.{Herd}
 use Rattle.farm.specs.declared.Farm.{Farm}
-use Rattle.farm.specs.declared.Fault.the-variants.{BadLabel}
+use Rattle.farm.specs.declared.Refusal.the-variants.{BadLabel}
 use Rattle.farm.specs.declared.Checked.{Checked}
 use Rattle.farm.specs.declared.Checked.the-variants.{Accepted, Refused}
 use Rattle.farm.specs.Labels.{labelOk, sameLabel}
@@ -176,9 +176,9 @@ farm-each f e = each-map good-herd (accepted-farm f e .herds)
 -- ---- what is said of a record
 
 module _ (P : Says → Type 0) (accepted : P accepts) where
-  said : {ls : List (Test Checked)} → Each (λ l. P (says (l .answer))) ls → P (says (first ls Accepted))
-  said none = accepted
-  said (more {a} {l} p ps) = go (a .holds) p (said ps)
+  first-says : {ls : List (Test Checked)} → Each (λ l. P (says (l .answer))) ls → P (says (first ls Accepted))
+  first-says none = accepted
+  first-says (more {a} {l} p ps) = go (a .holds) p (first-says ps)
     where
       go : (t : Bool) → P (says (a .answer)) → P (says (first l Accepted))
           → P (says (pick t (a .answer) (first l Accepted)))
@@ -187,7 +187,7 @@ module _ (P : Says → Type 0) (accepted : P accepts) where
 
 pub herd-says : (h : Herd) → HerdSays (says (checkHerd h))
 unfolding checkHerd
-herd-says h = said HerdSays HerdSays.fine {ls = Refused BadLabel 0 when not (labelOk (h .label)) ∷ inputTests h}
+herd-says h = first-says HerdSays HerdSays.fine {ls = Refused BadLabel 0 when not (labelOk (h .label)) ∷ inputTests h}
     (more HerdSays.label (more HerdSays.missing (more HerdSays.value none)))
 
 herds-say : (before : List Label) (hs : List Herd) → Each (λ l. FarmSays (says (l .answer))) (herdsTests before hs)
@@ -200,5 +200,5 @@ herds-say before (h ∷ hs) =
 
 pub farm-says : (f : Farm) → FarmSays (says (checkFarm f))
 unfolding checkFarm
-farm-says f = said FarmSays (FarmSays.herd HerdSays.fine) {ls = farmTests f}
+farm-says f = first-says FarmSays (FarmSays.herd HerdSays.fine) {ls = farmTests f}
     (more FarmSays.room (herds-say [] (herdsOf f)))

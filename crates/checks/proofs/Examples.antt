@@ -10,7 +10,7 @@ use Rattle.farm.specs.declared.Given.{Given}
 use Rattle.farm.specs.declared.Given.the-variants.{Standard, Value, Signed}
 use Rattle.farm.specs.declared.Slot.{Slot}
 use Rattle.farm.specs.declared.Herd.{Herd}
-use Rattle.farm.specs.declared.Fault.the-variants.{BadValue}
+use Rattle.farm.specs.declared.Refusal.the-variants.{BadValue}
 use Rattle.farm.specs.declared.Checked.the-variants.{Accepted, Refused}
 use Rattle.farm.specs.Labels.{labelOf, byteOk, labelOk}
 use Rattle.herd_tests.specs.Tests.{lacks}

@@ -15,8 +15,8 @@ use Rattle.farm.specs.Limits.{herdsMost}
 use Rattle.farm.specs.declared.Label.{Label}
 use Rattle.farm.specs.declared.Herd.{Herd}
 use Rattle.farm.specs.declared.Farm.{Farm}
-use Rattle.farm.specs.declared.Fault.{Fault}
-use Rattle.farm.specs.declared.Fault.the-variants.{NoRoomForHerd}
+use Rattle.farm.specs.declared.Refusal.{Refusal}
+use Rattle.farm.specs.declared.Refusal.the-variants.{NoRoomForHerd}
 use Rattle.farm.specs.declared.Checked.{Checked}
 use Rattle.farm.specs.declared.Checked.the-variants.{Accepted, Refused}
 use Rattle.checks.specs.Checks.{herdTests, herdsTests, herdsOf, checkFarm}
@@ -80,7 +80,7 @@ module _ (f : Farm) where
           let q = accepted-quiet (herd-refusing (take i ls) (getD (f .herds) i d)) (sym compared ∙ t) in
           rw (taken-stored ls i (getD (f .herds) i d .label) j) (sym (quiet-passes q after) ∙ next-herd)
 
-      pub herd-refused : {fault : Fault} {place : ℕ} → r ≡ Refused fault place → Refused fault place ≡ checkFarm f
+      pub herd-refused : {refusal : Refusal} {place : ℕ} → r ≡ Refused refusal place → Refused refusal place ≡ checkFarm f
       herd-refused t = sym (refused-first (herd-refusing (take i ls) (getD (f .herds) i d)) (sym compared ∙ t) after)
           ∙ next-herd
 

@@ -19,8 +19,8 @@ use Rattle.inputs.specs.Inputs.{Row, rowsOf, lastOf, formOf}
 use Rattle.farm.specs.declared.Label.{Label}
 use Rattle.farm.specs.declared.Herd.{Herd}
 use Rattle.farm.specs.declared.Farm.{Farm}
-use Rattle.farm.specs.declared.Fault.{Fault}
-use Rattle.farm.specs.declared.Fault.the-variants.{BadLabel, BadValue, EarlierLabel, NoRoomForHerd, InputMissing}
+use Rattle.farm.specs.declared.Refusal.{Refusal}
+use Rattle.farm.specs.declared.Refusal.the-variants.{BadLabel, BadValue, EarlierLabel, NoRoomForHerd, InputMissing}
 use Rattle.farm.specs.declared.Checked.{Checked}
 use Rattle.farm.specs.declared.Checked.the-variants.{Accepted, Refused}
 use Rattle.farm.specs.Limits.{herdsMost}
@@ -43,7 +43,7 @@ use Rattle.checks.specs.Refusals.{
   of-herd,
   Turn,
 }
-use Rattle.checks.specs.Refusals.{Sooner, herd-by-herd, in-that-order, FirstOfRecord, RecordGets, fine, refusal}
+use Rattle.checks.specs.Refusals.{Sooner, herd-by-herd, in-that-order, FirstOfRecord, RecordGets, fine, gets-refusal}
 use Rattle.checks.proofs.Places.{
   missing-found,
   none-missing,
@@ -55,7 +55,7 @@ use Rattle.checks.proofs.Places.{
 
 -- ---- turns
 
-one-turn : {fault : Fault} {s t : ℕ} → Turn fault s → Turn fault t → s ≡ t
+one-turn : {refusal : Refusal} {s t : ℕ} → Turn refusal s → Turn refusal t → s ≡ t
 one-turn Turn.room Turn.room = refl
 one-turn Turn.label Turn.label = refl
 one-turn Turn.earlier Turn.earlier = refl
@@ -63,28 +63,28 @@ one-turn Turn.missing Turn.missing = refl
 one-turn Turn.value Turn.value = refl
 
 -- the refusal of a turn
-abbrev faultAt : ℕ → Fault
-faultAt n = getD (NoRoomForHerd ∷ BadLabel ∷ EarlierLabel ∷ InputMissing ∷ []) n BadValue
+abbrev refusalAt : ℕ → Refusal
+refusalAt n = getD (NoRoomForHerd ∷ BadLabel ∷ EarlierLabel ∷ InputMissing ∷ []) n BadValue
 
-of-turn : {fault : Fault} {t : ℕ} → Turn fault t → faultAt t ≡ fault
+of-turn : {refusal : Refusal} {t : ℕ} → Turn refusal t → refusalAt t ≡ refusal
 of-turn Turn.room = refl
 of-turn Turn.label = refl
 of-turn Turn.earlier = refl
 of-turn Turn.missing = refl
 of-turn Turn.value = refl
 
-record Turned (fault : Fault) : Type 0 where
+record Turned (refusal : Refusal) : Type 0 where
   turn : ℕ
   last : turn ≤ 4
-  has : Turn fault turn
+  has : Turn refusal turn
 
-turned : {before : List Herd} {h : Herd} {fault : Fault} → Applies before h fault → Turned fault
+turned : {before : List Herd} {h : Herd} {refusal : Refusal} → Applies before h refusal → Turned refusal
 turned (Applies.bad-label _) = record { turn = 1; last = omega arith; has = Turn.label }
 turned (Applies.earlier-label _ _) = record { turn = 2; last = omega arith; has = Turn.earlier }
 turned (Applies.input-missing _ _) = record { turn = 3; last = omega arith; has = Turn.missing }
 turned (Applies.bad-value _ _) = record { turn = 4; last = omega arith; has = Turn.value }
 
-turned-at : {x : Handed} {n : ℕ} {fault : Fault} → AppliesAt x n fault → Turned fault
+turned-at : {x : Handed} {n : ℕ} {refusal : Refusal} → AppliesAt x n refusal → Turned refusal
 turned-at (no-room _) = record { turn = 0; last = omega arith; has = Turn.room }
 turned-at (of-herd _ a) = turned a
 
@@ -92,16 +92,16 @@ turned-at (of-herd _ a) = turned a
 
 -- none of the refusals with an earlier turn applies
 abbrev NoneBelow : List Herd → Herd → ℕ → Type 0
-NoneBelow before h n = (other : Fault) (t : ℕ) → Applies before h other → Turn other t → t < n → ⊥
+NoneBelow before h n = (other : Refusal) (t : ℕ) → Applies before h other → Turn other t → t < n → ⊥
 
 late : {A : Type 0} {m n : ℕ} → n ≤ m → m < n → A
 late h l = absurd (omega arith)
 
 -- what its tests give, before the answer z that stands behind them
 data Result (before : List Herd) (h : Herd) (z : Checked) : Checked → Type 0 where
-  quiet : ((fault : Fault) → Applies before h fault → ⊥) → Result before h z z
-  gives : {fault : Fault} {t : ℕ} → Turn fault t → Applies before h fault → NoneBelow before h t
-      → Result before h z (Refused fault 0)
+  quiet : ((refusal : Refusal) → Applies before h refusal → ⊥) → Result before h z z
+  gives : {refusal : Refusal} {t : ℕ} → Turn refusal t → Applies before h refusal → NoneBelow before h t
+      → Result before h z (Refused refusal 0)
 
 module _ (before : List Herd) (h : Herd) where
   abbrev rows : List Row
@@ -149,29 +149,29 @@ module _ (before : List Herd) (h : Herd) where
 -- ---- herd by herd
 
 -- a refusal applies to the herd at i
-abbrev At : List Herd → ℕ → Fault → Type 0
-At all i fault = Applies (take i all) (getD all i noHerd) fault
+abbrev At : List Herd → ℕ → Refusal → Type 0
+At all i refusal = Applies (take i all) (getD all i noHerd) refusal
 
 -- nothing applies to the first k
 abbrev Clean : List Herd → ℕ → Type 0
-Clean all k = (i : ℕ) (fault : Fault) → i < k → i < length all → At all i fault → ⊥
+Clean all k = (i : ℕ) (refusal : Refusal) → i < k → i < length all → At all i refusal → ⊥
 
 data Results (all : List Herd) : Checked → Type 0 where
   all-quiet : Clean all (length all) → Results all Accepted
-  given : {fault : Fault} {i t : ℕ} → i < length all → Turn fault t → At all i fault → Clean all i
-      → NoneBelow (take i all) (getD all i noHerd) t → Results all (Refused fault 0)
+  given : {refusal : Refusal} {i t : ℕ} → i < length all → Turn refusal t → At all i refusal → Clean all i
+      → NoneBelow (take i all) (getD all i noHerd) t → Results all (Refused refusal 0)
 
 module _ (all : List Herd) where
   module _ (k : ℕ) (clean : Clean all k) where
-    one-more : ((fault : Fault) → At all k fault → ⊥) → Clean all (k + 1)
-    one-more none i fault b c a = go (ltb i k) refl
+    one-more : ((refusal : Refusal) → At all k refusal → ⊥) → Clean all (k + 1)
+    one-more none i refusal b c a = go (ltb i k) refl
       where
         go : (t : Bool) → ltb i k ≡ t → ⊥
-        go true e = clean i fault (ltb-true i k e) c a
+        go true e = clean i refusal (ltb-true i k e) c a
         go false e =
             let l = ltb-false i k e in
             let s : i ≡ k = omega arith in
-            none fault (subst (λ (j : ℕ). At all j fault) s a)
+            none refusal (subst (λ (j : ℕ). At all j refusal) s a)
 
     next : {z c : Checked} → k < length all → Result (take k all) (getD all k noHerd) z c
         → (Clean all (k + 1) → Results all z) → Results all c
@@ -204,12 +204,12 @@ module _ (all : List Herd) where
 -- ---- a record
 
 -- a refusal applies to one of the herds
-abbrev OfHerd : List Herd → ℕ → Fault → Type 0
-OfHerd hs n fault = (n < length hs) × At hs n fault
+abbrev OfHerd : List Herd → ℕ → Refusal → Type 0
+OfHerd hs n refusal = (n < length hs) × At hs n refusal
 
 -- where 9 does not apply, what its herds give
-module _ (x : Handed) (only : (n : ℕ) (fault : Fault) → AppliesAt x n fault → OfHerd (herdsIn x) n fault) where
-  none-sooner : {m n s : ℕ} {other fault : Fault} → AppliesAt x m other → Sooner m other n fault → Turn fault s
+module _ (x : Handed) (only : (n : ℕ) (refusal : Refusal) → AppliesAt x n refusal → OfHerd (herdsIn x) n refusal) where
+  none-sooner : {m n s : ℕ} {other refusal : Refusal} → AppliesAt x m other → Sooner m other n refusal → Turn refusal s
       → Clean (herdsIn x) n → NoneBelow (take n (herdsIn x)) (getD (herdsIn x) n noHerd) s → ⊥
   none-sooner {m} {other = g} o (herd-by-herd l) u clean below = let h = only m g o in clean m g l (h .0) (h .1)
   none-sooner {m} {other = g} o (in-that-order {s = s} p q l) u clean below =
@@ -220,21 +220,21 @@ module _ (x : Handed) (only : (n : ℕ) (fault : Fault) → AppliesAt x n fault 
   by-herds : {c : Checked} → Results (herdsIn x) c → RecordGets x c
   by-herds (all-quiet clean) = fine (λ n f a. let h = only n f a in clean n f (h .0) (h .0) (h .1))
   by-herds (given {i = i} b turn a clean below) =
-      refusal
+      gets-refusal
       (record {
         place = i;
         is-first = record { applies = of-herd b a; none-sooner = λ m g o s. none-sooner o s turn clean below };
       })
 
-only-herds : {h : Herd} (n : ℕ) (fault : Fault) → AppliesAt (herd h) n fault → OfHerd (h ∷ []) n fault
-only-herds n fault (of-herd b a) = (b, a)
+only-herds : {h : Herd} (n : ℕ) (refusal : Refusal) → AppliesAt (herd h) n refusal → OfHerd (h ∷ []) n refusal
+only-herds n refusal (of-herd b a) = (b, a)
 
-only-farms : {f : Farm} → f .count ≤ herdsMost → (n : ℕ) (fault : Fault) → AppliesAt (farm f) n fault
-    → OfHerd (herdsOf f) n fault
-only-farms r n fault (no-room h) = absurd (omega arith)
-only-farms r n fault (of-herd b a) = (b, a)
+only-farms : {f : Farm} → f .count ≤ herdsMost → (n : ℕ) (refusal : Refusal) → AppliesAt (farm f) n refusal
+    → OfHerd (herdsOf f) n refusal
+only-farms r n refusal (no-room h) = absurd (omega arith)
+only-farms r n refusal (of-herd b a) = (b, a)
 
-none-before-9 : {x : Handed} {m : ℕ} {other : Fault} → AppliesAt x m other → Sooner m other 0 NoRoomForHerd → ⊥
+none-before-9 : {x : Handed} {m : ℕ} {other : Refusal} → AppliesAt x m other → Sooner m other 0 NoRoomForHerd → ⊥
 none-before-9 a (herd-by-herd l) = omega arith
 none-before-9 a (in-that-order p q l) = let e = one-turn q Turn.room in omega arith
 
@@ -247,7 +247,7 @@ record-gets (farm f) = go (ltb herdsMost (f .count)) refl
         → RecordGets (farm f) (pick t (Refused NoRoomForHerd 0) (first (herdsTests [] (herdsOf f)) Accepted))
     go true e =
         let many = ltb-true herdsMost (f .count) e in
-        refusal (record {
+        gets-refusal (record {
           place = 0;
           is-first = record { applies = no-room many; none-sooner = λ m other a s. none-before-9 a s };
         })
@@ -255,37 +255,37 @@ record-gets (farm f) = go (ltb herdsMost (f .count)) refl
 
 -- ---- there is one first refusal
 
-in-order : (m n : ℕ) {f g : Fault} → Turned f → Turned g → Order Sooner m f n g
+in-order : (m n : ℕ) {f g : Refusal} → Turned f → Turned g → Order Sooner m f n g
 in-order m n {f} {g} a b =
     by-turn Sooner m n f g (a .turn) (b .turn) (λ l. herd-by-herd l) (λ l. herd-by-herd l)
     (λ l. in-that-order (a .has) (b .has) l) (λ l. in-that-order (b .has) (a .has) l)
-    (λ e. sym (of-turn (a .has)) ∙ ap faultAt e ∙ of-turn (b .has))
+    (λ e. sym (of-turn (a .has)) ∙ ap refusalAt e ∙ of-turn (b .has))
 
-pub one-first : {x : Handed} {f g : Fault} → FirstOfRecord x f → FirstOfRecord x g → f ≡ g
+pub one-first : {x : Handed} {f g : Refusal} → FirstOfRecord x f → FirstOfRecord x g → f ≡ g
 one-first a b =
-    one-of-first (λ p q. in-order (a .place) (b .place) (turned-at p) (turned-at q)) (a .is-first) (b .is-first) .fault
+    one-of-first (λ p q. in-order (a .place) (b .place) (turned-at p) (turned-at q)) (a .is-first) (b .is-first) .refusal
 
 -- ---- the theorems
 
-pub record-refused : (x : Handed) (n : ℕ) (fault : Fault)
-    → (checkOf x ≡ Refused fault n) ↔ (FirstOfRecord x fault × (n ≡ 0))
-record-refused x n fault = (told (record-gets x), found (record-gets x))
+pub record-refused : (x : Handed) (n : ℕ) (refusal : Refusal)
+    → (checkOf x ≡ Refused refusal n) ↔ (FirstOfRecord x refusal × (n ≡ 0))
+record-refused x n refusal = (told (record-gets x), found (record-gets x))
   where
-    told : {c : Checked} → RecordGets x c → c ≡ Refused fault n → FirstOfRecord x fault × (n ≡ 0)
+    told : {c : Checked} → RecordGets x c → c ≡ Refused refusal n → FirstOfRecord x refusal × (n ≡ 0)
     told (fine none) e = clash cc
-    told (refusal {fault = f} first) e = let p : f ≡ fault = cc in let q : n ≡ 0 = cc in (rw p at first, q)
+    told (gets-refusal {refusal = f} first) e = let p : f ≡ refusal = cc in let q : n ≡ 0 = cc in (rw p at first, q)
 
-    found : {c : Checked} → RecordGets x c → FirstOfRecord x fault × (n ≡ 0) → c ≡ Refused fault n
-    found (fine none) w = absurd (none (w .0 .place) fault (w .0 .is-first .applies))
-    found (refusal {fault = f} y) w = let p = one-first y (w .0) in rw (p, w .1)
+    found : {c : Checked} → RecordGets x c → FirstOfRecord x refusal × (n ≡ 0) → c ≡ Refused refusal n
+    found (fine none) w = absurd (none (w .0 .place) refusal (w .0 .is-first .applies))
+    found (gets-refusal {refusal = f} y) w = let p = one-first y (w .0) in rw (p, w .1)
 
-pub record-accepted : (x : Handed) → (checkOf x ≡ Accepted) ↔ ((n : ℕ) (fault : Fault) → AppliesAt x n fault → ⊥)
+pub record-accepted : (x : Handed) → (checkOf x ≡ Accepted) ↔ ((n : ℕ) (refusal : Refusal) → AppliesAt x n refusal → ⊥)
 record-accepted x = (told (record-gets x), found (record-gets x))
   where
-    told : {c : Checked} → RecordGets x c → c ≡ Accepted → (n : ℕ) (fault : Fault) → AppliesAt x n fault → ⊥
+    told : {c : Checked} → RecordGets x c → c ≡ Accepted → (n : ℕ) (refusal : Refusal) → AppliesAt x n refusal → ⊥
     told (fine none) e = none
-    told (refusal _) e = clash cc
+    told (gets-refusal _) e = clash cc
 
-    found : {c : Checked} → RecordGets x c → ((n : ℕ) (fault : Fault) → AppliesAt x n fault → ⊥) → c ≡ Accepted
+    found : {c : Checked} → RecordGets x c → ((n : ℕ) (refusal : Refusal) → AppliesAt x n refusal → ⊥) → c ≡ Accepted
     found (fine _) none = refl
-    found (refusal {fault = f} y) none = absurd (none (y .place) f (y .is-first .applies))
+    found (gets-refusal {refusal = f} y) none = absurd (none (y .place) f (y .is-first .applies))

@@ -8,7 +8,7 @@ use Rattle.base.specs.Pick.{pick}
 use Rattle.base.specs.First.{Test, _when_, first}
 use Rattle.base.proofs.Clash.{clash}
 use Rattle.base.specs.Each.{Each, none, more}
-use Rattle.farm.specs.declared.Fault.{Fault}
+use Rattle.farm.specs.declared.Refusal.{Refusal}
 use Rattle.farm.specs.declared.Checked.{Checked}
 use Rattle.farm.specs.declared.Checked.the-variants.{Accepted, Refused}
 
@@ -24,7 +24,7 @@ first-append (l ∷ a) b z = ap (pick (l .holds) (l .answer)) (first-append a b 
 
 -- a test that refuses
 pub data Refusing : Test Checked → Type 0 where
-  refusing : {fault : Fault} {place : ℕ} {t : Bool} → Refusing (Refused fault place when t)
+  refusing : {refusal : Refusal} {place : ℕ} {t : Bool} → Refusing (Refused refusal place when t)
 
 -- none of the tests holds
 abbrev pub Quiet : List (Test Checked) → Type 0
@@ -38,22 +38,22 @@ quiet-passes (more e q) z = rw e (quiet-passes q z)
 -- tests that refuse accept only where none holds
 pub accepted-quiet : {ls : List (Test Checked)} → Each Refusing ls → first ls Accepted ≡ Accepted → Quiet ls
 accepted-quiet none e = none
-accepted-quiet (more {l = ls} (refusing {fault} {place} {t}) rs) e = go t e (accepted-quiet rs)
+accepted-quiet (more {l = ls} (refusing {refusal} {place} {t}) rs) e = go t e (accepted-quiet rs)
   where
-    go : (t : Bool) → pick t (Refused fault place) (first ls Accepted) ≡ Accepted
-        → (first ls Accepted ≡ Accepted → Quiet ls) → Quiet (Refused fault place when t ∷ ls)
+    go : (t : Bool) → pick t (Refused refusal place) (first ls Accepted) ≡ Accepted
+        → (first ls Accepted ≡ Accepted → Quiet ls) → Quiet (Refused refusal place when t ∷ ls)
     go true h rest = clash cc
     go false h rest = more refl (rest h)
 
 -- and a refusal is given whatever stands behind them
-pub refused-first : {ls : List (Test Checked)} {fault : Fault} {place : ℕ} → Each Refusing ls
-    → first ls Accepted ≡ Refused fault place → (z : Checked) → first ls z ≡ Refused fault place
+pub refused-first : {ls : List (Test Checked)} {refusal : Refusal} {place : ℕ} → Each Refusing ls
+    → first ls Accepted ≡ Refused refusal place → (z : Checked) → first ls z ≡ Refused refusal place
 refused-first none e z = cc
-refused-first {fault} {place} (more {l = ls} (refusing {fault = f} {place = p} {t}) rs) e z =
+refused-first {refusal} {place} (more {l = ls} (refusing {refusal = f} {place = p} {t}) rs) e z =
     go t e (λ h. refused-first rs h z)
   where
-    go : (t : Bool) → pick t (Refused f p) (first ls Accepted) ≡ Refused fault place
-        → (first ls Accepted ≡ Refused fault place → first ls z ≡ Refused fault place)
-        → pick t (Refused f p) (first ls z) ≡ Refused fault place
+    go : (t : Bool) → pick t (Refused f p) (first ls Accepted) ≡ Refused refusal place
+        → (first ls Accepted ≡ Refused refusal place → first ls z ≡ Refused refusal place)
+        → pick t (Refused f p) (first ls z) ≡ Refused refusal place
     go true h rest = h
     go false h rest = rest h

@@ -9,7 +9,7 @@ use Rattle.base.specs.First.{Test, _when_, first}
 use Rattle.farm.specs.declared.Label.{Label}
 use Rattle.farm.specs.declared.Herd.{Herd}
 use Rattle.farm.specs.declared.Farm.{Farm}
-use Rattle.farm.specs.declared.Fault.the-variants.{BadLabel, BadValue, EarlierLabel, NoRoomForHerd, InputMissing}
+use Rattle.farm.specs.declared.Refusal.the-variants.{BadLabel, BadValue, EarlierLabel, NoRoomForHerd, InputMissing}
 use Rattle.farm.specs.declared.Checked.{Checked}
 use Rattle.farm.specs.declared.Checked.the-variants.{Accepted, Refused}
 use Rattle.farm.specs.Limits.{herdsMost}

@@ -1,9 +1,9 @@
 // 01's checks of a record that is handed in, in their order, always with record 0. A record of any content is answered.
 use farm::Checked;
 use farm::Farm;
-use farm::Fault;
 use farm::HERDS_MOST;
 use farm::Herd;
+use farm::Refusal;
 use farm::labels;
 use farm::labels::Labels;
 ghost use mathlib.Core.Path.{_≡_};
@@ -19,10 +19,10 @@ fn check_inputs(h: Herd) -> Checked
     ensures { λ r. ⌜ r ≡ first (inputTests h) Accepted ⌝ }
 {
     if herd_tests::lacks_input(h) {
-        return Checked::Refused(Fault::InputMissing, 0);
+        return Checked::Refused(Refusal::InputMissing, 0);
     }
     if fits::has_unfit(h) {
-        return Checked::Refused(Fault::BadValue, 0);
+        return Checked::Refused(Refusal::BadValue, 0);
     }
     Checked::Accepted
 }
@@ -32,7 +32,7 @@ pub fn check_herd(h: Herd) -> Checked
     ensures { λ r. ⌜ r ≡ checkHerd h ⌝ }
 {
     if !labels::label_ok(h.label) {
-        return Checked::Refused(Fault::BadLabel, 0);
+        return Checked::Refused(Refusal::BadLabel, 0);
     }
     check_inputs(h)
 }
@@ -43,10 +43,10 @@ fn check_after(labels: Labels, place: usize, h: Herd) -> Checked
     ensures { λ r. ⌜ r ≡ first (herdTests (take place (labels .of)) h) Accepted ⌝ }
 {
     if !labels::label_ok(h.label) {
-        return Checked::Refused(Fault::BadLabel, 0);
+        return Checked::Refused(Refusal::BadLabel, 0);
     }
     if herd_tests::earlier_label(labels, place, h.label) {
-        return Checked::Refused(Fault::EarlierLabel, 0);
+        return Checked::Refused(Refusal::EarlierLabel, 0);
     }
     check_inputs(h)
 }
@@ -57,7 +57,7 @@ pub fn check_farm(farm: Farm) -> Checked
 {
     let count = farm.count;
     if HERDS_MOST < count {
-        return Checked::Refused(Fault::NoRoomForHerd, 0);
+        return Checked::Refused(Refusal::NoRoomForHerd, 0);
     }
     let mut labels = labels::no_labels();
     let mut i = 0;
@@ -69,8 +69,8 @@ pub fn check_farm(farm: Farm) -> Checked
             Checked::Accepted => {
                 i += 1;
             }
-            Checked::Refused(fault, record) => {
-                return Checked::Refused(fault, record);
+            Checked::Refused(refusal, record) => {
+                return Checked::Refused(refusal, record);
             }
         }
     }

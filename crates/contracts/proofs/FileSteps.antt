@@ -12,7 +12,7 @@ use mir.Val.{Fits}
 use Rattle.base.proofs.Each.{each-getD}
 use Rattle.farm.specs.declared.Herd.{Herd}
 use Rattle.farm.specs.declared.Farm.{Farm}
-use Rattle.farm.specs.declared.Fault.{Fault}
+use Rattle.farm.specs.declared.Refusal.{Refusal}
 use Rattle.farm.specs.declared.Checked.{Checked}
 use Rattle.farm.specs.declared.Checked.the-variants as checks
 use Rattle.checks.specs.Checks.{checkHerd, checkFarm, herdsOf}
@@ -20,8 +20,8 @@ use Rattle.farm.specs.Herds.{noHerd}
 use Rattle.checks.proofs.Accepts.{farm-count, farm-each}
 use Rattle.reader.specs.declared.FileAnswer.{FileAnswer}
 use Rattle.reader.specs.Files.{readOf, accepted}
-use Rattle.rules.proofs.Accepts.{accepts-exactly}
-use Rattle.rules.proofs.Passing.{accepted-passes}
+use Rattle.rules_theorems.proofs.Accepts.{accepts-exactly}
+use Rattle.rules_theorems.proofs.Passing.{accepted-passes}
 use Rattle.written.specs.declared.Written.{Written}
 use Rattle.written.specs.declared.Written.the-variants.{Length, Refused}
 use Rattle.written.specs.Answer.{leaves, answers}
@@ -107,15 +107,15 @@ module _ (s : List ℕ) (a : FileAnswer) (q : a ≡ readOf s) where
               rw as-accepted (rw passes at (w .answer));
         }
 
-  module _ (fault : Fault) (at-record : ℕ) (e : a .checked ≡ checks.Refused fault at-record) (old : List ℕ) where
-    pub refusing : readOf s .checked ≡ checks.Refused fault at-record
+  module _ (refusal : Refusal) (at-record : ℕ) (e : a .checked ≡ checks.Refused refusal at-record) (old : List ℕ) where
+    pub refusing : readOf s .checked ≡ checks.Refused refusal at-record
     refusing = rw q at e
 
-    pub is-herd-unread : (v : View) (i : ℕ) → Called (fileHerdCall v s i) old old (Refused fault at-record)
+    pub is-herd-unread : (v : View) (i : ℕ) → Called (fileHerdCall v s i) old old (Refused refusal at-record)
     unfolding fileHerdCall
     is-herd-unread v i = record { buffer = rw refusing; answer = rw refusing }
 
-    pub is-totals-unread : Called (fileTotalsCall s) old old (Refused fault at-record)
+    pub is-totals-unread : Called (fileTotalsCall s) old old (Refused refusal at-record)
     unfolding fileTotalsCall
     is-totals-unread = record { buffer = rw refusing; answer = rw refusing }
 

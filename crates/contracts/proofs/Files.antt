@@ -10,17 +10,17 @@ use lib.ListN.{length, getD, replicate}
 use Rattle.base.specs.Wrote.{Wrote}
 use Rattle.farm.specs.declared.Herd.{Herd}
 use Rattle.farm.specs.declared.Farm.{Farm}
-use Rattle.farm.specs.declared.Fault.{Fault}
+use Rattle.farm.specs.declared.Refusal.{Refusal}
 use Rattle.farm.specs.declared.Checked.the-variants as checks
 use Rattle.farm.specs.Refusals.{number}
 use Rattle.farm.specs.Herds.{noHerd}
 use Rattle.reader.specs.Files.{readOf, accepted, refused}
-use Rattle.rules.specs.Rules.{herdsMost, farmOf, KeepsRules}
-use Rattle.rules.specs.Refusals.{First}
-use Rattle.rules.proofs.Farms.{herds-of}
-use Rattle.rules.proofs.Accepts.{accepts-exactly}
-use Rattle.rules.proofs.Passing.{accepted-passes}
-use Rattle.rules.proofs.Refuses.{first-refusal}
+use Rattle.rules_theorems.specs.Rules.{herdsMost, farmOf, KeepsRules}
+use Rattle.rules_theorems.specs.Refusals.{First}
+use Rattle.rules_theorems.proofs.Farms.{herds-of}
+use Rattle.rules_theorems.proofs.Accepts.{accepts-exactly}
+use Rattle.rules_theorems.proofs.Passing.{accepted-passes}
+use Rattle.rules_theorems.proofs.Refuses.{first-refusal}
 use Rattle.outputs.specs.Grams.{totalsOf}
 use Rattle.model.specs.Answers.{herdFigures, farmAnswer}
 use Rattle.written.specs.declared.Written.{Written}
@@ -28,7 +28,7 @@ use Rattle.written.specs.declared.Written.the-variants.{Length}
 use Rattle.written.specs.Answer.{leaves, answers}
 use Rattle.refusal_line.specs.Lines.{refusalLine}
 use Rattle.listing.specs.Listing.{totalsListing}
-use Rattle.figure_lines.specs.Lines.{farmListing}
+use Rattle.lines_figures.specs.Lines.{farmListing}
 use Rattle.views.specs.declared.View.{View}
 use Rattle.views.specs.declared.View.the-variants.{Figures, Notes, Cuts, Reasons, Sentences}
 use Rattle.views.specs.declared.Output.{Output}
@@ -95,17 +95,17 @@ module _ {s : List ℕ} {f : Farm} (k : KeepsRules s f) where
 
 -- ---- a file that is refused
 
-module _ {s : List ℕ} {n : ℕ} {fault : Fault} (r : First s n fault) where
-  pub read-not : readOf s ≡ refused n fault
-  read-not = first-refusal s n fault .1 r
+module _ {s : List ℕ} {n : ℕ} {refusal : Refusal} (r : First s n refusal) where
+  pub read-not : readOf s ≡ refused n refusal
+  read-not = first-refusal s n refusal .1 r
 
-  refusing : (c : FileCall) → callOf c s .checked ≡ checks.Refused fault n
+  refusing : (c : FileCall) → callOf c s .checked ≡ checks.Refused refusal n
   unfolding fileHerdCall fileTotalsCall fileCall
   refusing (of-herd v i) = rw read-not
   refusing of-totals = rw read-not
   refusing (of-all v) = rw read-not
 
-  printed-refusal : (v : View) → outputOf v s ≡ refusalLine (number fault) n
+  printed-refusal : (v : View) → outputOf v s ≡ refusalLine (number refusal) n
   unfolding outputOf
   printed-refusal v = rw read-not
 

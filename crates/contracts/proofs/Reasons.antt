@@ -5,7 +5,7 @@ use mathlib.Core.List.{List, []}
 use lib.ListN.{length, getD}
 use borrow.Author.Tests.{lt-ltb, le-ltb}
 use Rattle.farm.specs.declared.Herd.{Herd}
-use Rattle.farm.specs.declared.Fault.{Fault}
+use Rattle.farm.specs.declared.Refusal.{Refusal}
 use Rattle.farm.specs.declared.Checked.the-variants as checks
 use Rattle.farm.specs.Herds.{noHerd}
 use Rattle.reader.specs.declared.FileAnswer.{FileAnswer}
@@ -31,10 +31,10 @@ module _ (s : List ℕ) (a : FileAnswer) (q : a ≡ readOf s) where
     unfolding fileReason
     is-no-herd h = rw (as-accepted s a q e, le-ltb i (a .farm .count) h)
 
-  pub is-unread : (fault : Fault) (at-record i : ℕ) → a .checked ≡ checks.Refused fault at-record
-      → Refused fault at-record ≡ fileReason s i
+  pub is-unread : (refusal : Refusal) (at-record i : ℕ) → a .checked ≡ checks.Refused refusal at-record
+      → Refused refusal at-record ≡ fileReason s i
   unfolding fileReason
-  is-unread fault at-record i e = rw (refusing s a q fault at-record e [])
+  is-unread refusal at-record i e = rw (refusing s a q refusal at-record e [])
 
 pub ruleset file-reason-steps = (in-array, place-fits, is-file-reason, is-no-herd, is-unread)
 

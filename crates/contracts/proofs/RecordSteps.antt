@@ -6,7 +6,7 @@ use mathlib.Core.List.{List, map}
 use lib.ListN.{length}
 use Rattle.farm.specs.declared.Herd.{Herd}
 use Rattle.farm.specs.declared.Farm.{Farm}
-use Rattle.farm.specs.declared.Fault.{Fault}
+use Rattle.farm.specs.declared.Refusal.{Refusal}
 use Rattle.farm.specs.declared.Checked.{Checked}
 use Rattle.farm.specs.declared.Checked.the-variants as checks
 use Rattle.checks.specs.Checks.{checkHerd, checkFarm, herdsOf}
@@ -27,7 +27,7 @@ use Rattle.contracts.specs.Listings.{Called, herdCall, totalsCall}
 
 by-checks : (k : Checked) (h : Herd) → answerHerd k h .checked ≡ k
 by-checks checks.Accepted h = refl
-by-checks (checks.Refused fault at) h = refl
+by-checks (checks.Refused refusal at) h = refl
 
 pub herd-checked : (h : Herd) → herdAnswer h .checked ≡ checkHerd h
 unfolding herdAnswer
@@ -39,7 +39,7 @@ herd-figured h e = rw e
 
 of-checks : (k : Checked) (f : Farm) → answerFarm k f .checked ≡ k
 of-checks checks.Accepted f = refl
-of-checks (checks.Refused fault at) f = refl
+of-checks (checks.Refused refusal at) f = refl
 
 pub farm-checked : (f : Farm) → farmAnswer f .checked ≡ checkFarm f
 unfolding farmAnswer
@@ -61,10 +61,10 @@ module _ (view : View) (h : Herd) (k : Checked) (q : k ≡ checkHerd h) where
   unfolding herdCall
   is-herd-view t old new r w = record { buffer = rw (← q, t) (w .buffer); answer = rw (← q, t) (w .answer) }
 
-  pub is-herd-refused : (old : List ℕ) (fault : Fault) (at-record : ℕ) → k ≡ checks.Refused fault at-record
-      → Called (herdCall view h) old old (Refused fault at-record)
+  pub is-herd-refused : (old : List ℕ) (refusal : Refusal) (at-record : ℕ) → k ≡ checks.Refused refusal at-record
+      → Called (herdCall view h) old old (Refused refusal at-record)
   unfolding herdCall
-  is-herd-refused old fault at-record t = record { buffer = rw (← q, t); answer = rw (← q, t) }
+  is-herd-refused old refusal at-record t = record { buffer = rw (← q, t); answer = rw (← q, t) }
 
 -- ---- a farm
 
@@ -84,10 +84,10 @@ module _ (f : Farm) (a : FarmAnswer) (q : a ≡ farmAnswer f) where
       let w′ : Answered (totalsListing (farmAnswer f .totals)) old new r = rw q at w in
       record { buffer = rw p (w′ .buffer); answer = rw p (w′ .answer) }
 
-  pub is-totals-refused : (old : List ℕ) (fault : Fault) (at-record : ℕ) → a .checked ≡ checks.Refused fault at-record
-      → Called (totalsCall f) old old (Refused fault at-record)
+  pub is-totals-refused : (old : List ℕ) (refusal : Refusal) (at-record : ℕ) → a .checked ≡ checks.Refused refusal at-record
+      → Called (totalsCall f) old old (Refused refusal at-record)
   unfolding totalsCall
-  is-totals-refused old fault at-record e = let p = checked (checks.Refused fault at-record) e in
+  is-totals-refused old refusal at-record e = let p = checked (checks.Refused refusal at-record) e in
       record { buffer = rw p; answer = rw p }
 
 pub ruleset herd-steps = (accepted, is-herd-view, is-herd-refused)

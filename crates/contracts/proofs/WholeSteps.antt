@@ -7,7 +7,7 @@ use native.Mathlib.Omega.{arith}
 use lib.ListN.{length}
 use Rattle.base.specs.Part.{part}
 use Rattle.base.proofs.Clash.{clash}
-use Rattle.farm.specs.declared.Fault.{Fault}
+use Rattle.farm.specs.declared.Refusal.{Refusal}
 use Rattle.farm.specs.declared.Checked.the-variants as checks
 use Rattle.reader.specs.Files.{readOf}
 use Rattle.written.specs.declared.Written.{Written}
@@ -27,8 +27,8 @@ module _ (v : View) (s : List ℕ) where
   unfolding fileCall
   as-called a k = record { buffer = rw k (a .buffer); answer = rw k (a .answer) }
 
-  as-refused : {old : List ℕ} {fault : Fault} {n : ℕ} → readOf s .checked ≡ checks.Refused fault n
-      → Called (fileCall v s) old old (Refused fault n)
+  as-refused : {old : List ℕ} {refusal : Refusal} {n : ℕ} → readOf s .checked ≡ checks.Refused refusal n
+      → Called (fileCall v s) old old (Refused refusal n)
   unfolding fileCall
   as-refused k = record { buffer = rw k; answer = rw k }
 
@@ -38,7 +38,7 @@ module _ (v : View) (s : List ℕ) where
   pub whole-written : (old new : List ℕ) (r : Written) → viewRoom ≤ length old → Listed old new r
       → Called (fileCall v s) old new r
   whole-written old new (Length n) h (listed k w m) = as-called (written refl w (omega arith)) k
-  whole-written old new (Refused fault n) h (refused k) = as-refused k
+  whole-written old new (Refused refusal n) h (refused k) = as-refused k
 
   module _ (mid after : List ℕ) (q : Written) (h : viewRoom ≤ length mid) (p : Listed mid after q) where
     pub whole-handed : (n : ℕ) → q ≡ Length n → (old new : List ℕ) (r : Written) → Answered (part after 0 n) old new r
@@ -50,16 +50,16 @@ module _ (v : View) (s : List ℕ) where
         go after (Length m) (listed k w l) e a =
             let d : n ≡ m = cc in
             as-called (handed refl w (omega arith) (subst (λ (x : ℕ). Answered (part after 0 x) old new r) d a)) k
-        go after (Refused fault m) (refused k) e a = clash cc
+        go after (Refused refusal m) (refused k) e a = clash cc
 
-    pub whole-refused : (fault : Fault) (n : ℕ) → q ≡ Refused fault n → (old : List ℕ)
-        → Called (fileCall v s) old old (Refused fault n)
-    whole-refused fault n e old = go after q p e
+    pub whole-refused : (refusal : Refusal) (n : ℕ) → q ≡ Refused refusal n → (old : List ℕ)
+        → Called (fileCall v s) old old (Refused refusal n)
+    whole-refused refusal n e old = go after q p e
       where
-        go : (after : List ℕ) (q : Written) → Listed mid after q → q ≡ Refused fault n
-            → Called (fileCall v s) old old (Refused fault n)
+        go : (after : List ℕ) (q : Written) → Listed mid after q → q ≡ Refused refusal n
+            → Called (fileCall v s) old old (Refused refusal n)
         go after (Length m) (listed k w l) e = clash cc
-        go after (Refused f m) (refused k) e = let c : f ≡ fault = cc in let d : m ≡ n = cc in
+        go after (Refused f m) (refused k) e = let c : f ≡ refusal = cc in let d : m ≡ n = cc in
             rw (← c, ← d) (as-refused k)
 
 pub ruleset whole-steps = (whole-written, whole-handed, whole-refused)

@@ -1,5 +1,5 @@
 -- What the calls that write what a file's farm has are to do, said by the rules that the file keeps or breaks (crate
--- `rules`) and not by how it is read: the first refusal, or what the view lists of the herds that its records say, or
+-- `rules_theorems`) and not by how it is read: the first refusal, or what the view lists of the herds that its records say, or
 -- their totals. proofs/Files.antt shows that the calls do exactly that. To be believed.
 use Prim.Native.Nat.{ℕ, suc, _≤_, _<_}
 use mathlib.Core.Path.{_≡_}
@@ -8,12 +8,12 @@ use lib.ListN.{length, drop}
 use Rattle.refusal_line.specs.Lines.{refusalLine}
 use Rattle.farm.specs.declared.Herd.{Herd}
 use Rattle.farm.specs.declared.Farm.{Farm}
-use Rattle.farm.specs.declared.Fault.{Fault}
-use Rattle.farm.specs.declared.Fault.the-variants.{BufferTooShort}
+use Rattle.farm.specs.declared.Refusal.{Refusal}
+use Rattle.farm.specs.declared.Refusal.the-variants.{BufferTooShort}
 use Rattle.farm.specs.Refusals.{number}
-use Rattle.rules.specs.Rules.{KeepsRules}
-use Rattle.rules.specs.Refusals.{First}
-use Rattle.typed.specs.Typed.{typedOf}
+use Rattle.rules_theorems.specs.Rules.{KeepsRules}
+use Rattle.rules_theorems.specs.Refusals.{First}
+use Rattle.typed_inputs.specs.Typed.{typedOf}
 use Rattle.outputs.specs.Grams.{totalsOf}
 use Rattle.herd.specs.Herd.{figuresOf}
 use Rattle.written.specs.declared.Written.{Written}
@@ -65,7 +65,7 @@ pub data Lists (hs : List Herd) : FileCall → List ℕ → Type 0 where
 -- ---- what a call on a file s leaves and says
 
 pub record ByTheRules (s : List ℕ) (c : FileCall) (old new : List ℕ) (r : Written) : Type 0 where
-  pub refused : {n : ℕ} {fault : Fault} → First s n fault → (new ≡ old) × (r ≡ Refused fault n)
+  pub refused : {n : ℕ} {refusal : Refusal} → First s n refusal → (new ≡ old) × (r ≡ Refused refusal n)
   pub listed : {f : Farm} {l : List ℕ} (k : KeepsRules s f) → Lists (k .says .herds) c l → length l ≤ length old
       → (new ≡ l ++ drop (length l) old) × (r ≡ Length (length l))
   pub too-short : {f : Farm} {l : List ℕ} (k : KeepsRules s f) → Lists (k .says .herds) c l → length old < length l
@@ -74,6 +74,6 @@ pub record ByTheRules (s : List ℕ) (c : FileCall) (old new : List ℕ) (r : Wr
 -- ---- what a command that asks for this view prints for a file, and how the run ended
 
 pub data Prints (s : List ℕ) (v : View) : List ℕ → Written → Type 0 where
-  the-refusal : {n : ℕ} {fault : Fault} → First s n fault → Prints s v (refusalLine (number fault) n) (Refused fault n)
+  the-refusal : {n : ℕ} {refusal : Refusal} → First s n refusal → Prints s v (refusalLine (number refusal) n) (Refused refusal n)
   the-view : {f : Farm} (k : KeepsRules s f)
       → Prints s v (viewText v (k .says .herds)) (Length (length (viewText v (k .says .herds))))

@@ -30,16 +30,16 @@ pub record Call : Type 0 where
 -- the buffer afterwards
 abbrev pub left : Checked → List ℕ → List ℕ → List ℕ
 left checks.Accepted listing old = leaves listing old
-left (checks.Refused fault at) listing old = old
+left (checks.Refused refusal at) listing old = old
 
 -- the answer
-abbrev pub said : Checked → List ℕ → List ℕ → Written
-said checks.Accepted listing old = answers listing old
-said (checks.Refused fault at) listing old = Refused fault at
+abbrev pub answerOf : Checked → List ℕ → List ℕ → Written
+answerOf checks.Accepted listing old = answers listing old
+answerOf (checks.Refused refusal at) listing old = Refused refusal at
 
 pub record Called (c : Call) (old new : List ℕ) (r : Written) : Type 0 where
   pub buffer : new ≡ left (c .checked) (c .listing) old
-  pub answer : r ≡ said (c .checked) (c .listing) old
+  pub answer : r ≡ answerOf (c .checked) (c .listing) old
 
 -- ---- from a record
 

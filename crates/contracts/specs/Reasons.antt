@@ -9,13 +9,13 @@ use lib.ListN.{length, getD}
 use Rattle.base.specs.Pick.{pick}
 use Rattle.farm.specs.declared.Herd.{Herd}
 use Rattle.farm.specs.declared.Farm.{Farm}
-use Rattle.farm.specs.declared.Fault.{Fault}
+use Rattle.farm.specs.declared.Refusal.{Refusal}
 use Rattle.farm.specs.declared.Checked.{Checked}
 use Rattle.farm.specs.declared.Checked.the-variants as checks
 use Rattle.farm.specs.Herds.{noHerd}
 use Rattle.reader.specs.Files.{readOf}
-use Rattle.rules.specs.Rules.{KeepsRules}
-use Rattle.rules.specs.Refusals.{First}
+use Rattle.rules_theorems.specs.Rules.{KeepsRules}
+use Rattle.rules_theorems.specs.Refusals.{First}
 use Rattle.reasons.specs.declared.ReasonAnswer.{ReasonAnswer}
 use Rattle.reasons.specs.declared.ReasonAnswer.the-variants.{NoHerd, Refused}
 use Rattle.reasons.specs.Answers.{reasonAnswer}
@@ -27,12 +27,12 @@ reasonAt f i = pick (ltb i (f .count)) (reasonAnswer (getD (f .herds) i noHerd))
 
 abbrev pub readReason : Checked → Farm → ℕ → ReasonAnswer
 readReason checks.Accepted f i = reasonAt f i
-readReason (checks.Refused fault at) f i = Refused fault at
+readReason (checks.Refused refusal at) f i = Refused refusal at
 
 unfoldable pub fileReason : List ℕ → ℕ → ReasonAnswer
 fileReason s i = readReason (readOf s .checked) (readOf s .farm) i
 
 pub record ReasonByTheRules (s : List ℕ) (i : ℕ) (r : ReasonAnswer) : Type 0 where
-  pub refused : {n : ℕ} {fault : Fault} → First s n fault → r ≡ Refused fault n
+  pub refused : {n : ℕ} {refusal : Refusal} → First s n refusal → r ≡ Refused refusal n
   pub of-herd : {f : Farm} {h : Herd} (k : KeepsRules s f) → At (k .says .herds) i h → r ≡ reasonAnswer h
   pub past-the-last : {f : Farm} (k : KeepsRules s f) → length (k .says .herds) ≤ i → r ≡ NoHerd

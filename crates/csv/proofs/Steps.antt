@@ -93,14 +93,14 @@ module _ {s : List ℕ} {f : Fields} (p : Place) where
 
 -- a record that began at lo, of which the fields `done` were read: what is read of the rest of it, and what the reader
 -- finds
-data Told (s : List ℕ) (lo : ℕ) (done : List (List ℕ)) : Row → Step → Type 0 where
+data RestRead (s : List ℕ) (lo : ℕ) (done : List (List ℕ)) : Row → Step → Type 0 where
   found : {c : List ℕ} {cs : List (List ℕ)} {f : Fields} {n : ReaderPlace} → Holds s f (done ++ (c ∷ cs)) → Placed s f
       → lo < n .at → n .at ≤ length s
-      → Told s lo done (row c cs (drop (n .at) s)) (Record f n)
-  broken : Told s lo done Row.broken Broken
+      → RestRead s lo done (row c cs (drop (n .at) s)) (Record f n)
+  broken : RestRead s lo done Row.broken Broken
 
 comma-told : {s : List ℕ} {lo : ℕ} {done : List (List ℕ)} (c : List ℕ) {R : Row} {o : Step}
-    → Told s lo (done ++ (c ∷ [])) R o → Told s lo done (withField c R) o
+    → RestRead s lo (done ++ (c ∷ [])) R o → RestRead s lo done (withField c R) o
 comma-told {s} {lo} {done} c (found {c = d} {cs = ds} {f = f} h g p l) =
     found (subst (Holds s f) (append-assoc done (c ∷ []) (d ∷ ds)) h) g p l
 comma-told c broken = broken
@@ -108,12 +108,12 @@ comma-told c broken = broken
 module _ (s : List ℕ) (lo : ℕ) (below : lo < length s) where
   last-told : (f : Fields) (done : List (List ℕ)) → Holds s f done → Placed s f → (p : Place) → InFile s p → (n : ℕ)
       → lo < n → n ≤ length s
-      → Told s lo done (row (held s p) [] (drop n s)) (Record (andField f p) (reader n))
+      → RestRead s lo done (row (held s p) [] (drop n s)) (Record (andField f p) (reader n))
   last-told f done h g p a n l m = found {n = reader n} (and-held p h) (and-placed p g a) l m
 
   row-told : (k : ℕ) (f : Fields) (at : ℕ) (done : List (List ℕ)) → Holds s f done → Placed s f → lo ≤ at
       → at ≤ length s → length s - at < k
-      → Told s lo done (atStart (drop at s)) (rowFrom k f at s)
+      → RestRead s lo done (atStart (drop at s)) (rowFrom k f at s)
   unfolding rowFrom
   row-told zero f at done h g l m w = absurd (omega arith)
   row-told (suc k) f at done h g l m w = go (fieldFrom at (drop at s)) refl (field-at s at m) (row-told k)
@@ -121,8 +121,8 @@ module _ (s : List ℕ) (lo : ℕ) (below : lo < length s) where
       go : (r : FieldEnd) → fieldFrom at (drop at s) ≡ r → FieldAt s at r
           → ((f : Fields) (at : ℕ) (done : List (List ℕ)) → Holds s f done → Placed s f → lo ≤ at → at ≤ length s
           → length s - at < k
-          → Told s lo done (atStart (drop at s)) (rowFrom k f at s))
-          → Told s lo done (atStart (drop at s)) (rowFrom (suc k) f at s)
+          → RestRead s lo done (atStart (drop at s)) (rowFrom k f at s))
+          → RestRead s lo done (atStart (drop at s)) (rowFrom (suc k) f at s)
       go (ends.Comma p n) e (FieldAt.at-comma i q) ih =
           let a : InFile s p = record { order = i .order; fits = omega (arith, i) } in
           rw (rowFrom, e, q)
@@ -144,7 +144,7 @@ pub data Says (s : List ℕ) (at : ℕ) : Step → Type 0 where
   ended : length s ≤ at → Says s at End
 
 module _ (s : List ℕ) (at : ℕ) where
-  told-says : at < length s → {R : Row} {o : Step} → Told s at [] R o → atStart (drop at s) ≡ R → Says s at o
+  told-says : at < length s → {R : Row} {o : Step} → RestRead s at [] R o → atStart (drop at s) ≡ R → Says s at o
   told-says below {R} t e = go t (ap atStart (sym split) ∙ e)
     where
       b : ℕ
@@ -156,8 +156,8 @@ module _ (s : List ℕ) (at : ℕ) where
       split : drop at s ≡ b ∷ u
       split = rest-at s at below
 
-      go : {R : Row} {o : Step} → Told s at [] R o → atStart (b ∷ u) ≡ R → Says s at o
-      go (Told.found {c} {cs} {n = n} h g p l) q =
+      go : {R : Row} {o : Step} → RestRead s at [] R o → atStart (b ∷ u) ≡ R → Says s at o
+      go (RestRead.found {c} {cs} {n = n} h g p l) q =
           Says.found {n = n}
           (record {
             contents = c ∷ cs;
@@ -168,7 +168,7 @@ module _ (s : List ℕ) (at : ℕ) where
             past = p;
             fits = l;
           })
-      go Told.broken q = Says.broken below (rw split q) (rw split (reading-broken b u q))
+      go RestRead.broken q = Says.broken below (rw split q) (rw split (reading-broken b u q))
 
   pub says : Says s at (stepOf s at)
   unfolding stepOf

@@ -45,7 +45,7 @@ fn placed(n: usize, k: usize, p: Place, old: Place) -> Place
 }
 
 impl Fields {
-    fn none() -> Self
+    fn no_fields() -> Self
         ensures { λ r. ⌜ r ≡ noFields ⌝ }
     {
         let p = Place { from: 0, to: 0 };
@@ -59,7 +59,7 @@ impl Fields {
     }
 
     // One field more. No record has as many as 2^63, since no slice has as many bytes.
-    fn and(self, p: Place) -> Self
+    fn with_field(self, p: Place) -> Self
         requires { ⌜ self .count < 2 ^ 63 ⌝ }
         ensures { λ r. ⌜ r ≡ andField self p ⌝ }
     {
@@ -90,18 +90,18 @@ impl ReaderPlace {
         if s.len() <= at {
             return Step::End;
         }
-        let mut f = Fields::none();
+        let mut f = Fields::no_fields();
         loop {
             match field_ends::field_end(s, at) {
                 FieldEnd::Comma(p, n) => {
-                    f = f.and(p);
+                    f = f.with_field(p);
                     at = n;
                 }
                 FieldEnd::Crlf(p, n) => {
-                    return Step::Record(f.and(p), ReaderPlace { at: n });
+                    return Step::Record(f.with_field(p), ReaderPlace { at: n });
                 }
                 FieldEnd::File(p) => {
-                    return Step::Record(f.and(p), ReaderPlace { at: s.len() });
+                    return Step::Record(f.with_field(p), ReaderPlace { at: s.len() });
                 }
                 FieldEnd::Broken => {
                     return Step::Broken;

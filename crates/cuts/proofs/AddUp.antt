@@ -11,9 +11,9 @@ use borrow.Author.Tests.{ltb-true, lt-ltb}
 use lib.Dec.{ltb}
 use lib.ListN.{getD}
 use Rattle.base.specs.Pick.{pick}
-use Rattle.cut.specs.declared.Quotient.{Quotient}
-use Rattle.cut.specs.Cut.{Divides, undivided}
-use Rattle.cut.proofs.Quotients.{divides}
+use Rattle.cut_division.specs.declared.Quotient.{Quotient}
+use Rattle.cut_division.specs.Cut.{Divides, undivided}
+use Rattle.cut_division.proofs.Quotients.{divides}
 use Rattle.amounts.specs.Units.{year, day}
 use Rattle.amounts.specs.Dividing.{Divided, uncut, division, handed, worth, dividend, dividing}
 use Rattle.kinds.specs.declared.Roughage.{Roughage}

@@ -8,7 +8,7 @@ use lib.ListN.{getD, length}
 use lib.Dec.{ltb}
 use lib.IntN.{ℤ, pos}
 use Rattle.base.specs.Each.{Each, none, more}
-use Rattle.cut.specs.Cut.{least}
+use Rattle.cut_division.specs.Cut.{least}
 use Rattle.amounts.specs.Units.{billionths}
 use Rattle.amounts.specs.Arithmetic.{cutting}
 use Rattle.amounts.specs.Dividing.{Divided, Left, uncut, worth, dividing}

@@ -6,7 +6,7 @@ use mathlib.Core.Bool.{Bool, true, false}
 use mathlib.Core.List.{List, [], _∷_, map}
 use lib.Dec.{ltb}
 use lib.ListN.{getD}
-use Rattle.cut.specs.declared.Quotient.{Quotient}
+use Rattle.cut_division.specs.declared.Quotient.{Quotient}
 use Rattle.outputs.specs.declared.Sections.{Sections}
 use Rattle.cuts.specs.declared.Cuts.{Cuts}
 use Rattle.cuts.specs.Names.{Row, rows, texts, cutNumber}

@@ -8,8 +8,8 @@ use mathlib.Core.List.{List, [], _∷_, _++_, map}
 use lib.Dec.{ltb}
 use lib.ListN.{length}
 use Rattle.base.specs.Pick.{pick}
-use Rattle.cut.specs.declared.Quotient.{Quotient}
-use Rattle.cut.specs.Cut.{undivided}
+use Rattle.cut_division.specs.declared.Quotient.{Quotient}
+use Rattle.cut_division.specs.Cut.{undivided}
 use Rattle.amounts.specs.Units.{year, day}
 use Rattle.amounts.specs.Dividing.{dividing, handed, worth, dividend}
 use Rattle.kinds.specs.declared.AirScrubber.{AirScrubber}

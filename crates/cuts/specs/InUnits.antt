@@ -8,7 +8,7 @@ use Prim.Native.String.{String}
 use mathlib.Core.List.{List, [], _∷_, _++_}
 use lib.Dec.{ltb}
 use Rattle.base.specs.Pick.{pick}
-use Rattle.cut.specs.Cut.{least}
+use Rattle.cut_division.specs.Cut.{least}
 use Rattle.tables.specs.Growth.{kOf}
 use Rattle.amounts.specs.Arithmetic.{cutting}
 use Rattle.kinds.specs.declared.Roughage.{Roughage}

@@ -5,14 +5,14 @@ use Prim.Native.Nat.{ℕ, _*_, _≤_}
 use native.Mathlib.Omega.{arith}
 use mir.Syntax.{w64}
 use mir.Val.{Fits}
-use Rattle.cut.specs.declared.Quotient.{Quotient}
-use Rattle.cut.proofs.Products.{mul-to}
-use Rattle.cut.proofs.Shares.{part-le}
+use Rattle.cut_division.specs.declared.Quotient.{Quotient}
+use Rattle.cut_division.proofs.Products.{mul-to}
+use Rattle.cut_division.proofs.Shares.{part-le}
 use Rattle.tables.proofs.Standards.{standard-most}
 use Rattle.amounts.specs.Units.{tenThousandths}
 use Rattle.amounts.specs.Arithmetic.{cutting}
 use Rattle.amounts.specs.Dividing.{dividing}
-use Rattle.amounts.specs.Bounds.{mostN, Modest, PortionOf, UpTo}
+use Rattle.amounts.specs.Bounds.{mostN, WithinMostN, PortionOf, UpTo}
 use Rattle.kinds.specs.declared.Entered.{Entered}
 use Rattle.kinds.specs.declared.Roughage.{Roughage}
 use Rattle.kinds.specs.declared.Cattle.{Cattle}
@@ -61,7 +61,7 @@ pub ruleset n-steps = (n-within, n-fits)
 module _ (animals grams fraction : ℕ) (ha : animals ≤ mostAnimals) (hg : grams ≤ mostGrams)
     (hf : fraction ≤ tenThousandths) where
   pub excreted-modest : let e = excreted cutting animals grams fraction in
-      Modest (e .«n_excretion») (e .«tan_excretion»)
+      WithinMostN (e .«n_excretion») (e .«tan_excretion»)
   excreted-modest =
       record { n-most = n-le animals grams ha hg; tan-most = part-le (animals * grams) fraction tenThousandths hf }
 
@@ -72,7 +72,7 @@ module _ (n fraction : ℕ) (tan : Quotient) (p : PortionOf n fraction tenThousa
       (handedExcretion (withTan dividing n fraction))
   is-excretion = rw (p .cut) refl
 
-  pub is-modest : n ≤ mostN → Modest n (tan .whole)
+  pub is-modest : n ≤ mostN → WithinMostN n (tan .whole)
   is-modest h = record { n-most = h; tan-most = p .most }
 
 pub ruleset excreted-steps = (is-excretion, is-modest)

@@ -1,12 +1,12 @@
 // 2.2, 2.22, 2.50 and 2.84: what the animals of a herd excrete in a year.
 use amounts::TEN_THOUSANDTHS;
-use cut::Quotient;
+use cut_division::Quotient;
 use kinds::Entered;
 ghost use mathlib.Core.Path.{_≡_};
 ghost use Prim.Native.Nat.{_*_, _≤_};
 ghost use Rattle.amounts.specs.Units.{tenThousandths};
 ghost use Rattle.amounts.specs.Dividing.{dividing};
-ghost use Rattle.amounts.specs.Bounds.{mostN, Modest, UpTo};
+ghost use Rattle.amounts.specs.Bounds.{mostN, WithinMostN, UpTo};
 ghost use Rattle.kinds.specs.Sound.{mostAnimals, mostGrams};
 ghost use Rattle.excretion.specs.Excretion.{«n_excretion_animal», tanFraction, withTan, handedExcretion};
 
@@ -47,7 +47,7 @@ pub fn n_excretion(animals: u64, grams: u64) -> u64
 pub fn excreted(n: u64, fraction: u64) -> Excretion
     requires { ⌜ (n ≤ mostN) × (fraction ≤ tenThousandths) ⌝ }
     ensures is { λ r. ⌜ r ≡ handedExcretion (withTan dividing n fraction) ⌝ }
-    ensures modest { λ r. ⌜ Modest (r .«n_excretion») (r .«tan_excretion» .whole) ⌝ }
+    ensures modest { λ r. ⌜ WithinMostN (r .«n_excretion») (r .«tan_excretion» .whole) ⌝ }
 {
     Excretion {
         n_excretion: n,

@@ -2,8 +2,8 @@
 -- numbers 1 to 13. Assumes nothing.
 use mathlib.Core.Path.{_≡_, refl}
 use mathlib.Core.List.{List, [], _∷_, map}
-use Rattle.farm.specs.declared.Fault.{Fault}
-use Rattle.farm.specs.declared.Fault.the-variants.{
+use Rattle.farm.specs.declared.Refusal.{Refusal}
+use Rattle.farm.specs.declared.Refusal.the-variants.{
   FileTooLong,
   RecordBroken,
   NotFourFields,
@@ -20,7 +20,7 @@ use Rattle.farm.specs.declared.Fault.the-variants.{
 }
 use Rattle.farm.specs.Refusals.{number}
 
-abbrev faults : List Fault
+abbrev faults : List Refusal
 faults =
     FileTooLong  -- "file over 65,536 bytes"
     ∷ RecordBroken  -- "record breaks RFC 4180 as above"

@@ -1,8 +1,8 @@
 -- 01, Refusal numbers. The one definition that gives the number and the record of each answer; the promises speak
 -- through it. To be believed.
 use Prim.Native.Nat.{ℕ}
-use Rattle.farm.specs.declared.Fault.{Fault}
-use Rattle.farm.specs.declared.Fault.the-variants.{
+use Rattle.farm.specs.declared.Refusal.{Refusal}
+use Rattle.farm.specs.declared.Refusal.the-variants.{
   FileTooLong,
   RecordBroken,
   NotFourFields,
@@ -20,7 +20,7 @@ use Rattle.farm.specs.declared.Fault.the-variants.{
 use Rattle.farm.specs.declared.Checked.{Checked}
 use Rattle.farm.specs.declared.Checked.the-variants.{Accepted, Refused}
 
-abbrev pub number : Fault → ℕ
+abbrev pub number : Refusal → ℕ
 number FileTooLong = 1
 number RecordBroken = 2
 number NotFourFields = 3
@@ -44,7 +44,7 @@ pub data Says : Type 0 where
 
 abbrev pub says : Checked → Says
 says Accepted = accepts
-says (Refused fault record′) = refuses (number fault) record′
+says (Refused refusal record′) = refuses (number refusal) record′
 
 -- what the checks of a record that is handed in may say, always with record 0: of a herd
 pub data HerdSays : Says → Type 0 where

@@ -45,7 +45,7 @@ pub struct Farm {
 }
 
 // What is wrong: 01's refusals, in its order.
-pub enum Fault {
+pub enum Refusal {
     FileTooLong,
     RecordBroken,
     NotFourFields,
@@ -64,5 +64,5 @@ pub enum Fault {
 // What a check finds: nothing, or a fault and the record that has it.
 pub enum Checked {
     Accepted,
-    Refused(Fault, usize),
+    Refused(Refusal, usize),
 }

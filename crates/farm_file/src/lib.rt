@@ -1,6 +1,6 @@
 // A farm file, of any bytes, becomes the farm that its records say, or exactly one refusal with its record number: the
 // first that applies in 01's order. 1 comes before all; the records are crate `reader`.
-use farm::Fault;
+use farm::Refusal;
 use reader::FileAnswer;
 use reader::files;
 ghost use mathlib.Core.Path.{_≡_};
@@ -14,7 +14,7 @@ pub fn read(s: &[u8]) -> FileAnswer
     ensures { λ r. ⌜ r ≡ readOf (now (s .entry)) ⌝ }
 {
     if FILE_MOST < s.len() {
-        return files::refused(0, Fault::FileTooLong);
+        return files::refused(0, Refusal::FileTooLong);
     }
     files::read_records(s)
 }

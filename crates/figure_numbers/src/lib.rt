@@ -2,10 +2,10 @@
 use outputs::Figures;
 use outputs::Sections;
 ghost use mathlib.Core.Path.{_≡_};
-ghost use Rattle.outputs.specs.Grams.{gramsIn, To, figureMost};
+ghost use Rattle.outputs.specs.Grams.{gramsIn, GramsTo, figureMost};
 
 pub fn by_number(s: Sections) -> Figures
-    requires { ⌜ To figureMost (gramsIn s) ⌝ }
+    requires { ⌜ GramsTo figureMost (gramsIn s) ⌝ }
     ensures { λ r. ⌜ r .grams ≡ gramsIn s ⌝ }
 {
     Figures {

@@ -40,8 +40,8 @@ use Rattle.finding.specs.Find.{
 -- ---- texts and places
 
 -- a row's module and name, as its places say them and as they are
-abbrev said : Row → List String
-said row = getD modules (placeIn modules (row .path)) "" ∷ getD inputNames (placeIn inputNames (row .name)) "" ∷ []
+abbrev byPlaces : Row → List String
+byPlaces row = getD modules (placeIn modules (row .path)) "" ∷ getD inputNames (placeIn inputNames (row .name)) "" ∷ []
 
 abbrev own : Row → List String
 own row = row .path ∷ row .name ∷ []
@@ -52,7 +52,7 @@ inside row = ltb (placeIn modules (row .path)) (length modules)
 
 -- the one computed test: every module and name of the list has its place
 record Placed (rows : List Row) : Type 0 where
-  texts : map said rows ≡ map own rows
+  texts : map byPlaces rows ≡ map own rows
   places : map inside rows ≡ map (λ (row : Row). true) rows
 
 all-placed : (k : Kind) → Placed (rowsOf k)
@@ -62,7 +62,7 @@ all-placed Pigs = record { texts = refl; places = refl }
 all-placed DairyCow = record { texts = refl; places = refl }
 
 module _ (m n : List ℕ) {x y : Found} (qx : x ≡ findText modules m) (qy : y ≡ findText inputNames n) where
-  row-placed : (row : Row) → said row ≡ own row → inside row ≡ true → isRow m n row ≡ isPlaced x y row
+  row-placed : (row : Row) → byPlaces row ≡ own row → inside row ≡ true → isRow m n row ≡ isPlaced x y row
   unfolding isRow isPlaced
   row-placed row e h =
       let b = both-true (ltb (placeIn modules (row .path)) (length modules))

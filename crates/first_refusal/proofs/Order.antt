@@ -32,7 +32,7 @@ by-turn Sooner m n f g a b front back first second one =
 
 pub record One {F : Type 0} (m : ℕ) (f : F) (n : ℕ) (g : F) : Type 0 where
   pub at-record : m ≡ n
-  pub fault : f ≡ g
+  pub refusal : f ≡ g
 
 pub one-of-first : {F : Type 0} {AppliesAt : ℕ → F → Type 0} {Sooner : ℕ → F → ℕ → F → Type 0} {m n : ℕ} {f g : F}
     → (AppliesAt m f → AppliesAt n g → Order Sooner m f n g) → FirstOf AppliesAt Sooner m f
@@ -42,4 +42,4 @@ one-of-first {F} {AppliesAt} {Sooner} {m} {n} {f} {g} order a b = go (order (a .
     go : Order Sooner m f n g → One m f n g
     go (sooner d) = absurd (b .none-sooner m f (a .applies) d)
     go (later d) = absurd (a .none-sooner n g (b .applies) d)
-    go (same p q) = record { at-record = p; fault = q }
+    go (same p q) = record { at-record = p; refusal = q }

@@ -3,7 +3,7 @@
 use Prim.Native.Nat.{ℕ}
 
 -- it applies, and none that applies is sooner
-pub record FirstOf {F : Type 0} (AppliesAt : ℕ → F → Type 0) (Sooner : ℕ → F → ℕ → F → Type 0) (n : ℕ) (fault : F)
+pub record FirstOf {F : Type 0} (AppliesAt : ℕ → F → Type 0) (Sooner : ℕ → F → ℕ → F → Type 0) (n : ℕ) (refusal : F)
     : Type 0 where
-  pub applies : AppliesAt n fault
-  pub none-sooner : (m : ℕ) (other : F) → AppliesAt m other → Sooner m other n fault → ⊥
+  pub applies : AppliesAt n refusal
+  pub none-sooner : (m : ℕ) (other : F) → AppliesAt m other → Sooner m other n refusal → ⊥

@@ -10,7 +10,7 @@ use lib.ListN.{length, getD, drop}
 use mir.Syntax.{w32}
 use mir.Val.{SFits}
 use mir.Facts.{toZ-ofZ}
-use Rattle.names.specs.declared.Names.{Names}
+use Rattle.names.specs.declared.ValueList.{ValueList}
 use Rattle.inputs.specs.declared.Kind.{Kind}
 use Rattle.names.specs.Names.{sizeOf}
 use Rattle.inputs.specs.declared.Form.{Form}
@@ -38,7 +38,7 @@ module _ {form : Form} {a b : ℕ} (v : ℕ) where
   pub no-standard-fits : form ≡ NoStandard a b → leb v b ≡ valueFits form v
   no-standard-fits e = rw e
 
-pub one-of-fits : {form : Form} {names : Names} {n : ℕ} (v : ℕ) → form ≡ OneOf names → n ≡ sizeOf names
+pub one-of-fits : {form : Form} {names : ValueList} {n : ℕ} (v : ℕ) → form ≡ OneOf names → n ≡ sizeOf names
     → ltb v n ≡ valueFits form v
 one-of-fits v e h = rw (e, h)
 

@@ -5,7 +5,7 @@ use mathlib.Core.Bool.{Bool, true, false, not, _||_}
 use mathlib.Core.List.{List, [], _∷_}
 use lib.Dec.{leb, ltb}
 use lib.IntN.{ℤ, natAbs}
-use Rattle.names.specs.declared.Names.{Names}
+use Rattle.names.specs.declared.ValueList.{ValueList}
 use Rattle.names.specs.Names.{sizeOf}
 use Rattle.inputs.specs.declared.Form.{Form}
 use Rattle.inputs.specs.declared.Form.the-variants.{Number, OrStandard, NoStandard, Signed as ASigned, OneOf}
@@ -59,10 +59,10 @@ pub data OutOfRange : Form → Given → Type 0 where
   number : {decimals most v : ℕ} → most < v → OutOfRange (Number decimals most) (Value v)
   or-standard : {decimals most v : ℕ} → most < v → OutOfRange (OrStandard decimals most) (Value v)
   no-standard : {decimals most v : ℕ} → most < v → OutOfRange (NoStandard decimals most) (Value v)
-  name : {names : Names} {v : ℕ} → sizeOf names ≤ v → OutOfRange (OneOf names) (Value v)
+  name : {names : ValueList} {v : ℕ} → sizeOf names ≤ v → OutOfRange (OneOf names) (Value v)
   standard-forbidden : {decimals most : ℕ} → OutOfRange (NoStandard decimals most) Standard
   standard-no-number : {decimals most : ℕ} → OutOfRange (Number decimals most) Standard
-  standard-no-name : {names : Names} → OutOfRange (OneOf names) Standard
+  standard-no-name : {names : ValueList} → OutOfRange (OneOf names) Standard
   -- 02, W3: further from zero than the most; and a record has a signed number for a signed input, and for no other
   signed : {most : ℕ} {v : ℤ} → most < natAbs v → OutOfRange (ASigned most) (Signed v)
   standard-no-signed : {most : ℕ} → OutOfRange (ASigned most) Standard
@@ -70,4 +70,4 @@ pub data OutOfRange : Form → Given → Type 0 where
   signed-no-number : {decimals most : ℕ} {v : ℤ} → OutOfRange (Number decimals most) (Signed v)
   signed-or-standard : {decimals most : ℕ} {v : ℤ} → OutOfRange (OrStandard decimals most) (Signed v)
   signed-no-standard : {decimals most : ℕ} {v : ℤ} → OutOfRange (NoStandard decimals most) (Signed v)
-  signed-no-name : {names : Names} {v : ℤ} → OutOfRange (OneOf names) (Signed v)
+  signed-no-name : {names : ValueList} {v : ℤ} → OutOfRange (OneOf names) (Signed v)

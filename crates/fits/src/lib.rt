@@ -48,7 +48,7 @@ fn signed_fits(form: Form, v: i32) -> bool
         Form::Number(_, _) => false,
         Form::OrStandard(_, _) => false,
         Form::NoStandard(_, _) => false,
-        Form::Signed(most) => cut::magnitude(v as i64) <= most as u64,
+        Form::Signed(most) => cut_division::magnitude(v as i64) <= most as u64,
         Form::OneOf(_) => false,
     }
 }

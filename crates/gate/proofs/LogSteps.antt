@@ -25,8 +25,8 @@ use Rattle.outdoors.specs.declared.Day.{Day}
 use Rattle.outdoors.specs.declared.Tally.{Tally}
 use Rattle.outdoors.specs.declared.Outdoors.{Outdoors}
 use Rattle.gate.specs.declared.Progress.{Progress}
-use Rattle.gate_days.specs.declared.LogFault.{LogFault}
-use Rattle.gate_days.specs.declared.LogFault.the-variants.{RecordBroken, WrongDate}
+use Rattle.gate_days.specs.declared.LogRefusal.{LogRefusal}
+use Rattle.gate_days.specs.declared.LogRefusal.the-variants.{RecordBroken, WrongDate}
 use Rattle.gate.specs.declared.LogAnswer.{LogAnswer}
 use Rattle.gate.specs.declared.LogAnswer.the-variants.{Gives, Refused}
 use Rattle.gate_days.specs.declared.days.DayRead.{DayRead}
@@ -42,7 +42,7 @@ use Rattle.outdoors.proofs.TallySteps.{grown}
 -- ---- what a record does
 
 module _ (p : Progress) {x : DayRead} where
-  pub taken-wrong : {fault : LogFault} → x ≡ reads.Wrong fault → Wrong fault ≡ takenBy p x
+  pub taken-wrong : {refusal : LogRefusal} → x ≡ reads.Wrong refusal → Wrong refusal ≡ takenBy p x
   taken-wrong e = rw e
 
   module _ {d : Day} (e : x ≡ reads.Says d) {b : Bool} (q : b ≡ isDue (p .due) (d .date)) where
@@ -144,7 +144,7 @@ module _ (s : List ℕ) (place : ReaderPlace) (p : Progress) (n : ℕ) (x : Reac
       -- what is read from here on, by what the record does
       abbrev going : Taken → LogAnswer
       going (Further q) = onFrom s next (n + 1) q
-      going (Wrong fault) = Refused fault n
+      going (Wrong refusal) = Refused refusal n
 
       goes : {u : Taken} → t ≡ u → going u ≡ X
       unfolding readFrom
@@ -154,11 +154,11 @@ module _ (s : List ℕ) (place : ReaderPlace) (p : Progress) (n : ℕ) (x : Reac
           by u v (rw (r .reads, readFrom) at (x .reads))
         where
           by : (u : Taken) {k : Taken} → k ≡ u
-              → elim k [ Further q ↦ onFrom s next (n + 1) q | Wrong fault ↦ Refused fault n ] ≡ X → going u ≡ X
+              → elim k [ Further q ↦ onFrom s next (n + 1) q | Wrong refusal ↦ Refused refusal n ] ≡ X → going u ≡ X
           by (Further q) e h = rw e at h
-          by (Wrong fault) e h = rw e at h
+          by (Wrong refusal) e h = rw e at h
 
-      pub log-wrong : {fault : LogFault} → t ≡ Wrong fault → Refused fault n ≡ X
+      pub log-wrong : {refusal : LogRefusal} → t ≡ Wrong refusal → Refused refusal n ≡ X
       log-wrong e = goes e
 
       pub log-further : {q : Progress} → t ≡ Further q → Reached s next q (n + 1)
@@ -189,6 +189,6 @@ module _ (s : List ℕ) (place : ReaderPlace) (p : Progress) (n : ℕ) (x : Reac
 
           go : (u : DayRead) → y ≡ u → Reached s next q (n + 1)
           go (reads.Says d) h = due d (isDue (p .due) (d .date)) h (ap (takenBy p) (sym h) ∙ sym qt ∙ e)
-          go (reads.Wrong fault) h = let k : Wrong fault ≡ Further q = ap (takenBy p) (sym h) ∙ sym qt ∙ e in clash cc
+          go (reads.Wrong refusal) h = let k : Wrong refusal ≡ Further q = ap (takenBy p) (sym h) ∙ sym qt ∙ e in clash cc
 
 pub ruleset log-steps = (reached-front, reached-roomy, log-ends, log-broken, record-less, log-wrong, log-further)

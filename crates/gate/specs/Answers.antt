@@ -12,4 +12,4 @@ pub data Says : Type 0 where
 
 abbrev pub says : LogAnswer → Says
 says (Gives o) = gives o
-says (Refused fault record′) = refuses (number fault) record′
+says (Refused refusal record′) = refuses (number refusal) record′

@@ -1,5 +1,5 @@
 -- A log read through, record by record. It mirrors the code for its contracts; what it means is said of the records
--- in `gate_rules/specs`, and proved to be the same there.
+-- in `gate_rules_theorems/specs`, and proved to be the same there.
 use Prim.Native.Nat.{ℕ, _+_}
 use mathlib.Core.List.{List}
 use lib.Dec.{ltb}
@@ -11,7 +11,7 @@ use Rattle.calendar.specs.declared.Due.the-variants.{NewYear, On, Nothing}
 use Rattle.calendar.specs.Following.{isDue, dueAfter}
 use Rattle.outdoors.specs.declared.Tally.{Tally}
 use Rattle.gate.specs.declared.Progress.{Progress}
-use Rattle.gate_days.specs.declared.LogFault.the-variants.{LogTooLong, RecordBroken, WrongDate}
+use Rattle.gate_days.specs.declared.LogRefusal.the-variants.{LogTooLong, RecordBroken, WrongDate}
 use Rattle.gate.specs.declared.LogAnswer.{LogAnswer}
 use Rattle.gate.specs.declared.LogAnswer.the-variants.{Gives, Refused}
 use Rattle.gate_days.specs.declared.days.DayRead.{DayRead}
@@ -29,7 +29,7 @@ nothingRead = progress NewYear (tally 0 0 0)
 
 -- what a record does: its date has to be the one that is due
 abbrev pub takenBy : Progress → DayRead → Taken
-takenBy p (reads.Wrong fault) = Wrong fault
+takenBy p (reads.Wrong refusal) = Wrong refusal
 takenBy p (reads.Says d) =
     pick (isDue (p .due) (d .date)) (Further (progress (dueAfter (d .date)) (withDay (p .tally) d))) (Wrong WrongDate)
 
@@ -48,7 +48,7 @@ readFrom n p broken = Refused RecordBroken n
 readFrom n p (cs then rest) =
     elim (takenBy p (dayOf (partsOf cs))) [
       | Further q ↦ readFrom (n + 1) q rest
-      | Wrong fault ↦ Refused fault n
+      | Wrong refusal ↦ Refused refusal n
     ]
 
 -- at most 65,536 bytes, as 01 has it for a farm file

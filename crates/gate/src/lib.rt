@@ -3,7 +3,7 @@
 pub mod logs; // the log read through
 
 use calendar::Due;
-use gate_days::LogFault;
+use gate_days::LogRefusal;
 use outdoors::Outdoors;
 use outdoors::Tally;
 
@@ -19,5 +19,5 @@ pub struct Progress {
 // What a log is answered with.
 pub enum LogAnswer {
     Gives(Outdoors),
-    Refused(LogFault, usize),
+    Refused(LogRefusal, usize),
 }

@@ -5,7 +5,7 @@ use crate::Progress;
 use calendar::Due;
 use csv::ReaderPlace;
 use csv::Step;
-use gate_days::LogFault;
+use gate_days::LogRefusal;
 use gate_days::days;
 use gate_days::days::DayRead;
 use outdoors::Tally;
@@ -20,7 +20,7 @@ ghost use Rattle.gate.specs.Logs.{takenBy, nothingRead, finished, readFr
 // What a record does: it takes reading further, or something is wrong with it.
 pub enum Taken {
     Further(Progress),
-    Wrong(LogFault),
+    Wrong(LogRefusal),
 }
 
 fn take_day(p: Progress, read: DayRead) -> Taken
@@ -28,11 +28,11 @@ fn take_day(p: Progress, read: DayRead) -> Taken
     ensures { λ r. ⌜ r ≡ takenBy p read ⌝ }
 {
     match read {
-        DayRead::Wrong(fault) => Taken::Wrong(fault),
+        DayRead::Wrong(refusal) => Taken::Wrong(refusal),
         DayRead::Says(day) => {
             let due = p.due;
             if !calendar::is_due(due, day.date) {
-                return Taken::Wrong(LogFault::WrongDate);
+                return Taken::Wrong(LogRefusal::WrongDate);
             }
             let after = calendar::due_after(day.date);
             let tally = tallies::with_day(p.tally, day);
@@ -47,8 +47,8 @@ fn finished(p: Progress) -> LogAnswer
 {
     let due = p.due;
     match due {
-        Due::NewYear => LogAnswer::Refused(LogFault::WrongDate, 0),
-        Due::On(_) => LogAnswer::Refused(LogFault::WrongDate, 0),
+        Due::NewYear => LogAnswer::Refused(LogRefusal::WrongDate, 0),
+        Due::On(_) => LogAnswer::Refused(LogRefusal::WrongDate, 0),
         Due::Nothing => LogAnswer::Gives(tallies::outdoors(p.tally)),
     }
 }
@@ -77,10 +77,10 @@ fn read_records(s: &[u8]) -> LogAnswer
     loop {
         match place.next(s) {
             Step::End => return finished(p),
-            Step::Broken => return LogAnswer::Refused(LogFault::RecordBroken, number),
+            Step::Broken => return LogAnswer::Refused(LogRefusal::RecordBroken, number),
             Step::Record(f, next) => {
                 match take_day(p, days::day_of(s, f)) {
-                    Taken::Wrong(fault) => return LogAnswer::Refused(fault, number),
+                    Taken::Wrong(refusal) => return LogAnswer::Refused(refusal, number),
                     Taken::Further(q) => {
                         p = q;
                         place = next;
@@ -97,7 +97,7 @@ pub fn read(s: &[u8]) -> LogAnswer
     ensures { λ r. ⌜ r ≡ readLog (now (s .entry)) ⌝ }
 {
     if LOG_MOST < s.len() {
-        return LogAnswer::Refused(LogFault::LogTooLong, 0);
+        return LogAnswer::Refused(LogRefusal::LogTooLong, 0);
     }
     read_records(s)
 }

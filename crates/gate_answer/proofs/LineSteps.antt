@@ -8,13 +8,13 @@ use lib.ListN.{length, replicate}
 use lib.Seq.{sets}
 use Rattle.base.specs.Wrote.{Wrote}
 use Rattle.outdoors.specs.declared.Outdoors.{Outdoors}
-use Rattle.gate_days.specs.declared.LogFault.{LogFault}
+use Rattle.gate_days.specs.declared.LogRefusal.{LogRefusal}
 use Rattle.gate.specs.declared.LogAnswer.{LogAnswer}
 use Rattle.gate.specs.declared.LogAnswer.the-variants.{Gives, Refused}
 use Rattle.gate_days.specs.Refusals.{number}
 use Rattle.gate.specs.Logs.{readLog}
 use Rattle.refusal_line.specs.Lines.{refusalLine}
-use Rattle.outdoors_lines.specs.Lines.{outdoorsLines}
+use Rattle.lines_outdoors.specs.Lines.{outdoorsLines}
 use Rattle.gate_answer.specs.Lines.{answerLines}
 use Rattle.gate_answer.specs.Program.{answerRoom, logOutput, answerOf}
 
@@ -23,7 +23,7 @@ module _ {a : LogAnswer} {old new : List ℕ} {r : ℕ} where
       → Wrote old 0 (answerLines a) new r
   lines-given e w = rw e w
 
-  pub lines-refused : {fault : LogFault} {n m : ℕ} → a ≡ Refused fault n → m ≡ number fault
+  pub lines-refused : {refusal : LogRefusal} {n m : ℕ} → a ≡ Refused refusal n → m ≡ number refusal
       → Wrote old 0 (refusalLine m n) new r
       → Wrote old 0 (answerLines a) new r
   lines-refused e q w = rw (e, ← q) w

@@ -2,7 +2,7 @@
 -- believed.
 use Prim.Native.Nat.{ℕ}
 use mathlib.Core.List.{List}
-use Rattle.outdoors_lines.specs.Lines.{outdoorsLines}
+use Rattle.lines_outdoors.specs.Lines.{outdoorsLines}
 use Rattle.gate_days.specs.Refusals.{number}
 use Rattle.refusal_line.specs.Lines.{refusalLine}
 use Rattle.gate.specs.declared.LogAnswer.{LogAnswer}
@@ -10,4 +10,4 @@ use Rattle.gate.specs.declared.LogAnswer.the-variants.{Gives, Refused}
 
 abbrev pub answerLines : LogAnswer → List ℕ
 answerLines (Gives o) = outdoorsLines o
-answerLines (Refused fault record′) = refusalLine (number fault) record′
+answerLines (Refused refusal record′) = refusalLine (number refusal) record′

@@ -3,7 +3,7 @@ use Prim.Native.Nat.{ℕ}
 use mathlib.Core.List.{List}
 use lib.ListN.{length, replicate}
 use lib.Seq.{sets}
-use Rattle.outdoors_lines.specs.Rooms.{linesRoom}
+use Rattle.lines_outdoors.specs.Rooms.{linesRoom}
 use Rattle.gate.specs.Logs.{readLog}
 use Rattle.gate_answer.specs.declared.PutAnswer.{PutAnswer}
 use Rattle.gate_answer.specs.Lines.{answerLines}

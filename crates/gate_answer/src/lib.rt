@@ -10,7 +10,7 @@ ghost use Rattle.gate_answer.specs.Lines.{answerLines};
 ghost use Rattle.gate_answer.specs.Program.{answerRoom, answerOf};
 
 // Longer than any answer: the three lines are the longest.
-pub const ANSWER_ROOM: usize = outdoors_lines::LINES_ROOM;
+pub const ANSWER_ROOM: usize = lines_outdoors::LINES_ROOM;
 
 // An answer, and its bytes from the front on; those behind them are zeros.
 pub struct PutAnswer {
@@ -24,9 +24,9 @@ fn put_lines(out: &mut [u8], answer: LogAnswer) -> usize
     ensures { λ r. ⌜ Wrote (now (out .entry)) 0 (answerLines answer) (now (out .exit)) r ⌝ }
 {
     match answer {
-        LogAnswer::Gives(o) => outdoors_lines::put_outdoors(out, o),
-        LogAnswer::Refused(fault, record) => {
-            refusal_line::put_refusal(out, faults::number_of(fault), record)
+        LogAnswer::Gives(o) => lines_outdoors::put_outdoors(out, o),
+        LogAnswer::Refused(refusal, record) => {
+            refusal_line::put_refusal(out, faults::number_of(refusal), record)
         }
     }
 }

@@ -22,7 +22,7 @@ use Rattle.dates.specs.declared.DateRead.{DateRead}
 use Rattle.dates.specs.declared.DateRead.the-variants as dates
 use Rattle.dates.specs.Reading.{dateOf}
 use Rattle.outdoors.specs.declared.Day.{Day}
-use Rattle.gate_days.specs.declared.LogFault.the-variants.{NotThreeFields, BadHours, WrongDate}
+use Rattle.gate_days.specs.declared.LogRefusal.the-variants.{NotThreeFields, BadHours, WrongDate}
 use Rattle.gate_days.specs.declared.days.Hours.{Hours}
 use Rattle.gate_days.specs.declared.days.Hours.the-variants.{Are, Unfit}
 use Rattle.gate_days.specs.declared.days.DayRead.the-variants.{Says, Wrong}

@@ -2,12 +2,12 @@
 -- of 01's thirteen. Assumes nothing.
 use mathlib.Core.Path.{_≡_, refl}
 use mathlib.Core.List.{List, [], _∷_, map}
-use Rattle.gate_days.specs.declared.LogFault.{LogFault}
-use Rattle.gate_days.specs.declared.LogFault.the-variants.{LogTooLong, RecordBroken, NotThreeFields, BadHours}
-use Rattle.gate_days.specs.declared.LogFault.the-variants.{WrongDate}
+use Rattle.gate_days.specs.declared.LogRefusal.{LogRefusal}
+use Rattle.gate_days.specs.declared.LogRefusal.the-variants.{LogTooLong, RecordBroken, NotThreeFields, BadHours}
+use Rattle.gate_days.specs.declared.LogRefusal.the-variants.{WrongDate}
 use Rattle.gate_days.specs.Refusals.{number}
 
-abbrev faults : List LogFault
+abbrev faults : List LogRefusal
 faults =
     LogTooLong  -- 01's "file over 65,536 bytes"
     ∷ RecordBroken  -- 01's "record breaks RFC 4180 as above"

@@ -1,5 +1,5 @@
 -- What a record says of its day by itself: 3 and 7, and 14 where the date can't be read. It mirrors the code for its
--- contracts; what these mean is said of the records in `gate_rules/specs`, and proved to be the same there.
+-- contracts; what these mean is said of the records in `gate_rules_theorems/specs`, and proved to be the same there.
 use Prim.Native.Nat.{ℕ, _+_}
 use lib.Dec.{ltb}
 use Rattle.base.specs.Pick.{pick, if_is_then_else_}
@@ -12,7 +12,7 @@ use Rattle.dates.specs.declared.DateRead.{DateRead}
 use Rattle.dates.specs.declared.DateRead.the-variants as dates
 use Rattle.dates.specs.Reading.{dateOf}
 use Rattle.outdoors.specs.declared.Day.{Day}
-use Rattle.gate_days.specs.declared.LogFault.the-variants.{NotThreeFields, BadHours, WrongDate}
+use Rattle.gate_days.specs.declared.LogRefusal.the-variants.{NotThreeFields, BadHours, WrongDate}
 use Rattle.gate_days.specs.declared.days.Hours.{Hours}
 use Rattle.gate_days.specs.declared.days.Hours.the-variants.{Are, Unfit}
 use Rattle.gate_days.specs.declared.days.DayRead.{DayRead}

@@ -1,6 +1,6 @@
 // What a record says of its day by itself: refusals 3 and 7, and 14 where the date can't be read.
 use crate::HOURS_MOST;
-use crate::LogFault;
+use crate::LogRefusal;
 use csv::Fields;
 use dates::DateRead;
 use digits::Number;
@@ -22,7 +22,7 @@ pub enum Hours {
 // What a record says by itself: its day, or what is wrong with it.
 pub enum DayRead {
     Says(Day),
-    Wrong(LogFault),
+    Wrong(LogRefusal),
 }
 
 fn hours_of(s: &[u8], f: Fields) -> Hours
@@ -46,13 +46,13 @@ pub fn day_of(s: &[u8], f: Fields) -> DayRead
     ensures { λ r. ⌜ r ≡ dayOf (partsAt (now (s .entry)) f) ⌝ }
 {
     if f.count != FIELDS {
-        return DayRead::Wrong(LogFault::NotThreeFields);
+        return DayRead::Wrong(LogRefusal::NotThreeFields);
     }
     let Hours::Are(pasture, yard) = hours_of(s, f) else {
-        return DayRead::Wrong(LogFault::BadHours);
+        return DayRead::Wrong(LogRefusal::BadHours);
     };
     let DateRead::Is(date) = dates::read_date(csv::field(s, f.first)) else {
-        return DayRead::Wrong(LogFault::WrongDate);
+        return DayRead::Wrong(LogRefusal::WrongDate);
     };
     DayRead::Says(Day {
         date,

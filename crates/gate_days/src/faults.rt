@@ -1,16 +1,16 @@
 // The number of each refusal of a log.
-use crate::LogFault;
+use crate::LogRefusal;
 ghost use mathlib.Core.Path.{_≡_};
 ghost use Rattle.gate_days.specs.Refusals.{number};
 
-pub fn number_of(fault: LogFault) -> u64
-    ensures { λ r. ⌜ r ≡ number fault ⌝ }
+pub fn number_of(refusal: LogRefusal) -> u64
+    ensures { λ r. ⌜ r ≡ number refusal ⌝ }
 {
-    match fault {
-        LogFault::LogTooLong => 1,
-        LogFault::RecordBroken => 2,
-        LogFault::NotThreeFields => 3,
-        LogFault::BadHours => 7,
-        LogFault::WrongDate => 14,
+    match refusal {
+        LogRefusal::LogTooLong => 1,
+        LogRefusal::RecordBroken => 2,
+        LogRefusal::NotThreeFields => 3,
+        LogRefusal::BadHours => 7,
+        LogRefusal::WrongDate => 14,
     }
 }

@@ -19,11 +19,11 @@ ghost use Rattle.kinds.specs.Sound.{SoundOutdoor, SoundRoughage, SoundCattle};
 ghost use Rattle.rates.specs.Bounds.{ModestRates};
 ghost use Rattle.excretion.specs.Excretion.{withTan};
 ghost use Rattle.outputs.specs.Sections.{handedSections};
-ghost use Rattle.herd.specs.Herd.{plain, roughageOn, outdoorOn, sectionsOf};
+ghost use Rattle.herd.specs.Herd.{ofGrazerSections, roughageOn, outdoorOn, sectionsOf};
 
 // A kind whose house is none of the pigs'.
 fn without_pig_house(e: Excretion, y: Yard, g: Grazing, h: Housing) -> Sections
-    ensures { λ s. ⌜ s ≡ plain e y g h ⌝ }
+    ensures { λ s. ⌜ s ≡ ofGrazerSections e y g h ⌝ }
 {
     Sections {
         excretion: e,

@@ -17,7 +17,7 @@ use Rattle.pig_house.specs.PigHouse.{allOrNothing}
 use Rattle.pig_house.proofs.Through.{kept-whole}
 use Rattle.outputs.specs.declared.Figures.{Figures}
 use Rattle.outputs.specs.declared.Sections.{Sections}
-use Rattle.outputs.specs.Grams.{gramsIn, gramsOf, To, figureMost}
+use Rattle.outputs.specs.Grams.{gramsIn, gramsOf, GramsTo, figureMost}
 use Rattle.outputs.proofs.Adding.{widen}
 use Rattle.herd.specs.Herd.{figuresIn, figuresOf, sectionsOf}
 use Rattle.herd.proofs.Bounds.{most, figures-to}
@@ -49,9 +49,9 @@ module _ (i j : Inputs) (s : Sections) (es : s ≡ sectionsOf j) (k : i ≡ j) w
   unfolding figuresOf
   is-herd = rw (es, k) (sections-agree j)
 
-  pub sections-small : Sound i → To figureMost (gramsIn s)
+  pub sections-small : Sound i → GramsTo figureMost (gramsIn s)
   sections-small h =
-      subst (λ (g : List ℤ). To figureMost g) (sym is-herd) (widen most figureMost (figures-to i h) (omega arith))
+      subst (λ (g : List ℤ). GramsTo figureMost g) (sym is-herd) (widen most figureMost (figures-to i h) (omega arith))
 
   pub figures-are : (f : Figures) → f .grams ≡ gramsIn s → f ≡ figuresOf i
   figures-are f q = ap (λ (g : List ℤ). record { grams = g }) (q ∙ is-herd)

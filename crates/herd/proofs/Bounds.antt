@@ -3,9 +3,9 @@
 use Prim.Native.Nat.{ℕ, _+_, _-_, _≤_}
 use native.Mathlib.Omega.{arith}
 use lib.IntN.{pos, natAbs, _-ℤ_}
-use Rattle.cut.proofs.Signed.{abs-sub}
+use Rattle.cut_division.proofs.Signed.{abs-sub}
 use Rattle.amounts.specs.Arithmetic.{cutting}
-use Rattle.amounts.specs.Bounds.{Modest}
+use Rattle.amounts.specs.Bounds.{WithinMostN}
 use Rattle.kinds.specs.declared.HousingType.{HousingType}
 use Rattle.kinds.specs.declared.Inputs.{Inputs}
 use Rattle.kinds.specs.Sound.{Sound}
@@ -33,7 +33,7 @@ use Rattle.pig_house.proofs.Fractions.{all-or-nothing-le, nxox-le}
 use Rattle.pig_house.proofs.Through.{pig-house-emits-le}
 use Rattle.outputs.specs.Sections.{FiguresIn}
 use Rattle.outputs.specs.Names.{excretion, yard, grazing, housing, pigHouse, nxOx}
-use Rattle.outputs.specs.Grams.{gramsOf, To}
+use Rattle.outputs.specs.Grams.{gramsOf, GramsTo}
 use Rattle.outputs.proofs.Bounds.{SectionTo, sections-to}
 use Rattle.herd.specs.Herd.{roughageOn, outdoorOn, pigsOn, figuresOf}
 use Rattle.herd.proofs.Housed.{pigs-enter}
@@ -45,22 +45,22 @@ most = 4000000000
 
 -- ---- section by section
 
-excretion-to : (e : ExcretionIn cutting) → Modest (e .«n_excretion») (e .«tan_excretion») → SectionTo most excretion e
+excretion-to : (e : ExcretionIn cutting) → WithinMostN (e .«n_excretion») (e .«tan_excretion») → SectionTo most excretion e
 excretion-to e m = omega arith
 
-yard-to : {n tan nh3 : ℕ} → Modest n tan → nh3 ≤ tan → SectionTo most yard (throughYard cutting n tan nh3)
+yard-to : {n tan nh3 : ℕ} → WithinMostN n tan → nh3 ≤ tan → SectionTo most yard (throughYard cutting n tan nh3)
 yard-to m h = omega arith
 
-housing-to : {n tan nh3 : ℕ} → Modest n tan → nh3 ≤ tan → SectionTo most housing (throughHousing cutting n tan nh3)
+housing-to : {n tan nh3 : ℕ} → WithinMostN n tan → nh3 ≤ tan → SectionTo most housing (throughHousing cutting n tan nh3)
 housing-to m h = omega arith
 
 -- of cattle the housing is left out, and the door lets through a rest of what is excreted
-door-to : (n tan n′ tan′ : ℕ) → Modest n tan → n′ ≤ n → tan′ ≤ tan
+door-to : (n tan n′ tan′ : ℕ) → WithinMostN n tan → n′ ≤ n → tan′ ≤ tan
     → SectionTo most housing (throughDoor cutting n′ tan′)
 door-to n tan n′ tan′ m hn ht = omega arith
 
 -- of a pig house: what is emitted and kept back is no more than what goes in
-pig-housing-to : (n tan nh3 scrubbed : ℕ) → Modest n tan → nh3 + scrubbed ≤ tan
+pig-housing-to : (n tan nh3 scrubbed : ℕ) → WithinMostN n tan → nh3 + scrubbed ≤ tan
     → SectionTo most housing (throughPigHouse cutting n tan nh3 scrubbed)
 pig-housing-to n tan nh3 scrubbed m h = omega arith
 
@@ -85,18 +85,18 @@ remain-le tan a b c d =
       abs-sub (pos tan -ℤ pos a -ℤ pos b -ℤ pos c) (pos d),
     )
 
-gases-to : (n tan a b c d : ℕ) → Modest n tan → a + b + c + d ≤ n
+gases-to : (n tan a b c d : ℕ) → WithinMostN n tan → a + b + c + d ≤ n
     → SectionTo most grazing (afterGases cutting n tan a b c d)
 gases-to n tan a b c d m h = omega (arith, remain-le tan a b c d)
 
-pasture-to : (r : Rates) {n tan : ℕ} → ModestRates r → Modest n tan → SectionTo most grazing (onPasture cutting r n tan)
+pasture-to : (r : Rates) {n tan : ℕ} → ModestRates r → WithinMostN n tan → SectionTo most grazing (onPasture cutting r n tan)
 pasture-to r {n} {tan} hr m =
     gases-to n tan (gas cutting tan (r .nh3)) (gas cutting n (r .n2)) (gas cutting n (r .no)) (gas cutting n (r .n2o)) m
     (gases-le r n tan hr m)
 
 -- ---- kind by kind
 
-pub made-to : {f : FiguresIn cutting} → Made f → To most (gramsOf f)
+pub made-to : {f : FiguresIn cutting} → Made f → GramsTo most (gramsOf f)
 made-to (of-roughage r e s m) =
     let n = e .«n_excretion» in
     let tan = e .«tan_excretion» in
@@ -128,6 +128,6 @@ made-to (of-pigs p e s m) =
     (omega (arith, enters .modest)) (omega (arith, enters .modest)) (omega (arith, enters .modest)))
     (nxox-to t n (omega (arith, enters .modest)))
 
-pub figures-to : (i : Inputs) → Sound i → To most (figuresOf i .grams)
+pub figures-to : (i : Inputs) → Sound i → GramsTo most (figuresOf i .grams)
 unfolding figuresOf
 figures-to i s = made-to (made s)

@@ -6,7 +6,7 @@ use native.Mathlib.Omega.{arith}
 use Rattle.amounts.specs.Arithmetic.{cutting}
 use Rattle.amounts.specs.Dividing.{dividing, uncut}
 use Rattle.amounts.specs.Units.{tenThousandths}
-use Rattle.amounts.specs.Bounds.{mostN, Modest, UpTo}
+use Rattle.amounts.specs.Bounds.{mostN, WithinMostN, UpTo}
 use Rattle.kinds.specs.declared.Outdoor.{Outdoor}
 use Rattle.kinds.specs.declared.Roughage.{Roughage}
 use Rattle.kinds.specs.declared.Cattle.{Cattle}
@@ -41,7 +41,7 @@ use Rattle.pig_house.specs.NxOx.{nxOx, noNxOx, handedNxOx}
 use Rattle.pig_house.specs.Bounds.{Enters}
 use Rattle.outputs.specs.declared.Sections.{Sections}
 use Rattle.outputs.specs.Sections.{handedSections}
-use Rattle.herd.specs.Herd.{plain, roughageOn, outdoorOn, pigsHanded, sectionsOf}
+use Rattle.herd.specs.Herd.{ofGrazerSections, roughageOn, outdoorOn, pigsHanded, sectionsOf}
 use Rattle.herd.proofs.Housed.{pigs-enter}
 
 -- ---- a kind whose house is none of the pigs'
@@ -49,7 +49,7 @@ pub is-plain : (e : Excretion) (y : Yard) (g : Grazing) (h : Housing) (p : PigHo
     → p ≡ handedPigHouse (noPigFactors dividing) (handedScrubbed (noScrubbed dividing)) (noPigHouse dividing)
     → x ≡ handedNxOx (noNxOx dividing)
     → _≡_ {A = Sections}
-    (record { excretion = e; yard = y; grazing = g; housing = h; «pig_house» = p; «nx_ox» = x }) (plain e y g h)
+    (record { excretion = e; yard = y; grazing = g; housing = h; «pig_house» = p; «nx_ox» = x }) (ofGrazerSections e y g h)
 is-plain e y g h p x ep ex = rw (ep, ex) refl
 
 -- ---- a herd with a yard
@@ -80,7 +80,7 @@ module _ (r : Rates) (o : Outdoor) (e : Excretion) (y : Yard) (g : Grazing)
       → h ≡ handedHousing (noFactors dividing)
       (throughDoor dividing (uncut (e .«n_excretion» - y .into .n .whole - g .into .n .whole))
       (uncut (e .«tan_excretion» .whole - y .into .tan .whole - g .into .tan .whole)))
-      → s ≡ plain e y g h → s ≡ handedSections (outdoorOn dividing r o (withTan dividing n fraction))
+      → s ≡ ofGrazerSections e y g h → s ≡ handedSections (outdoorOn dividing r o (withTan dividing n fraction))
   is-outdoor n fraction h s qe qh qs = qs ∙ rw (qh, qy, qg, qe) refl
 
 pub ruleset outdoor-steps = (yard-in-n, yard-in-tan, grazing-in-n, grazing-in-tan, is-outdoor)
@@ -109,8 +109,8 @@ module _ (r : Roughage) (e : Excretion) (g : Grazing)
     pub roughage-tan : g .into .tan .whole ≤ e .«tan_excretion» .whole
     roughage-tan = rw qg (roughage-into-le r s (e .«tan_excretion» .whole))
 
-    pub housed-modest : Modest (e .«n_excretion») (e .«tan_excretion» .whole)
-        → Modest (e .«n_excretion» - g .into .n .whole) (e .«tan_excretion» .whole - g .into .tan .whole)
+    pub housed-modest : WithinMostN (e .«n_excretion») (e .«tan_excretion» .whole)
+        → WithinMostN (e .«n_excretion» - g .into .n .whole) (e .«tan_excretion» .whole - g .into .tan .whole)
     housed-modest m = rw qg (roughage-housing-modest r s (e .«n_excretion») (e .«tan_excretion» .whole) m)
 
   pub is-roughage-from : (n fraction : ℕ) (y : Yard) (h : Housing) (s : Sections)
@@ -118,7 +118,7 @@ module _ (r : Roughage) (e : Excretion) (g : Grazing)
       → h ≡ handedHousing (factors dividing r)
       (inHousing dividing r (uncut (e .«n_excretion» - g .into .n .whole))
       (uncut (e .«tan_excretion» .whole - g .into .tan .whole)))
-      → s ≡ plain e y g h → s ≡ handedSections (roughageOn dividing r (withTan dividing n fraction))
+      → s ≡ ofGrazerSections e y g h → s ≡ handedSections (roughageOn dividing r (withTan dividing n fraction))
   is-roughage-from n fraction y h s qe qy qh qs = qs ∙ rw (qh, qy, qg, qe) refl
 
 pub ruleset roughage-from-steps = (roughage-n, roughage-tan, housed-modest, is-roughage-from)
@@ -155,7 +155,7 @@ module _ (p : Pigs) (e : Excretion) (g : Grazing)
   pub pigs-tan : g .into .tan .whole ≤ e .«tan_excretion» .whole
   pigs-tan = rw on-pasture-tan (pigs-into-le (p .«housing_type») (e .«tan_excretion» .whole))
 
-  module _ (m : Modest (e .«n_excretion») (e .«tan_excretion» .whole)) where
+  module _ (m : WithinMostN (e .«n_excretion») (e .«tan_excretion» .whole)) where
     pub pigs-housed : Enters p (e .«tan_excretion» .whole) (e .«n_excretion» - g .into .n .whole)
         (e .«tan_excretion» .whole - g .into .tan .whole)
     pigs-housed = rw (on-pasture-n, on-pasture-tan) (pigs-enter p (e .«n_excretion») (e .«tan_excretion» .whole) m)

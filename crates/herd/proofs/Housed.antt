@@ -3,7 +3,7 @@ use mathlib.Core.Path.{_≡_, sym, subst}
 use Prim.Native.Nat.{ℕ, _-_}
 use native.Mathlib.Omega.{arith}
 use Rattle.amounts.specs.Arithmetic.{cutting}
-use Rattle.amounts.specs.Bounds.{Modest}
+use Rattle.amounts.specs.Bounds.{WithinMostN}
 use Rattle.kinds.specs.declared.HousingType.{HousingType}
 use Rattle.kinds.specs.declared.HousingType.the-variants as housed
 use Rattle.kinds.specs.declared.Pigs.{Pigs}
@@ -30,14 +30,14 @@ enters-house housed.Outdoor x =
     subst (λ (y : ℕ). Housed housed.Outdoor x y) (sym none) outdoors
 
 -- the TAN stays no more than the N
-left-modest : (t : HousingType) (n tan : ℕ) → Modest n tan → Modest (left t n) (left t tan)
+left-modest : (t : HousingType) (n tan : ℕ) → WithinMostN n tan → WithinMostN (left t n) (left t tan)
 left-modest housed.SlurryConventional n tan m = record { n-most = omega arith; tan-most = omega arith }
 left-modest housed.SlurryLabel n tan m = record { n-most = omega arith; tan-most = omega arith }
 left-modest housed.SlurryLabelOpen n tan m = record { n-most = omega arith; tan-most = omega arith }
 left-modest housed.DeepLitter n tan m = record { n-most = omega arith; tan-most = omega arith }
 left-modest housed.Outdoor n tan m = record { n-most = omega arith; tan-most = omega arith }
 
-pub pigs-enter : (p : Pigs) (n tan : ℕ) → Modest n tan
+pub pigs-enter : (p : Pigs) (n tan : ℕ) → WithinMostN n tan
     → Enters p tan (n - pigsIntoGrazing cutting (p .«housing_type») n)
     (tan - pigsIntoGrazing cutting (p .«housing_type») tan)
 pigs-enter p n tan m =

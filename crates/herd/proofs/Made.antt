@@ -1,6 +1,6 @@
 -- Where the figures of sound inputs start: at a modest excretion, of whatever kind the herd is. Assumes nothing.
 use Rattle.amounts.specs.Arithmetic.{cutting}
-use Rattle.amounts.specs.Bounds.{Modest}
+use Rattle.amounts.specs.Bounds.{WithinMostN}
 use Rattle.kinds.specs.declared.Outdoor.{Outdoor}
 use Rattle.kinds.specs.declared.Roughage.{Roughage}
 use Rattle.kinds.specs.declared.Pigs.{Pigs}
@@ -17,21 +17,21 @@ use Rattle.herd.specs.Herd.{roughageOn, ofRoughage, outdoorOn, pigsOn, o
 -- figures of a herd of some kind that excretes a modest amount
 pub data Made : FiguresIn cutting → Type 0 where
   of-roughage : (r : Roughage) (e : ExcretionIn cutting) → SoundRoughage r
-      → Modest (e .«n_excretion») (e .«tan_excretion») → Made (roughageOn cutting r e)
+      → WithinMostN (e .«n_excretion») (e .«tan_excretion») → Made (roughageOn cutting r e)
   of-outdoor : (r : Rates) (o : Outdoor) (e : ExcretionIn cutting) → ModestRates r → SoundOutdoor o
-      → Modest (e .«n_excretion») (e .«tan_excretion»)
+      → WithinMostN (e .«n_excretion») (e .«tan_excretion»)
       → Made (outdoorOn cutting r o e)
-  of-pigs : (p : Pigs) (e : ExcretionIn cutting) → SoundPigs p → Modest (e .«n_excretion») (e .«tan_excretion»)
+  of-pigs : (p : Pigs) (e : ExcretionIn cutting) → SoundPigs p → WithinMostN (e .«n_excretion») (e .«tan_excretion»)
       → Made (pigsOn cutting p e)
 
 module _ (r : Roughage) (s : SoundRoughage r) where
-  pub roughage-starts : let e = ofRoughage cutting r .excretion in Modest (e .«n_excretion») (e .«tan_excretion»)
+  pub roughage-starts : let e = ofRoughage cutting r .excretion in WithinMostN (e .«n_excretion») (e .«tan_excretion»)
   roughage-starts =
       excreted-modest (r .animals) («n_excretion_animal» (r .animalcategory) (r .«inp_n_excretion»))
       (roughageFraction r) (s .animals) (roughage-grams-le r s) (roughage-fraction-le r s)
 
 module _ (p : Pigs) (s : SoundPigs p) where
-  pub pigs-start : let e = ofPigs cutting p .excretion in Modest (e .«n_excretion») (e .«tan_excretion»)
+  pub pigs-start : let e = ofPigs cutting p .excretion in WithinMostN (e .«n_excretion») (e .«tan_excretion»)
   pigs-start =
       excreted-modest (p .animals) (p .«inp_n_excretion») (p .«tan_fraction») (s .animals) (s .grams) (s .fraction)
 

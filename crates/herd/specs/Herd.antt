@@ -123,8 +123,8 @@ figuresOf i = record { grams = gramsOf (figuresIn cutting i) }
 -- ---- as the code hands them on
 
 -- the sections of a kind whose house is none of the pigs'
-abbrev pub plain : Excretion → Yard → Grazing → Housing → Sections
-plain e y g h =
+abbrev pub ofGrazerSections : Excretion → Yard → Grazing → Housing → Sections
+ofGrazerSections e y g h =
     record {
       excretion = e;
       yard = y;

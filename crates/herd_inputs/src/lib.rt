@@ -12,7 +12,7 @@ use kinds::Roughage;
 use kinds::choices;
 ghost use mathlib.Core.Path.{_≡_};
 ghost use Rattle.inputs.specs.declared.Kind.the-variants as kinds;
-ghost use Rattle.typed.specs.Typed.{givenNamed, tanIn, roughageOf, outdoorOf, cattleOf, pigsOf, typedOf};
+ghost use Rattle.typed_inputs.specs.Typed.{givenNamed, tanIn, roughageOf, outdoorOf, cattleOf, pigsOf, typedOf};
 
 fn roughage_of(h: Herd) -> Roughage
     ensures { λ r. ⌜ r ≡ roughageOf h ⌝ }

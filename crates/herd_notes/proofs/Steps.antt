@@ -10,8 +10,8 @@ use mir.Val.{Fits, SFits, toZ, ofZ}
 use mir.Facts.{toZ-ofZ}
 use borrow.Author.Tests.{lt-ltb, le-ltb, ne-eqb}
 use Rattle.base.proofs.Clash.{clash}
-use Rattle.cut.proofs.Products.{mul-fits}
-use Rattle.cut.proofs.Signs.{back}
+use Rattle.cut_division.proofs.Products.{mul-fits}
+use Rattle.cut_division.proofs.Signs.{back}
 use Rattle.tables.specs.Standards.{standardOf, «share_Nsol», dairyStandard, dairyShare}
 use Rattle.tables.proofs.Standards.{standard-most}
 use Rattle.amounts.specs.Units.{tenThousandths}

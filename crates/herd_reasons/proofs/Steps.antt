@@ -14,20 +14,20 @@ use Rattle.kinds.specs.declared.Inputs.the-variants as kinds
 use Rattle.kinds.specs.Sound.{SoundOutdoor, Sound}
 use Rattle.kinds.proofs.OfKind.{sound-cattle}
 use Rattle.yard.specs.Yard.{«share_excretion»}
-use Rattle.yard.specs.Bounds.{Both}
+use Rattle.yard.specs.Bounds.{DaysWithBoth}
 use Rattle.farm.specs.declared.Herd.{Herd}
-use Rattle.farm.specs.declared.Fault.{Fault}
-use Rattle.farm.specs.declared.Fault.the-variants.{OtherKind}
+use Rattle.farm.specs.declared.Refusal.{Refusal}
+use Rattle.farm.specs.declared.Refusal.the-variants.{OtherKind}
 use Rattle.farm.specs.declared.Checked.{Checked}
 use Rattle.farm.specs.declared.Checked.the-variants as checks
 use Rattle.checks.specs.Checks.{checkHerd}
-use Rattle.typed.specs.Typed.{typedOf}
-use Rattle.typed.proofs.Sound.{typed-sound}
+use Rattle.typed_inputs.specs.Typed.{typedOf}
+use Rattle.typed_inputs.proofs.Sound.{typed-sound}
 use Rattle.reasons.specs.declared.Reason.{Reason}
 use Rattle.reasons.specs.declared.Reason.the-variants.{NoSuchDays, NotAvailable, AsChosen, Lowered}
 use Rattle.reasons.specs.declared.Why.{Why}
-use Rattle.reasons.specs.declared.Told.{Told}
-use Rattle.reasons.specs.declared.Told.the-variants.{Because, NoYard}
+use Rattle.reasons.specs.declared.YardReason.{YardReason}
+use Rattle.reasons.specs.declared.YardReason.the-variants.{Because, NoYard}
 use Rattle.reasons.specs.declared.ReasonAnswer.{ReasonAnswer}
 use Rattle.reasons.specs.declared.ReasonAnswer.the-variants.{Given, Refused}
 use Rattle.reasons.specs.Reasons.{partly, isNotAvailable, reasonOf, shareFrom, whyOf, toldOf}
@@ -35,7 +35,7 @@ use Rattle.reasons.specs.Answers.{toldAnswer, reasonAnswer}
 
 -- ---- the tests, in their order
 
-module _ (o : Outdoor) (both : ℕ) (eb : Both o both) where
+module _ (o : Outdoor) (both : ℕ) (eb : DaysWithBoth o both) where
   pub no-days : both ≡ 0 → NoSuchDays ≡ reasonOf o
   unfolding reasonOf
   no-days e = rw (← eb .is, e)
@@ -57,7 +57,7 @@ module _ (o : Outdoor) (both : ℕ) (eb : Both o both) where
 pub ruleset reason-steps = (no-days, none-there, is-chosen, is-lowered)
 
 pub is-why : (o : Outdoor) (r : Reason) (chosen both share : ℕ) → r ≡ reasonOf o
-    → UpTo tenths («share_excretion» (o .«exercise_yard»)) chosen → Both o both → share ≡ shareFrom r chosen
+    → UpTo tenths («share_excretion» (o .«exercise_yard»)) chosen → DaysWithBoth o both → share ≡ shareFrom r chosen
     → record { reason = r; days = both; chosen = chosen; share = share } ≡ whyOf o
 is-why o r chosen both share er ec eb es = rw (es, er, ec .is, eb .is)
 
@@ -83,7 +83,7 @@ pub ruleset kind-steps = (outdoor-sound, told-cattle, told-roughage, told-pigs)
 
 -- ---- a herd's record
 
-module _ (t : Told) where
+module _ (t : YardReason) where
   pub answer-given : (w : Why) → t ≡ Because w → Given w ≡ toldAnswer t
   answer-given w e = rw e
 
@@ -96,13 +96,13 @@ module _ (h : Herd) (k : Checked) (q : k ≡ checkHerd h) where
   pub accepted-sound : (i : Inputs) → k ≡ checks.Accepted → i ≡ typedOf h → Sound i
   accepted-sound i t e = rw e (typed-sound h (sym q ∙ t))
 
-  pub is-answer : (i : Inputs) (w : Told) (r : ReasonAnswer) → k ≡ checks.Accepted → i ≡ typedOf h → w ≡ toldOf i
+  pub is-answer : (i : Inputs) (w : YardReason) (r : ReasonAnswer) → k ≡ checks.Accepted → i ≡ typedOf h → w ≡ toldOf i
       → r ≡ toldAnswer w → r ≡ reasonAnswer h
   unfolding reasonAnswer
   is-answer i w r t e ew er = rw (er, ew, e, ← q, t)
 
-  pub is-refused : (fault : Fault) (at : ℕ) → k ≡ checks.Refused fault at → Refused fault at ≡ reasonAnswer h
+  pub is-refused : (refusal : Refusal) (at : ℕ) → k ≡ checks.Refused refusal at → Refused refusal at ≡ reasonAnswer h
   unfolding reasonAnswer
-  is-refused fault at t = rw (← q, t)
+  is-refused refusal at t = rw (← q, t)
 
 pub ruleset answer-steps = (accepted-sound, is-answer, is-refused)

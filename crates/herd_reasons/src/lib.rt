@@ -5,8 +5,8 @@ use kinds::ExerciseYard;
 use kinds::Inputs;
 use kinds::Outdoor;
 use reasons::Reason;
-use reasons::Told;
 use reasons::Why;
+use reasons::YardReason;
 ghost use mathlib.Core.Path.{_≡_};
 ghost use Rattle.kinds.specs.Sound.{SoundOutdoor, Sound};
 ghost use Rattle.reasons.specs.Reasons.{isNotAvailable, reasonOf, shareFrom, whyOf, toldOf};
@@ -68,16 +68,16 @@ pub fn why_of(o: Outdoor) -> Why
 }
 
 // A kind with the module `Outdoor` is told the reason; the others have no yard.
-pub fn told_of(inputs: Inputs) -> Told
+pub fn told_of(inputs: Inputs) -> YardReason
     requires { ⌜ Sound inputs ⌝ }
     ensures { λ r. ⌜ r ≡ toldOf inputs ⌝ }
 {
     match inputs {
-        Inputs::Roughage(_) => Told::NoYard,
+        Inputs::Roughage(_) => YardReason::NoYard,
         Inputs::Cattle(c) => {
             let outdoor = c.outdoor;
-            Told::Because(why_of(outdoor))
+            YardReason::Because(why_of(outdoor))
         }
-        Inputs::Pigs(_) => Told::NoYard,
+        Inputs::Pigs(_) => YardReason::NoYard,
     }
 }

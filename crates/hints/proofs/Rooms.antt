@@ -12,7 +12,7 @@ use borrow.Author.Tests.{le-leb, lt-ltb}
 use Rattle.base.specs.Pick.{pick}
 use Rattle.base.specs.Part.{part}
 use Rattle.base.proofs.Clash.{clash}
-use Rattle.farm.specs.declared.Fault.{Fault}
+use Rattle.farm.specs.declared.Refusal.{Refusal}
 use Rattle.reader.specs.Files.{fileMost, readOf}
 use Rattle.gate.specs.Logs.{readLog}
 use Rattle.mend.specs.declared.Answer.{Answer}
@@ -85,7 +85,7 @@ module _ (s : List ℕ) where
           let whole : p ≡ mendedOf s = ep ∙ (rw (long, file) front) in
           ek ∙ (rw (ex, ey, many, whole))
 
-      pub hint-refused : (x : Fault) (a : ℕ) → r ≡ Refused x a → (i : Input) → 0 ≡ hintOf i s
+      pub hint-refused : (x : Refusal) (a : ℕ) → r ≡ Refused x a → (i : Input) → 0 ≡ hintOf i s
       hint-refused x a e i =
           let d : Refused x a ≡ Mended (length (mendedOf s)) (length (changesOf s)) = sym e ∙ said in clash cc
 

@@ -2,12 +2,12 @@
 use Prim.Native.Nat.{ℕ}
 use mathlib.Core.Path.{_≡_, ap, sym, _∙_}
 use mathlib.Core.List.{List}
-use Rattle.farm.specs.declared.Fault.{Fault}
+use Rattle.farm.specs.declared.Refusal.{Refusal}
 use Rattle.farm.specs.declared.Checked.the-variants as checks
 use Rattle.farm.specs.Refusals as farms
 use Rattle.reader.specs.declared.FileAnswer.{FileAnswer}
 use Rattle.reader.specs.Files.{readOf}
-use Rattle.gate_days.specs.declared.LogFault.{LogFault}
+use Rattle.gate_days.specs.declared.LogRefusal.{LogRefusal}
 use Rattle.gate.specs.declared.LogAnswer.{LogAnswer}
 use Rattle.outdoors.specs.declared.Outdoors.{Outdoors}
 use Rattle.gate.specs.declared.LogAnswer.the-variants as answers
@@ -25,10 +25,10 @@ module _ (s : List ℕ) (a : FileAnswer) (e : a ≡ readOf s) where
   unfolding farmReach
   farm-through c = ap checkedReach (sym c ∙ ap (λ (x : FileAnswer). x .checked) e)
 
-  pub farm-refused : (fault : Fault) (n : ℕ) → a .checked ≡ checks.Refused fault n → (k : ℕ) → k ≡ farms.number fault
+  pub farm-refused : (refusal : Refusal) (n : ℕ) → a .checked ≡ checks.Refused refusal n → (k : ℕ) → k ≡ farms.number refusal
       → (r : Reach) → r ≡ reachOf k n → r ≡ farmReach s
   unfolding farmReach
-  farm-refused fault n c k ek r er =
+  farm-refused refusal n c k ek r er =
       er ∙ ap (λ (x : ℕ). reachOf x n) ek ∙ ap checkedReach (sym c ∙ ap (λ (x : FileAnswer). x .checked) e)
 
 module _ (s : List ℕ) (a : LogAnswer) (e : a ≡ readLog s) where
@@ -36,10 +36,10 @@ module _ (s : List ℕ) (a : LogAnswer) (e : a ≡ readLog s) where
   unfolding logReach
   log-through o c = ap answerReach (sym c ∙ e)
 
-  pub log-refused : (fault : LogFault) (n : ℕ) → a ≡ answers.Refused fault n → (k : ℕ) → k ≡ gates.number fault
+  pub log-refused : (refusal : LogRefusal) (n : ℕ) → a ≡ answers.Refused refusal n → (k : ℕ) → k ≡ gates.number refusal
       → (r : Reach) → r ≡ reachOf k n → r ≡ logReach s
   unfolding logReach
-  log-refused fault n c k ek r er = er ∙ ap (λ (x : ℕ). reachOf x n) ek ∙ ap answerReach (sym c ∙ e)
+  log-refused refusal n c k ek r er = er ∙ ap (λ (x : ℕ). reachOf x n) ek ∙ ap answerReach (sym c ∙ e)
 
 module _ (i : Input) (s : List ℕ) (r : Reach) where
   pub read-farm : i ≡ Farm → r ≡ farmReach s → r ≡ readTo i s

@@ -21,11 +21,11 @@ use Rattle.reach.specs.Reach.{reachOf, further}
 
 abbrev pub checkedReach : Checked → Reach
 checkedReach checks.Accepted = Through
-checkedReach (checks.Refused fault n) = reachOf (farms.number fault) n
+checkedReach (checks.Refused refusal n) = reachOf (farms.number refusal) n
 
 abbrev pub answerReach : LogAnswer → Reach
 answerReach (answers.Gives o) = Through
-answerReach (answers.Refused fault n) = reachOf (gates.number fault) n
+answerReach (answers.Refused refusal n) = reachOf (gates.number refusal) n
 
 unfoldable pub farmReach : List ℕ → Reach
 farmReach s = checkedReach (readOf s .checked)

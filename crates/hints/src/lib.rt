@@ -31,7 +31,10 @@ fn farm_reach(s: &[u8]) -> Reach
     let checked = answer.checked;
     match checked {
         Checked::Accepted => Reach::Through,
-        Checked::Refused(fault, record) => reach::reach_of(fault_numbers::number_of(fault), record),
+        Checked::Refused(refusal, record) => reach::reach_of(
+            refusal_numbers::number_of(refusal),
+            record,
+        ),
     }
 }
 
@@ -40,8 +43,8 @@ fn log_reach(s: &[u8]) -> Reach
 {
     match logs::read(s) {
         LogAnswer::Gives(_) => Reach::Through,
-        LogAnswer::Refused(fault, record) => reach::reach_of(
-            gate_days::faults::number_of(fault),
+        LogAnswer::Refused(refusal, record) => reach::reach_of(
+            gate_days::faults::number_of(refusal),
             record,
         ),
     }

@@ -10,16 +10,16 @@ use Rattle.base.specs.Pick.{pick}
 use lib.Dec.{ltb}
 use mir.Syntax.{w64}
 use mir.Val.{Fits}
-use Rattle.cut.specs.declared.Quotient.{Quotient}
-use Rattle.cut.specs.Cut.{quotientOf, undivided, least}
-use Rattle.cut.proofs.Products.{mul-fits, mul-to}
-use Rattle.cut.proofs.Shares.{part-le, least-most}
+use Rattle.cut_division.specs.declared.Quotient.{Quotient}
+use Rattle.cut_division.specs.Cut.{quotientOf, undivided, least}
+use Rattle.cut_division.proofs.Products.{mul-fits, mul-to}
+use Rattle.cut_division.proofs.Shares.{part-le, least-most}
 use Rattle.tables.specs.Growth.{kOf, mostK}
 use Rattle.tables.proofs.Growth.{k-most}
 use Rattle.amounts.specs.Units.{percent, thousandths, billionths, year, day}
 use Rattle.amounts.specs.Arithmetic.{cutting}
 use Rattle.amounts.specs.Dividing.{Divided, uncut, worth, dividing}
-use Rattle.amounts.specs.Bounds.{Modest, PortionOf, TwiceOf, UpTo}
+use Rattle.amounts.specs.Bounds.{WithinMostN, PortionOf, PortionToTwice, UpTo}
 use Rattle.kinds.specs.declared.Roughage.{Roughage}
 use Rattle.kinds.specs.Free.{«c_free_factor»}
 use Rattle.housing.specs.declared.Factors.{Factors}
@@ -97,7 +97,7 @@ module _ (r : Roughage) where
   pub are-factors : (left : ℕ) (c rate factor : Quotient) → Grown (r .«grazing_days») (r .«grazing_hours») c
       → PortionOf (c .whole) «er_housing» thousandths rate
       → UpTo (percent + percent) («c_free_factor» (r .«free_correction_factor»)) left
-      → TwiceOf (rate .whole) left percent factor
+      → PortionToTwice (rate .whole) left percent factor
       → _≡_ {A = Factors}
       (record { «c_grazing» = c; «times_er_housing» = rate; «times_c_free_factor_housing» = factor })
       (handedFactors (factors dividing r))
@@ -131,7 +131,7 @@ nh3-in-housing-le r tan = part-le tan («ef_nh3_nhousing» cutting r) billionths
 -- ---- conservation: what goes into the housing is emitted there or leaves it
 
 module _ (r : Roughage) (n tan : ℕ) where
-  pub housing-keeps-n : Modest n tan
+  pub housing-keeps-n : WithinMostN n tan
       → let h = inHousing cutting r n tan in h .«n_into_housing» ≡ h .«nh3_nhousing» + h .«n_outhousing»
   housing-keeps-n m = omega (arith, nh3-in-housing-le r tan, m .tan-most)
 

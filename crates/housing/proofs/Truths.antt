@@ -9,7 +9,7 @@ use borrow.Author.Tests.{ltb-true, le-ltb}
 use lib.Dec.{ltb, lit<}
 use lib.IntN.{pos}
 use Rattle.base.specs.Pick.{pick}
-use Rattle.cut.proofs.Shares.{cut-greatest, part-le, part-mono}
+use Rattle.cut_division.proofs.Shares.{cut-greatest, part-le, part-mono}
 use Rattle.tables.specs.Growth.{kOf, mostK}
 use Rattle.tables.proofs.Growth.{k-least, k-most}
 use Rattle.kinds.specs.declared.Roughage.{Roughage}

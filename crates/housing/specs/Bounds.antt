@@ -2,7 +2,7 @@
 -- here.
 use mathlib.Core.Path.{_≡_}
 use Prim.Native.Nat.{ℕ, _≤_}
-use Rattle.cut.specs.declared.Quotient.{Quotient}
+use Rattle.cut_division.specs.declared.Quotient.{Quotient}
 use Rattle.tables.specs.Growth.{mostK}
 use Rattle.amounts.specs.Dividing.{dividing, handed}
 use Rattle.housing.specs.Housing.{«c_grazing»}

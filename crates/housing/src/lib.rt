@@ -6,14 +6,14 @@ use amounts::PERCENT;
 use amounts::THOUSANDTHS;
 use amounts::YEAR;
 use amounts::YEAR_OF_HOURS;
-use cut::Quotient;
+use cut_division::Quotient;
 use kinds::Roughage;
 ghost use mathlib.Core.Path.{_≡_};
 ghost use Prim.Native.Nat.{_≤_, _<_, _^_};
-ghost use Rattle.cut.specs.Cut.{least};
+ghost use Rattle.cut_division.specs.Cut.{least};
 ghost use Rattle.amounts.specs.Units.{billionths, year, day};
 ghost use Rattle.amounts.specs.Dividing.{dividing, uncut};
-ghost use Rattle.amounts.specs.Bounds.{Modest, PortionOf, UpTo};
+ghost use Rattle.amounts.specs.Bounds.{WithinMostN, PortionOf, UpTo};
 ghost use Rattle.kinds.specs.Sound.{SoundRoughage};
 ghost use Rattle.housing.specs.Housing.{aboveCeiling, factors, noFactors, handedFactors};
 ghost use Rattle.housing.specs.Housing.{inHousing, throughDoor, handedHousing};
@@ -46,9 +46,9 @@ fn c_grazing(days: u64, hours: u64) -> Quotient
     if days * hours < YEAR_OF_HOURS {
         let other_days = (YEAR - days) * DAY * BILLIONTHS;
         let grazing_days = days * (DAY - hours) * tables::k(hours);
-        return cut::cut(other_days + grazing_days, YEAR_OF_HOURS - hours * days);
+        return cut_division::cut(other_days + grazing_days, YEAR_OF_HOURS - hours * days);
     }
-    cut::undivided(BILLIONTHS)
+    cut_division::undivided(BILLIONTHS)
 }
 
 // The rate, then the free factor.
@@ -71,7 +71,7 @@ fn factors_of(r: Roughage) -> Factors
 pub fn no_factors() -> Factors
     ensures { λ f. ⌜ f ≡ handedFactors (noFactors dividing) ⌝ }
 {
-    let none = cut::undivided(0);
+    let none = cut_division::undivided(0);
     Factors {
         c_grazing: none,
         times_er_housing: none,
@@ -109,7 +109,7 @@ fn nh3_in_housing(f: Factors, tan: u64) -> Quotient
 
 // The housing of a roughage herd into which so much N and TAN goes.
 pub fn in_housing(r: Roughage, n: u64, tan: u64) -> Housing
-    requires { ⌜ SoundRoughage r × Modest n tan ⌝ }
+    requires { ⌜ SoundRoughage r × WithinMostN n tan ⌝ }
     ensures { λ h. ⌜ h ≡ handedHousing (factors dividing r) (inHousing dividing r (uncut n) (uncut tan)) ⌝ }
 {
     let factors = factors_of(r);
@@ -132,7 +132,7 @@ pub fn through_door(n: u64, tan: u64) -> Housing
         n_into_housing: n,
         tan_into_housing: tan,
         factors: no_factors(),
-        nh3_nhousing: cut::undivided(0),
+        nh3_nhousing: cut_division::undivided(0),
         n_outhousing: 0,
         tan_outhousing: 0,
     }

@@ -7,7 +7,7 @@ use mathlib.Core.Bool.{Bool}
 use mathlib.Core.List.{List, [], _∷_}
 use lib.Dec.{eqb}
 use lib.ListN.{length, getD}
-use Rattle.names.specs.declared.Names.the-variants.{
+use Rattle.names.specs.declared.ValueList.the-variants.{
   Categories,
   Yards,
   Floors,

@@ -4,7 +4,7 @@
 // stretch in crate `finding`; a new name or module is a row in crate `words`.
 pub mod slots; // the slots by name, and how many they are
 
-use names::Names;
+use names::ValueList;
 use words::input_names;
 ghost use mathlib.Core.Path.{_≡_};
 ghost use Rattle.inputs.specs.declared.Kind.the-variants.{Roughage, Cattle, Pigs, DairyCow};
@@ -27,7 +27,7 @@ pub enum Form {
     OrStandard(usize, u32),
     NoStandard(usize, u32),
     Signed(u16),
-    OneOf(Names),
+    OneOf(ValueList),
 }
 
 // 01, "Ranges".
@@ -48,19 +48,19 @@ const DAYS: Form = Form::Number(0, 365);
 
 const HOURS: Form = Form::Number(1, 240);
 
-const CATEGORY: Form = Form::OneOf(Names::Categories);
+const CATEGORY: Form = Form::OneOf(ValueList::Categories);
 
-const YARD: Form = Form::OneOf(Names::Yards);
+const YARD: Form = Form::OneOf(ValueList::Yards);
 
-const FLOOR: Form = Form::OneOf(Names::Floors);
+const FLOOR: Form = Form::OneOf(ValueList::Floors);
 
-const HOUSING_TYPE: Form = Form::OneOf(Names::HousingTypes);
+const HOUSING_TYPE: Form = Form::OneOf(ValueList::HousingTypes);
 
-const AIR_SCRUBBER: Form = Form::OneOf(Names::AirScrubbers);
+const AIR_SCRUBBER: Form = Form::OneOf(ValueList::AirScrubbers);
 
-const HOUSING_FLOOR: Form = Form::OneOf(Names::HousingFloors);
+const HOUSING_FLOOR: Form = Form::OneOf(ValueList::HousingFloors);
 
-const HOUSING_AIR: Form = Form::OneOf(Names::HousingAirs);
+const HOUSING_AIR: Form = Form::OneOf(ValueList::HousingAirs);
 
 // The number of a kind, by which tables have its own.
 pub fn number_of(kind: Kind) -> usize

@@ -9,7 +9,7 @@ use lib.IntN.{ℤ, pos, negsuc}
 use lib.Signed.{ltZ}
 use mir.Syntax.{w64}
 use mir.Val.{SFits}
-use Rattle.cut.proofs.Signs.{back, never-below, always-below}
+use Rattle.cut_division.proofs.Signs.{back, never-below, always-below}
 use Rattle.kilogram_text.specs.Kilograms.{sign}
 
 pub sign-below : (g : ℤ) → SFits w64 g → ltZ (back g) (pos 0) ≡ true → sign g ≡ 45 ∷ []

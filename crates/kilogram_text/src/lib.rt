@@ -37,5 +37,5 @@ pub fn put_kilograms(out: &mut [u8], at: usize, g: i64) -> usize
     ensures { λ r. ⌜ Wrote (now (out .entry)) at (kilogramsOf g) (now (out .exit)) r ⌝ }
 {
     let a = put_sign(out, at, g);
-    put_thousandths(out, a, cut::magnitude(g))
+    put_thousandths(out, a, cut_division::magnitude(g))
 }

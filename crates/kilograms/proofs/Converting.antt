@@ -11,8 +11,8 @@ use lib.IntN.{ℤ, pos, natAbs}
 use lib.Ieee.{Float}
 use mir.Syntax.{w64}
 use mir.Val.{toZ, ofZ}
-use Rattle.cut.proofs.Signed.{back}
-use Rattle.outputs.specs.Grams.{To, at}
+use Rattle.cut_division.proofs.Signed.{back}
+use Rattle.outputs.specs.Grams.{GramsTo, gramsAt}
 use Rattle.kilograms.specs.Kilograms.{inKilograms, exactMost}
 
 module _ (grams : List ℤ) (kilograms : List Float) where
@@ -30,16 +30,16 @@ module _ (grams : List ℤ) (kilograms : List Float) where
     pub none-left : length grams ≤ i → sets kilograms i (map inKilograms (drop i grams)) ≡ kilograms
     none-left h = rw (drop-of-length-le grams h)
 
-    module _ (to : To exactMost grams) where
+    module _ (to : GramsTo exactMost grams) where
       -- the grams of a number are the grams, read as an i64
-      read : toZ w64 (ofZ w64 (at grams i)) ≡ at grams i
-      read = back (at grams i) (omega (arith, to .most i))
+      read : toZ w64 (ofZ w64 (gramsAt grams i)) ≡ gramsAt grams i
+      read = back (gramsAt grams i) (omega (arith, to .most i))
 
-      pub small : natAbs (toZ w64 (ofZ w64 (at grams i))) ≤ exactMost
+      pub small : natAbs (toZ w64 (ofZ w64 (gramsAt grams i))) ≤ exactMost
       small = rw read (to .most i)
 
       -- a turn stores the next
-      pub one-stored : i < length grams → (r : Float) → r ≡ inKilograms (toZ w64 (ofZ w64 (at grams i)))
+      pub one-stored : i < length grams → (r : Float) → r ≡ inKilograms (toZ w64 (ofZ w64 (gramsAt grams i)))
           → sets (set kilograms i r) (i + 1) (map inKilograms (drop (i + 1) grams))
           ≡ sets kilograms i (map inKilograms (drop i grams))
       one-stored h r e = rw (e ∙ ap inKilograms read, add-one i, drop-cons grams i (pos 0) h)

@@ -13,11 +13,11 @@ use Rattle.base.specs.Each.{Each, none, more}
 use Rattle.base.specs.Runs.{all}
 use Rattle.base.proofs.Each.{each-of, each-map}
 use Rattle.base.proofs.Runs.{all-at}
-use Rattle.cut.specs.Total.{addUp, signedTotal}
-use Rattle.cut.proofs.Signed.{abs-add}
+use Rattle.cut_division.specs.Total.{addUp, signedTotal}
+use Rattle.cut_division.proofs.Signed.{abs-add}
 use Rattle.outputs.specs.declared.Figures.{Figures}
 use Rattle.outputs.specs.Names.{totals, addends}
-use Rattle.outputs.specs.Grams.{at, farmTotal, totalsOf, To}
+use Rattle.outputs.specs.Grams.{gramsAt, farmTotal, totalsOf, GramsTo}
 use Rattle.outputs.proofs.ByNumber.{by-number-at, by-number-past}
 
 -- ---- sums
@@ -41,10 +41,10 @@ isFew ns = leb (length ns) mostAddends
 addends-few : T (all isFew addends)
 addends-few = tt
 
-module _ (l : List Figures) (k : ℕ) (small : Each (λ f. To k (f .grams)) l) where
+module _ (l : List Figures) (k : ℕ) (small : Each (λ f. GramsTo k (f .grams)) l) where
   -- a figure, summed over the herds
-  herds-le : (n : ℕ) → natAbs (signedTotal (λ (f : Figures). at (f .grams) n) l) ≤ length l * k
-  herds-le n = total-le (λ (f : Figures). at (f .grams) n) k (each-map (λ f to. to .most n) small)
+  herds-le : (n : ℕ) → natAbs (signedTotal (λ (f : Figures). gramsAt (f .grams) n) l) ≤ length l * k
+  herds-le n = total-le (λ (f : Figures). gramsAt (f .grams) n) k (each-map (λ f to. to .most n) small)
 
   total-small : (t : ℕ) → t < length totals → natAbs (farmTotal l t) ≤ mostAddends * (length l * k)
   unfolding farmTotal
@@ -52,15 +52,15 @@ module _ (l : List Figures) (k : ℕ) (small : Each (λ f. To k (f .grams)) l) w
       let ns = getD addends t [] in
       let few = leb→le (length ns) mostAddends (all-at isFew addends addends-few t [] h) in
       le-trans
-      (total-le (λ n. signedTotal (λ (f : Figures). at (f .grams) n) l) (length l * k) (each-of herds-le ns))
+      (total-le (λ n. signedTotal (λ (f : Figures). gramsAt (f .grams) n) l) (length l * k) (each-of herds-le ns))
       (mul-le-mul-right (length l * k) few)
 
-  pub totals-small : To (mostAddends * (length l * k)) (totalsOf l .grams)
+  pub totals-small : GramsTo (mostAddends * (length l * k)) (totalsOf l .grams)
   unfolding totalsOf
   totals-small = record { most = λ t. go t (ltb t (length totals)) refl }
     where
       go : (t : ℕ) (b : Bool) → ltb t (length totals) ≡ b
-          → natAbs (at (totalsOf l .grams) t) ≤ mostAddends * (length l * k)
+          → natAbs (gramsAt (totalsOf l .grams) t) ≤ mostAddends * (length l * k)
       go t true e =
           let h = ltb-true t (length totals) e in
           rw (by-number-at (farmTotal l) (length totals) t h) (total-small t h)

@@ -8,7 +8,7 @@ ghost use mathlib.Core.List.{map};
 ghost use Prim.Native.Nat.{_≤_};
 ghost use lib.ListN.{length};
 ghost use lib.IntN.{natAbs};
-ghost use Rattle.outputs.specs.Grams.{To};
+ghost use Rattle.outputs.specs.Grams.{GramsTo};
 ghost use Rattle.kilograms.specs.Kilograms.{exactMost, inKilograms, kilogramsOf, totalKilogramsOf};
 
 // A herd's figures in kilograms of nitrogen a year.
@@ -30,7 +30,7 @@ fn in_kilograms(grams: i64) -> f64
 
 // Each number's grams in kilograms, into a slice as long.
 fn convert(grams: &[i64], kilograms: &mut [f64])
-    requires { ⌜ To exactMost (now grams) × (length (now kilograms) ≡ length (now grams)) ⌝ }
+    requires { ⌜ GramsTo exactMost (now grams) × (length (now kilograms) ≡ length (now grams)) ⌝ }
     ensures { λ _. ⌜ now (kilograms .exit) ≡ map inKilograms (now (grams .entry)) ⌝ }
 {
     let mut i = 0;
@@ -42,7 +42,7 @@ fn convert(grams: &[i64], kilograms: &mut [f64])
 }
 
 pub fn kilograms_of(f: Figures) -> Kilograms
-    requires { ⌜ To exactMost (f .grams) ⌝ }
+    requires { ⌜ GramsTo exactMost (f .grams) ⌝ }
     ensures { λ r. ⌜ r ≡ kilogramsOf f ⌝ }
 {
     let grams = f.grams;
@@ -52,7 +52,7 @@ pub fn kilograms_of(f: Figures) -> Kilograms
 }
 
 pub fn total_kilograms_of(t: Totals) -> TotalKilograms
-    requires { ⌜ To exactMost (t .grams) ⌝ }
+    requires { ⌜ GramsTo exactMost (t .grams) ⌝ }
     ensures { λ r. ⌜ r ≡ totalKilogramsOf t ⌝ }
 {
     let grams = t.grams;

@@ -8,7 +8,7 @@ use lib.Signed.{ltZ}
 use mir.Syntax.{w64}
 use mir.Val.{SFits}
 use mir.Facts.{toZ-ofZ}
-use Rattle.cut.proofs.Signs.{back, never-below, always-below}
+use Rattle.cut_division.proofs.Signs.{back, never-below, always-below}
 use Rattle.amounts.specs.Units.{percent}
 use Rattle.amounts.specs.Bounds.{UpTo}
 use Rattle.kinds.specs.Free.{«c_free_factor»}

@@ -1,4 +1,4 @@
--- The choices, each at the place of its name in 01's list (crate `names`). Crate `page` holds what 001 prints of each
+-- The choices, each at the place of its name in 01's list (crate `names`). Crate `printed_numbers` holds what 001 prints of each
 -- name.
 use Prim.Native.Nat.{ℕ}
 use mathlib.Core.List.{List, [], _∷_}

@@ -1,5 +1,5 @@
 -- What the formulas may count on: each input is in its range (01, "Ranges"). Of every herd that passes the record
--- checks it is a theorem: `typed-sound` of crate `typed`.
+-- checks it is a theorem: `typed-sound` of crate `typed_inputs`.
 use Prim.Native.Nat.{ℕ, _≤_}
 use lib.IntN.{natAbs}
 use Rattle.tables.specs.Standards.{_kg}

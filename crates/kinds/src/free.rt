@@ -12,7 +12,7 @@ pub fn c_free_factor(free: i64) -> u64
     ensures { λ r. ⌜ UpTo (percent + percent) («c_free_factor» free) r ⌝ }
 {
     if free < 0 {
-        return PERCENT + cut::magnitude(free);
+        return PERCENT + cut_division::magnitude(free);
     }
-    PERCENT - cut::magnitude(free)
+    PERCENT - cut_division::magnitude(free)
 }

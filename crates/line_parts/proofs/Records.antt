@@ -15,7 +15,7 @@ use Rattle.base.proofs.Clash.{clash}
 use Rattle.base.proofs.Holds.{both-true}
 use Rattle.grammar.specs.Grammar.{comma, quote, Plain, Inside, FieldOf}
 use Rattle.record_lines.specs.Records.{RecordsOf}
-use Rattle.record_lines.proofs.Plain.{plain}
+use Rattle.record_lines.proofs.Plain.{past-plain}
 use Rattle.record_lines.proofs.Records.{no-records, both}
 use Rattle.inputs.specs.declared.Kind.{Kind}
 use Rattle.inputs.specs.declared.Kind.the-variants.{Roughage, Cattle, Pigs, DairyCow}
@@ -79,10 +79,10 @@ label-field s e = go (hasComma s) refl
 -- ---- the path
 
 pub plain-path : (k : Kind) → Plain (bytes (pathOf k))
-plain-path Roughage = plain _ refl
-plain-path Cattle = plain _ refl
-plain-path Pigs = plain _ refl
-plain-path DairyCow = plain _ refl
+plain-path Roughage = past-plain _ refl
+plain-path Cattle = past-plain _ refl
+plain-path Pigs = past-plain _ refl
+plain-path DairyCow = past-plain _ refl
 
 -- ---- one after the other
 

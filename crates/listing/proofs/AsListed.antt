@@ -16,7 +16,7 @@ use Rattle.farm.specs.Labels.{text}
 use Rattle.outputs.specs.declared.Figures.{Figures}
 use Rattle.outputs.specs.declared.Totals.{Totals}
 use Rattle.outputs.specs.Names.{rows, number, totals, totalNumber, totalTexts}
-use Rattle.outputs.specs.Grams.{at}
+use Rattle.outputs.specs.Grams.{gramsAt}
 use Rattle.line_parts.specs.Fields.{hasComma, labelField, each}
 use Rattle.line_parts.specs.Paths.{pathOf}
 use Rattle.line_parts.specs.Owners.{ownerOf}
@@ -35,15 +35,15 @@ line-is label path e g = simp append-assoc
 -- the lines of any entries
 module _ (label path : List ℕ) (es : List Entry) (grams : List ℤ) where
   abbrev inFull : ℕ → List ℕ
-  inFull n = let e = getD es n noEntry in lineOf label (path ++ e .under) (e .name) (at grams n)
+  inFull n = let e = getD es n noEntry in lineOf label (path ++ e .under) (e .name) (gramsAt grams n)
 
   in-full : (n : ℕ) → n < length es
       → putTogether (ownerOf label path)
       (part (joined (middles es)) (getD (starts 0 (middles es)) n 0) (getD (starts 0 (middles es)) (n + 1) 0))
-      (at grams n) ≡ inFull n
+      (gramsAt grams n) ≡ inFull n
   in-full n h =
-      ap (λ (t : List ℕ). putTogether (ownerOf label path) t (at grams n)) (middle-is es n h)
-      ∙ line-is label path (getD es n noEntry) (at grams n)
+      ap (λ (t : List ℕ). putTogether (ownerOf label path) t (gramsAt grams n)) (middle-is es n h)
+      ∙ line-is label path (getD es n noEntry) (gramsAt grams n)
 
   numbered-is : (ns : List ℕ) → T (all (λ (n : ℕ). ltb n (length es)) ns)
       → numbered (ownerOf label path) (joined (middles es)) (starts 0 (middles es)) grams ns ≡ each inFull ns

@@ -21,7 +21,7 @@ use Rattle.outputs.specs.Grams.{figure, total}
 use Rattle.line_parts.specs.Fields.{labelField}
 use Rattle.line_parts.proofs.Records.{good-bytes, label-field, plain-path, lines}
 use Rattle.record_lines.specs.Records.{RecordsOf}
-use Rattle.record_lines.proofs.Plain.{allPast, plain, plain-append, plain-lowest, plain-whole}
+use Rattle.record_lines.proofs.Plain.{allPast, past-plain, plain-append, plain-lowest, plain-whole}
 use Rattle.record_lines.proofs.Records as records
 use Rattle.listing.specs.HerdLines.{linesOf}
 use Rattle.listing.specs.Listing.{lineOf, moduleOf, herdLine, herdLines, herdListing}
@@ -33,13 +33,13 @@ use Rattle.listing.specs.Records.{fieldsOf, herdRecords, totalRecords}
 plain-sign : (g : ℤ) → Plain (sign g)
 unfolding sign
 plain-sign (pos n) = Plain.none
-plain-sign (negsuc n) = plain (bytes "-") refl
+plain-sign (negsuc n) = past-plain (bytes "-") refl
 
 plain-kilograms : (g : ℤ) → Plain (kilogramsOf g)
 unfolding kilogramsOf thousandthsOf
 plain-kilograms g =
     plain-append (plain-sign g)
-    (plain-append (plain-append (plain-whole (natAbs g / 1000)) (plain (bytes ".") refl)) (plain-lowest 3 (natAbs g)))
+    (plain-append (plain-append (plain-whole (natAbs g / 1000)) (past-plain (bytes ".") refl)) (plain-lowest 3 (natAbs g)))
 
 -- the section of a name and the name itself; every one that a kind lists, and every total, computed
 abbrev plainName : String → Bool
@@ -75,7 +75,7 @@ listing-reads l k f ok =
     lines (λ (n : String). fieldsOf (text l) (moduleOf k n) (bytes n) (figure n f)) (herdLine (text l) k f) plainName
     (λ n e. let p = both-true (allPast (bytes (sectionOf n))) (allPast (bytes n)) e in
     line (text l) (moduleOf k n) (bytes n) (figure n f) (label-field (text l) (good-bytes l ok))
-    (plain-append (plain-append (plain-path k) (plain (bytes "::") refl)) (plain _ (p .0))) (plain _ (p .1)))
+    (plain-append (plain-append (plain-path k) (past-plain (bytes "::") refl)) (past-plain _ (p .0))) (past-plain _ (p .1)))
     (linesOf k) (names-plain k)
 
 -- the totals' listing
@@ -84,5 +84,5 @@ unfolding totalsListing
 totals-read t =
     lines (λ (n : String). fieldsOf [] (bytes totalPath) (bytes n) (total n t)) (totalLine t)
     (λ (n : String). allPast (bytes n))
-    (λ n e. line [] (bytes totalPath) (bytes n) (total n t) (label-field [] refl) (plain _ refl) (plain _ e))
+    (λ n e. line [] (bytes totalPath) (bytes n) (total n t) (label-field [] refl) (past-plain _ refl) (past-plain _ e))
     totalTexts totals-plain

@@ -17,7 +17,7 @@ use Rattle.kilogram_text.proofs.Signs.{sign-short}
 use Rattle.amounts.specs.Arithmetic.{cutting}
 use Rattle.outputs.specs.Sections.{FiguresIn}
 use Rattle.outputs.specs.Names.{texts}
-use Rattle.outputs.specs.Grams.{at, gramsOf, To}
+use Rattle.outputs.specs.Grams.{gramsAt, gramsOf, GramsTo}
 use Rattle.herd.proofs.Bounds.{most}
 use Rattle.listing_room.specs.Bounds.{longestAmount, nothing, among, amountRooms}
 use Rattle.listing_room.proofs.Lengths.{Short}
@@ -45,7 +45,7 @@ data Shorts : List ℕ → List ℤ → Type 0 where
   next : {w : ℕ} {ws : List ℕ} {z : ℤ} {g : List ℤ} → length (kilogramsOf z) ≤ w → Shorts ws g
       → Shorts (w ∷ ws) (z ∷ g)
 
-short-at : {ws : List ℕ} {g : List ℤ} → Shorts ws g → (n : ℕ) → length (kilogramsOf (at g n)) ≤ getD ws n nothing
+short-at : {ws : List ℕ} {g : List ℤ} → Shorts ws g → (n : ℕ) → length (kilogramsOf (gramsAt g n)) ≤ getD ws n nothing
 unfolding kilogramsOf sign thousandthsOf wholeOf width
 short-at end n = leb→le _ _ tt
 short-at (next h s) zero = h
@@ -72,7 +72,7 @@ module _ (without : List String) where
       → length (kilogramsOf (pick (among without t) (pos 0) z)) ≤ pick (among without t) nothing (longestAmount + 1)
   rest t z h = none-short (among without t) z (rest-short z h)
 
-  shorts : (f : FiguresIn cutting) → To most (gramsOf f)
+  shorts : (f : FiguresIn cutting) → GramsTo most (gramsOf f)
       → Shorts (amountRooms without) (blank without texts (gramsOf f))
   shorts f to =
       next (amount "n_excretion" (to .most 0))
@@ -107,7 +107,7 @@ module _ (without : List String) where
       (next (amount "no_nliquid" (to .most 29))
       (next (amount "n2o_nliquid" (to .most 30)) end))))))))))))))))))))))))))))))
 
-pub amounts-short : {without : List String} {f : FiguresIn cutting} → HasNothing without f → To most (gramsOf f)
+pub amounts-short : {without : List String} {f : FiguresIn cutting} → HasNothing without f → GramsTo most (gramsOf f)
     → Short without (gramsOf f)
 amounts-short {without} {f} none to =
     record { amount = short-at (subst (Shorts (amountRooms without)) (none .is-blank) (shorts without f to)) }

@@ -24,7 +24,7 @@ use Rattle.housing.specs.Housing.{HousingIn, throughDoor, noFactors}
 use Rattle.pig_house.specs.PigHouse.{PigFactorsIn, ScrubbedIn, throughPigHouse, inFractions, nh3InPigHouse}
 use Rattle.pig_house.specs.PigHouse.{«tan_air_scrubber»}
 use Rattle.pig_house.specs.NxOx.{nxOx}
-use Rattle.typed.specs.Typed.{cattleOf, pigsOf, typedAs}
+use Rattle.typed_inputs.specs.Typed.{cattleOf, pigsOf, typedAs}
 use Rattle.outputs.specs.Sections.{FiguresIn}
 use Rattle.herd.specs.Herd.{ofCattle, ofPigs, figuresIn}
 use Rattle.listing_room.specs.Bounds.{noN2, outdoors, onSlurry, onLitter}

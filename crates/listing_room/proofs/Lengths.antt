@@ -15,7 +15,7 @@ use Rattle.inputs.specs.declared.Kind.the-variants.{Roughage, Cattle, Pigs, Dai
 use Rattle.outputs.specs.declared.Figures.{Figures}
 use Rattle.outputs.specs.declared.Totals.{Totals}
 use Rattle.outputs.specs.Names.{number, totalNumber, totalTexts}
-use Rattle.outputs.specs.Grams.{at}
+use Rattle.outputs.specs.Grams.{gramsAt}
 use Rattle.line_parts.specs.Bounds.{longestLabel, longestField}
 use Rattle.line_parts.specs.Fields.{hasComma, labelField, each}
 use Rattle.line_parts.proofs.Lengths.{field-length, sumOf, each-fits}
@@ -44,7 +44,7 @@ module _ {A : Type 0} (f : A → List ℕ) (room : A → ℕ) where
 
 -- no amount is longer than its name has room for
 pub record Short (without : List String) (g : List ℤ) : Type 0 where
-  pub amount : (n : ℕ) → length (kilogramsOf (at g n)) ≤ getD (amountRooms without) n nothing
+  pub amount : (n : ℕ) → length (kilogramsOf (gramsAt g n)) ≤ getD (amountRooms without) n nothing
 
 abbrev lineRoom : List String → Kind → String → ℕ
 lineRoom without k n =
@@ -75,13 +75,13 @@ module _ (label : List ℕ) (k : Kind) (f : Figures) (h : length label ≤ longe
     where
       fits : (n : String) → length (herdLine label k f n) ≤ lineRoom without k n
       fits n =
-          let g = at (f .grams) (number n) in
+          let g = gramsAt (f .grams) (number n) in
           omega (arith, line-length label (moduleOf k n) (bytes n) g, field-length label, s .amount (number n))
 
 -- ---- the totals
 
 pub record TotalsShort (g : List ℤ) : Type 0 where
-  pub amount : (n : ℕ) → length (kilogramsOf (at g n)) ≤ totalRoom
+  pub amount : (n : ℕ) → length (kilogramsOf (gramsAt g n)) ≤ totalRoom
 
 abbrev totalLineRoom : String → ℕ
 totalLineRoom n = length (bytes totalPath) + length (bytes n) + totalRoom + 5
@@ -95,5 +95,5 @@ totals-short t s = le-trans (each-fits (totalLine t) totalLineRoom fits totalTex
   where
     fits : (n : String) → length (totalLine t n) ≤ totalLineRoom n
     fits n =
-        let g = at (t .grams) (totalNumber n) in
+        let g = gramsAt (t .grams) (totalNumber n) in
         omega (arith, line-length [] (bytes totalPath) (bytes n) g, s .amount (totalNumber n))

@@ -13,8 +13,8 @@ use lib.IntN.{ℤ, pos, natAbs, _+ℤ_}
 use Rattle.base.specs.Each.{Each, none, more}
 use Rattle.base.proofs.Each.{each-of, each-map}
 use Rattle.base.proofs.Runs.{all-getD}
-use Rattle.cut.specs.Total.{addUp, signedTotal}
-use Rattle.cut.proofs.Signed.{abs-add}
+use Rattle.cut_division.specs.Total.{addUp, signedTotal}
+use Rattle.cut_division.proofs.Signed.{abs-add}
 use Rattle.kilogram_text.specs.Kilograms.{kilogramsOf}
 use Rattle.kilogram_text.proofs.Lengths.{kilograms-within}
 use Rattle.kilogram_text.proofs.Signs.{sign-short}
@@ -27,11 +27,11 @@ use Rattle.farm.specs.Limits.{herdsMost}
 use Rattle.farm.specs.Labels.{text}
 use Rattle.checks.specs.Checks.{checkHerd, checkFarm, herdsOf}
 use Rattle.checks.proofs.Accepts.{accepted-herd, farm-count, farm-each}
-use Rattle.typed.specs.Typed.{typedAs, typedOf}
-use Rattle.typed.proofs.Sound.{typed-sound}
+use Rattle.typed_inputs.specs.Typed.{typedAs, typedOf}
+use Rattle.typed_inputs.proofs.Sound.{typed-sound}
 use Rattle.outputs.specs.declared.Figures.{Figures}
 use Rattle.outputs.specs.Names.{totals, addends}
-use Rattle.outputs.specs.Grams.{at, farmTotal, totalsOf, To}
+use Rattle.outputs.specs.Grams.{gramsAt, farmTotal, totalsOf, GramsTo}
 use Rattle.outputs.proofs.ByNumber.{by-number-at, by-number-past}
 use Rattle.herd.specs.Herd.{figuresOf}
 use Rattle.herd.proofs.Made.{made}
@@ -73,36 +73,36 @@ sum-most f k t (more {a} h hs) = let r = sum-most f k (t +ℤ f a) hs in omega (
 few : (t : ℕ) → length (getD addends t []) ≤ 3
 few t = leb→le _ _ (all-getD (λ (l : List ℕ). leb (length l) 3) addends tt [] tt t)
 
-module _ (l : List Figures) (room : length l ≤ herdsMost) (to : Each (λ (f : Figures). To most (f .grams)) l) where
-  figure-most : (n : ℕ) → natAbs (signedTotal (λ (f : Figures). at (f .grams) n) l) ≤ most * herdsMost
+module _ (l : List Figures) (room : length l ≤ herdsMost) (to : Each (λ (f : Figures). GramsTo most (f .grams)) l) where
+  figure-most : (n : ℕ) → natAbs (signedTotal (λ (f : Figures). gramsAt (f .grams) n) l) ≤ most * herdsMost
   figure-most n =
-      omega (arith, sum-most (λ (f : Figures). at (f .grams) n) most (pos 0) (each-map (λ f t. t .most n) to))
+      omega (arith, sum-most (λ (f : Figures). gramsAt (f .grams) n) most (pos 0) (each-map (λ f t. t .most n) to))
 
   total-most : (t : ℕ) → natAbs (farmTotal l t) ≤ most * herdsMost * 3
   unfolding farmTotal
   total-most t =
       let figures = each-of figure-most (getD addends t []) in
-      let sums = sum-most (λ n. signedTotal (λ (f : Figures). at (f .grams) n) l) (most * herdsMost) (pos 0) figures in
+      let sums = sum-most (λ n. signedTotal (λ (f : Figures). gramsAt (f .grams) n) l) (most * herdsMost) (pos 0) figures in
       omega (arith, few t, sums)
 
-  totals-most : (n : ℕ) → natAbs (at (totalsOf l .grams) n) ≤ most * herdsMost * 3
+  totals-most : (n : ℕ) → natAbs (gramsAt (totalsOf l .grams) n) ≤ most * herdsMost * 3
   unfolding totalsOf
   totals-most n = go (ltb n (length totals)) refl
     where
-      go : (t : Bool) → ltb n (length totals) ≡ t → natAbs (at (totalsOf l .grams) n) ≤ most * herdsMost * 3
+      go : (t : Bool) → ltb n (length totals) ≡ t → natAbs (gramsAt (totalsOf l .grams) n) ≤ most * herdsMost * 3
       go true e = rw (by-number-at (farmTotal l) (length totals) n (ltb-true n (length totals) e)) (total-most n)
       go false e = rw (by-number-past (farmTotal l) (length totals) n (ltb-false n (length totals) e)) (omega arith)
 
   totals-amounts : TotalsShort (totalsOf l .grams)
   totals-amounts = record { amount = λ n. short n }
     where
-      short : (n : ℕ) → length (kilogramsOf (at (totalsOf l .grams) n)) ≤ totalRoom
+      short : (n : ℕ) → length (kilogramsOf (gramsAt (totalsOf l .grams) n)) ≤ totalRoom
       short n =
-          let z = at (totalsOf l .grams) n in
+          let z = gramsAt (totalsOf l .grams) n in
           omega (arith, kilograms-within 8 z (omega (arith, totals-most n)), sign-short z)
 
 herds-most : {l : List Herd} → Each (λ h. checkHerd h ≡ Accepted) l
-    → Each (λ (f : Figures). To most (f .grams)) (map herdFigures l)
+    → Each (λ (f : Figures). GramsTo most (f .grams)) (map herdFigures l)
 herds-most none = none
 herds-most (more {a} p ps) = more (figures-to (typedOf a) (typed-sound a p)) (herds-most ps)
 

@@ -10,8 +10,8 @@ use lib.ListN.{length, take, drop, length-append, length-drop}
 use borrow.Author.Tests.{le-leb, lt-leb}
 use Rattle.base.specs.Pick.{pick}
 use Rattle.base.specs.Wrote.{Wrote}
-use Rattle.base.proofs.Writes.{joined, front, kept}
-use Rattle.farm.specs.declared.Fault.the-variants.{BufferTooShort}
+use Rattle.base.proofs.Writes.{wrote-append, wrote-in-front, wrote-keeps-length}
+use Rattle.farm.specs.declared.Refusal.the-variants.{BufferTooShort}
 use Rattle.mend.specs.declared.Answer.the-variants.{Mended, Refused}
 use Rattle.spreadsheet.specs.Faults.{marked}
 use Rattle.spreadsheet.specs.Mended.{entries, mendedFrom, changesFrom, textStart, markChange, mendedOf, changesOf}
@@ -59,7 +59,7 @@ module _ (s : List ℕ) (m : Bool) (em : m ≡ marked s) (f : ℕ) (ef : f ≡ t
 
         pub list-fits : (mid : List ℕ) (at : ℕ) → Wrote list 0 (entries (markChange m)) mid at
             → at + length (entries (changesFrom (take f s) (drop f s))) ≤ length mid
-        list-fits mid at w = omega (arith, w .past, both-long, kept w)
+        list-fits mid at w = omega (arith, w .past, both-long, wrote-keeps-length w)
 
       module _ (out list : List ℕ) where
         -- ---- how it ends
@@ -90,9 +90,9 @@ module _ (s : List ℕ) (m : Bool) (em : m ≡ marked s) (f : ℕ) (ef : f ≡ t
             let e2 : leb (length (entries (changesOf s))) (length list)
             ≡ true = le-leb (length (entries (changesOf s))) (length list) (omega (arith, list-long)) in
             record {
-              file = rw (e1, e2) (front w (text-fits out h) ∙ ap (λ (l : List ℕ). over l out) text-is);
+              file = rw (e1, e2) (wrote-in-front w (text-fits out h) ∙ ap (λ (l : List ℕ). over l out) text-is);
               changes = rw (e1, e2)
-                  (front (joined w1 w2) (omega (arith, list-long, ap length list-is))
+                  (wrote-in-front (wrote-append w1 w2) (omega (arith, list-long, ap length list-is))
                   ∙ ap (λ (l : List ℕ). over l list) list-is);
               answer = rw (e1, e2) (ap₂ Mended mended-long (change-many s m em f ef n en k ek));
             }

@@ -10,7 +10,7 @@ use borrow.Author.Tests.{leb-true}
 use Rattle.base.specs.Pick.{pick}
 use Rattle.base.proofs.Clash.{clash}
 use Rattle.base.proofs.Holds.{both-true}
-use Rattle.farm.specs.declared.Fault.the-variants.{BufferTooShort}
+use Rattle.farm.specs.declared.Refusal.the-variants.{BufferTooShort}
 use Rattle.mend.specs.declared.Answer.{Answer}
 use Rattle.mend.specs.declared.Answer.the-variants.{Mended, Refused}
 use Rattle.spreadsheet.specs.Mended.{entries, mendedOf, changesOf}

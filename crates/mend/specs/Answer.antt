@@ -7,7 +7,7 @@ use mathlib.Core.List.{List, _++_}
 use lib.Dec.{leb}
 use lib.ListN.{length, drop}
 use Rattle.base.specs.Pick.{pick}
-use Rattle.farm.specs.declared.Fault.the-variants.{BufferTooShort}
+use Rattle.farm.specs.declared.Refusal.the-variants.{BufferTooShort}
 use Rattle.mend.specs.declared.Answer.{Answer}
 use Rattle.mend.specs.declared.Answer.the-variants.{Mended, Refused}
 use Rattle.spreadsheet.specs.Mended.{entries, mendedOf, changesOf}

@@ -38,7 +38,7 @@ pub fn put_text(s: &[u8], from: usize, out: &mut [u8]) -> usize
     while i < s.len() {
         let b = s[i];
         at = put_mended(out, at, b, passed.bare(b));
-        passed = passed.and(b);
+        passed = passed.with_byte(b);
         i += 1;
     }
     at
@@ -82,7 +82,7 @@ pub fn put_changes(s: &[u8], from: usize, list: &mut [usize], start: usize) -> u
     while i < s.len() {
         let b = s[i];
         at = put_change(list, at, i, passed.bare(b));
-        passed = passed.and(b);
+        passed = passed.with_byte(b);
         i += 1;
     }
     at

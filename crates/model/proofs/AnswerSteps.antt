@@ -6,10 +6,10 @@ use mathlib.Core.List.{List, [], map}
 use native.Mathlib.Omega.{arith}
 use lib.ListN.{length, getD, drop}
 use lib.IntN.{ℤ}
-use Rattle.cut.specs.Total.{addUp}
+use Rattle.cut_division.specs.Total.{addUp}
 use Rattle.farm.specs.declared.Herd.{Herd}
 use Rattle.farm.specs.declared.Farm.{Farm}
-use Rattle.farm.specs.declared.Fault.{Fault}
+use Rattle.farm.specs.declared.Refusal.{Refusal}
 use Rattle.farm.specs.declared.Checked.{Checked}
 use Rattle.farm.specs.declared.Checked.the-variants.{Accepted, Refused}
 use Rattle.checks.specs.Checks.{checkHerd, checkFarm, herdsOf}
@@ -19,11 +19,11 @@ use Rattle.kinds.specs.declared.Inputs.{Inputs}
 use Rattle.kinds.specs.Sound.{Sound}
 use Rattle.notes.specs.declared.Notes.{Notes}
 use Rattle.notes.specs.Notes.{notesOf, noNotes}
-use Rattle.typed.specs.Typed.{typedOf}
-use Rattle.typed.proofs.Sound.{typed-sound, herd-sound}
+use Rattle.typed_inputs.specs.Typed.{typedOf}
+use Rattle.typed_inputs.proofs.Sound.{typed-sound, herd-sound}
 use Rattle.outputs.specs.declared.Figures.{Figures}
 use Rattle.outputs.specs.declared.Totals.{Totals}
-use Rattle.outputs.specs.Grams.{To, figureMost, plusGrams, zeros, noFigures, summed, totalGrams, totalsOf}
+use Rattle.outputs.specs.Grams.{GramsTo, figureMost, plusGrams, zeros, noFigures, summed, totalGrams, totalsOf}
 use Rattle.outputs.proofs.Adding.{plus-to, widen, zeros-to, totals-of-sum}
 use Rattle.cuts.specs.declared.Cuts.{Cuts}
 use Rattle.cuts.specs.Cuts.{noCuts}
@@ -50,7 +50,7 @@ module _ (h : Herd) (k : Checked) (q : k ≡ checkHerd h) where
   accepted-sound i t e = rw e (typed-sound h (sym q ∙ t))
 
   pub accepted-exact : (i : Inputs) (f : Figures) → k ≡ Accepted → i ≡ typedOf h → f ≡ figuresOf i
-      → To exactMost (f .grams)
+      → GramsTo exactMost (f .grams)
   accepted-exact i f t e ef = rw ef (figures-exact i (accepted-sound i t e))
 
   pub is-herd-answer : (i : Inputs) (f : Figures) (kg : Kilograms) (n : Notes) (c : Cuts) → k ≡ Accepted
@@ -59,13 +59,13 @@ module _ (h : Herd) (k : Checked) (q : k ≡ checkHerd h) where
   unfolding herdAnswer
   is-herd-answer i f kg n c t e ef ek en ec = rw (← q, t, ek, ef, en, ec, e)
 
-  pub is-herd-refusal : (fault : Fault) (at-record : ℕ) (f : Figures) (kg : Kilograms) (n : Notes) (c : Cuts)
-      → k ≡ Refused fault at-record → f .grams ≡ zeros → kg ≡ kilogramsOf f → n ≡ noNotes → c ≡ noCuts
-      → record { checked = Refused fault at-record; figures = f; kilograms = kg; notes = n; cuts = c } ≡ herdAnswer h
+  pub is-herd-refusal : (refusal : Refusal) (at-record : ℕ) (f : Figures) (kg : Kilograms) (n : Notes) (c : Cuts)
+      → k ≡ Refused refusal at-record → f .grams ≡ zeros → kg ≡ kilogramsOf f → n ≡ noNotes → c ≡ noCuts
+      → record { checked = Refused refusal at-record; figures = f; kilograms = kg; notes = n; cuts = c } ≡ herdAnswer h
   unfolding herdAnswer
-  is-herd-refusal fault at-record f kg n c t ef ek en ec = rw (← q, t, ek, no-grams f ef, en, ec)
+  is-herd-refusal refusal at-record f kg n c t ef ek en ec = rw (← q, t, ek, no-grams f ef, en, ec)
 
-pub zeros-exact : (f : Figures) → f .grams ≡ zeros → To exactMost (f .grams)
+pub zeros-exact : (f : Figures) → f .grams ≡ zeros → GramsTo exactMost (f .grams)
 zeros-exact f e = rw e (zeros-to exactMost)
 
 pub ruleset herd-answers = (accepted-sound, accepted-exact, is-herd-answer, is-herd-refusal, zeros-exact)
@@ -77,11 +77,11 @@ pub record Adding (f : Farm) (i : ℕ) (sum : Figures) : Type 0 where
   pub within : i ≤ f .count
   pub left : addUp plusGrams (λ h. herdFigures h .grams) (sum .grams) (drop i (herdsOf f))
       ≡ summed herdFigures (herdsOf f)
-  pub small : To (i * most) (sum .grams)
+  pub small : GramsTo (i * most) (sum .grams)
 
 -- the figures g of the next herd may be added, and then those of i + 1 herds were
 pub record Turned (f : Farm) (i : ℕ) (sum g : Figures) : Type 0 where
-  pub asks : To figureMost (sum .grams) × To figureMost (g .grams)
+  pub asks : GramsTo figureMost (sum .grams) × GramsTo figureMost (g .grams)
   pub next : (r : Figures) → r .grams ≡ plusGrams (sum .grams) (g .grams) → Adding f (i + 1) r
 
 module _ (f : Farm) (accepted : checkFarm f ≡ Accepted) where
@@ -105,7 +105,7 @@ module _ (f : Farm) (accepted : checkFarm f ≡ Accepted) where
       pub turned : (g : Figures) → g ≡ figuresOf t → Turned f i sum g
       turned g eg =
           let j : i < length (f .herds) = omega arith in
-          let s : To most (g .grams) = rw eg (figures-to t next-sound) in
+          let s : GramsTo most (g .grams) = rw eg (figures-to t next-sound) in
           record {
             asks = (widen (i * most) figureMost (inv .small) (omega arith), widen most figureMost s (omega arith));
             next = λ r er. record {
@@ -126,7 +126,7 @@ no-totals : (sum : Figures) (t : Totals) → sum .grams ≡ zeros → t .grams �
 no-totals sum t es et = totals-of-sum herdFigures [] t (et ∙ ap totalGrams es)
 
 pub zero-totals-exact : (sum : Figures) (t : Totals) → sum .grams ≡ zeros → t .grams ≡ totalGrams (sum .grams)
-    → To exactMost (t .grams)
+    → GramsTo exactMost (t .grams)
 zero-totals-exact sum t es et = rw (no-totals sum t es et) no-totals-exact
 
 module _ (f : Farm) (k : Checked) (q : k ≡ checkFarm f) where
@@ -139,7 +139,7 @@ module _ (f : Farm) (k : Checked) (q : k ≡ checkFarm f) where
   added-totals sum t a et = totals-of-sum herdFigures (herdsOf f) t (et ∙ ap totalGrams (a .is))
 
   pub accepted-totals-exact : (sum : Figures) (t : Totals) → k ≡ Accepted → Added f sum
-      → t .grams ≡ totalGrams (sum .grams) → To exactMost (t .grams)
+      → t .grams ≡ totalGrams (sum .grams) → GramsTo exactMost (t .grams)
   accepted-totals-exact sum t e a et = rw (added-totals sum t a et) (totals-exact f (accepted-farm e))
 
   pub is-farm-answer : (sum : Figures) (t : Totals) (kg : TotalKilograms) → k ≡ Accepted → Added f sum
@@ -148,17 +148,17 @@ module _ (f : Farm) (k : Checked) (q : k ≡ checkFarm f) where
   unfolding farmAnswer
   is-farm-answer sum t kg e a et ek = rw (← q, e, ek, added-totals sum t a et)
 
-  pub is-farm-refusal : (fault : Fault) (at-record : ℕ) (sum : Figures) (t : Totals) (kg : TotalKilograms)
-      → k ≡ Refused fault at-record → sum .grams ≡ zeros → t .grams ≡ totalGrams (sum .grams)
+  pub is-farm-refusal : (refusal : Refusal) (at-record : ℕ) (sum : Figures) (t : Totals) (kg : TotalKilograms)
+      → k ≡ Refused refusal at-record → sum .grams ≡ zeros → t .grams ≡ totalGrams (sum .grams)
       → kg ≡ totalKilogramsOf t
-      → record { checked = Refused fault at-record; totals = t; kilograms = kg } ≡ farmAnswer f
+      → record { checked = Refused refusal at-record; totals = t; kilograms = kg } ≡ farmAnswer f
   unfolding farmAnswer
-  is-farm-refusal fault at-record sum t kg e es et ek = rw (← q, e, ek, no-totals sum t es et)
+  is-farm-refusal refusal at-record sum t kg e es et ek = rw (← q, e, ek, no-totals sum t es et)
 
-pub added-small : (f : Farm) (sum : Figures) → Added f sum → To figureMost (sum .grams)
+pub added-small : (f : Farm) (sum : Figures) → Added f sum → GramsTo figureMost (sum .grams)
 added-small f sum a = a .small
 
-pub zeros-small : (sum : Figures) → sum .grams ≡ zeros → To figureMost (sum .grams)
+pub zeros-small : (sum : Figures) → sum .grams ≡ zeros → GramsTo figureMost (sum .grams)
 zeros-small sum e = rw e (zeros-to figureMost)
 
 pub ruleset farm-answers =

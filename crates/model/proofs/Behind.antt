@@ -21,8 +21,8 @@ use Rattle.checks.specs.Checks.{checkHerd}
 use Rattle.kinds.specs.declared.CattleKind.{CattleKind}
 use Rattle.kinds.specs.declared.CattleKind.the-variants.{OtherCattle, DairyCow}
 use Rattle.kinds.specs.declared.Inputs.the-variants as typed
-use Rattle.typed.specs.Typed.{givenAt, roughageOf, outdoorOf, cattleOf, pigsOf, typedAs, typedOf}
-use Rattle.typed.proofs.Fields.{in-slots}
+use Rattle.typed_inputs.specs.Typed.{givenAt, roughageOf, outdoorOf, cattleOf, pigsOf, typedAs, typedOf}
+use Rattle.typed_inputs.proofs.Fields.{in-slots}
 use Rattle.model.specs.Answers.{answerHerd, herdAnswer}
 use Rattle.model.specs.Truths.{SameInFront}
 
@@ -119,7 +119,7 @@ module _ (h g : Herd) (same : SameInFront h g) where
 
   answers : (c : Checked) → answerHerd c g ≡ answerHerd c h
   answers Accepted = rw same-inputs
-  answers (Refused fault at) = refl
+  answers (Refused refusal at) = refl
 
   pub slots-behind : herdAnswer g ≡ herdAnswer h
   unfolding herdAnswer

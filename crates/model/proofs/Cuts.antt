@@ -9,10 +9,10 @@ use lib.IntN.{pos}
 use Rattle.base.specs.Each.{Each}
 use Rattle.amounts.specs.Collecting.{Division, _isOneOf_}
 use Rattle.farm.specs.declared.Herd.{Herd}
-use Rattle.farm.specs.declared.Fault.{Fault}
+use Rattle.farm.specs.declared.Refusal.{Refusal}
 use Rattle.farm.specs.declared.Checked.the-variants.{Accepted, Refused}
 use Rattle.checks.specs.Checks.{checkHerd}
-use Rattle.typed.specs.Typed.{typedOf}
+use Rattle.typed_inputs.specs.Typed.{typedOf}
 use Rattle.outputs.specs.Grams.{figure}
 use Rattle.cuts.specs.Cuts.{divisorOf, namesMade, noCuts}
 use Rattle.cuts.specs.Herd.{madeNames, quotientUnder, AddsUp}
@@ -58,6 +58,6 @@ module _ (h : Herd) (accepted : checkHerd h ≡ Accepted) where
   herd-cuts-in-units = rw accepted (cuts-in-units (typedOf h))
 
 -- a refused herd has none
-pub refused-no-cuts : (h : Herd) (fault : Fault) (n : ℕ) → checkHerd h ≡ Refused fault n → herdAnswer h .cuts ≡ noCuts
+pub refused-no-cuts : (h : Herd) (refusal : Refusal) (n : ℕ) → checkHerd h ≡ Refused refusal n → herdAnswer h .cuts ≡ noCuts
 unfolding herdAnswer
-refused-no-cuts h fault n e = rw e
+refused-no-cuts h refusal n e = rw e

@@ -14,7 +14,7 @@ use Rattle.base.specs.Runs.{all}
 use Rattle.base.specs.Each.{Each, none, more}
 use Rattle.base.proofs.Each.{each-tail, each-front, each-map}
 use Rattle.base.proofs.Table.{both-left, both-right}
-use Rattle.cut.specs.Total.{signedTotal}
+use Rattle.cut_division.specs.Total.{signedTotal}
 use Rattle.inputs.specs.declared.Kind.the-variants as kinds
 use Rattle.farm.specs.declared.Herd.{Herd}
 use Rattle.farm.specs.declared.Farm.{Farm}
@@ -22,7 +22,7 @@ use Rattle.farm.specs.declared.Checked.the-variants.{Accepted}
 use Rattle.checks.specs.Checks.{checkHerd, checkFarm, herdsOf}
 use Rattle.checks.proofs.Accepts.{farm-each}
 use Rattle.amounts.specs.Arithmetic.{cutting}
-use Rattle.amounts.specs.Bounds.{Modest}
+use Rattle.amounts.specs.Bounds.{WithinMostN}
 use Rattle.kinds.specs.declared.Roughage.{Roughage}
 use Rattle.kinds.specs.declared.Pigs.{Pigs}
 use Rattle.kinds.specs.declared.Inputs.{Inputs}
@@ -45,8 +45,8 @@ use Rattle.pasture.proofs.Into.{
 }
 use Rattle.housing.proofs.InHousing.{housing-keeps-n, housing-keeps-tan}
 use Rattle.pig_house.proofs.Through.{pig-house-keeps-n, pig-house-keeps-tan}
-use Rattle.typed.specs.Typed.{roughageOf, pigsOf, typedOf}
-use Rattle.typed.proofs.Sound.{typed-sound}
+use Rattle.typed_inputs.specs.Typed.{roughageOf, pigsOf, typedOf}
+use Rattle.typed_inputs.proofs.Sound.{typed-sound}
 use Rattle.outputs.specs.declared.Figures.{Figures}
 use Rattle.outputs.specs.Sections.{FiguresIn}
 use Rattle.outputs.specs.Grams.{gramsOf, figure, total, totalsOf}
@@ -144,16 +144,16 @@ made-keeps (of-pigs p e s m) =
     (pasture-keeps-tan pigsRates (pigsIntoGrazing cutting t n) (pigsIntoGrazing cutting t tan))
     refl refl
 
-pub kept : (i : Inputs) → Sound i → Keeps (figuresOf i)
+pub figures-kept : (i : Inputs) → Sound i → Keeps (figuresOf i)
 unfolding figuresOf
-kept i s = made-keeps (made s)
+figures-kept i s = made-keeps (made s)
 
 pub kept-by-herd : (h : Herd) → checkHerd h ≡ Accepted → Keeps (herdFigures h)
-kept-by-herd h e = kept (typedOf h) (typed-sound h e)
+kept-by-herd h e = figures-kept (typedOf h) (typed-sound h e)
 
 -- the housing of roughage-consuming animals
 housing-keeps : (r : Roughage) (e : ExcretionIn cutting) → SoundRoughage r
-    → Modest (e .«n_excretion») (e .«tan_excretion») → KeepsHousing (herdOf (roughageOn cutting r e))
+    → WithinMostN (e .«n_excretion») (e .«tan_excretion») → KeepsHousing (herdOf (roughageOn cutting r e))
 housing-keeps r e s m =
     let n = e .«n_excretion» in
     let tan = e .«tan_excretion» in
@@ -170,7 +170,7 @@ pub kept-in-housing : (h : Herd) → checkHerd h ≡ Accepted → h .kind ≡ ki
 kept-in-housing h e k = rw (typed-roughage h k) (roughage-keeps (roughageOf h) (roughage-sound h e k))
 
 -- the house of pigs
-pig-house-keeps : (p : Pigs) (e : ExcretionIn cutting) → Modest (e .«n_excretion») (e .«tan_excretion»)
+pig-house-keeps : (p : Pigs) (e : ExcretionIn cutting) → WithinMostN (e .«n_excretion») (e .«tan_excretion»)
     → KeepsPigHouse (herdOf (pigsOn cutting p e))
 pig-house-keeps p e m =
     let t = p .«housing_type» in

@@ -8,14 +8,14 @@ use native.Mathlib.Omega.{arith}
 use lib.IntN.{ℤ, pos, negsuc, natAbs}
 use Rattle.farm.specs.declared.Herd.{Herd}
 use Rattle.farm.specs.declared.Farm.{Farm}
-use Rattle.farm.specs.declared.Fault.{Fault}
+use Rattle.farm.specs.declared.Refusal.{Refusal}
 use Rattle.farm.specs.declared.Checked.{Checked}
 use Rattle.farm.specs.declared.Checked.the-variants.{Accepted, Refused}
 use Rattle.checks.specs.Checks.{checkHerd, checkFarm}
-use Rattle.typed.specs.Typed.{typedOf}
-use Rattle.typed.proofs.Sound.{typed-sound}
+use Rattle.typed_inputs.specs.Typed.{typedOf}
+use Rattle.typed_inputs.proofs.Sound.{typed-sound}
 use Rattle.outputs.specs.Names.{number, totalNumber}
-use Rattle.outputs.specs.Grams.{at, figure, total, zeros, noFigures, totalsOf, To}
+use Rattle.outputs.specs.Grams.{gramsAt, figure, total, zeros, noFigures, totalsOf, GramsTo}
 use Rattle.outputs.proofs.Adding.{zeros-to}
 use Rattle.kilograms.specs.Kilograms.{exactMost, plusZero, figureInKilograms, totalInKilograms}
 use Rattle.kilograms.specs.Promised.{Promised}
@@ -24,8 +24,8 @@ use Rattle.model.specs.Answers.{herdFigures, answerHerd, herdAnswer, ans
 use Rattle.model.proofs.Exact.{figures-exact, totals-exact, no-totals-small, no-totals-exact}
 
 -- grams of which none is larger than 0
-none-larger : {g : List ℤ} → To 0 g → (n : ℕ) → at g n ≡ pos 0
-none-larger {g} to n = no-size (at g n) (to .most n)
+none-larger : {g : List ℤ} → GramsTo 0 g → (n : ℕ) → gramsAt g n ≡ pos 0
+none-larger {g} to n = no-size (gramsAt g n) (to .most n)
   where
     no-size : (z : ℤ) → natAbs z ≤ 0 → z ≡ pos 0
     no-size (pos zero) h = refl
@@ -42,13 +42,13 @@ herd-kilograms h t = go (checkHerd h) refl
     go : (c : Checked) → checkHerd h ≡ c
         → Promised (figure t (answerHerd c h .figures)) (figureInKilograms t (answerHerd c h .kilograms))
     go Accepted e = figures-promised (herdFigures h) (figures-exact (typedOf h) (typed-sound h e)) t
-    go (Refused fault n) e = figures-promised noFigures (zeros-to exactMost) t
+    go (Refused refusal n) e = figures-promised noFigures (zeros-to exactMost) t
 
 -- a refused herd has +0 under every name
-pub refused-herd-plus-zero : (h : Herd) (fault : Fault) (n : ℕ) → checkHerd h ≡ Refused fault n → (t : String)
+pub refused-herd-plus-zero : (h : Herd) (refusal : Refusal) (n : ℕ) → checkHerd h ≡ Refused refusal n → (t : String)
     → figureInKilograms t (herdAnswer h .kilograms) ≡ plusZero
 unfolding herdAnswer
-refused-herd-plus-zero h fault n e t = rw e (no-grams-plus-zero zeros (number t) (none-larger (zeros-to 0) (number t)))
+refused-herd-plus-zero h refusal n e t = rw e (no-grams-plus-zero zeros (number t) (none-larger (zeros-to 0) (number t)))
 
 -- ---- a farm
 
@@ -60,11 +60,11 @@ farm-kilograms f t = go (checkFarm f) refl
     go : (c : Checked) → checkFarm f ≡ c
         → Promised (total t (answerFarm c f .totals)) (totalInKilograms t (answerFarm c f .kilograms))
     go Accepted e = totals-promised (answerFarm Accepted f .totals) (totals-exact f e) t
-    go (Refused fault n) e = totals-promised (totalsOf []) no-totals-exact t
+    go (Refused refusal n) e = totals-promised (totalsOf []) no-totals-exact t
 
 -- a refused farm has +0 under every name
-pub refused-farm-plus-zero : (f : Farm) (fault : Fault) (n : ℕ) → checkFarm f ≡ Refused fault n → (t : String)
+pub refused-farm-plus-zero : (f : Farm) (refusal : Refusal) (n : ℕ) → checkFarm f ≡ Refused refusal n → (t : String)
     → totalInKilograms t (farmAnswer f .kilograms) ≡ plusZero
 unfolding farmAnswer
-refused-farm-plus-zero f fault n e t =
+refused-farm-plus-zero f refusal n e t =
     rw e (no-grams-plus-zero (totalsOf [] .grams) (totalNumber t) (none-larger no-totals-small (totalNumber t)))

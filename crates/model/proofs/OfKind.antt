@@ -10,8 +10,8 @@ use Rattle.kinds.specs.declared.CattleKind.the-variants.{OtherCattle, DairyCow}
 use Rattle.kinds.specs.declared.Inputs.the-variants as typed
 use Rattle.kinds.specs.Sound.{SoundRoughage, SoundCattle, SoundPigs}
 use Rattle.kinds.proofs.OfKind.{sound-roughage, sound-cattle, sound-pigs}
-use Rattle.typed.specs.Typed.{roughageOf, kindOf, cattleOf, pigsOf, typedAs, typedOf}
-use Rattle.typed.proofs.Sound.{typed-sound}
+use Rattle.typed_inputs.specs.Typed.{roughageOf, kindOf, cattleOf, pigsOf, typedAs, typedOf}
+use Rattle.typed_inputs.proofs.Sound.{typed-sound}
 
 module _ (h : Herd) where
   pub typed-roughage : h .kind ≡ kinds.Roughage → typedOf h ≡ typed.Roughage (roughageOf h)

@@ -19,7 +19,7 @@ use Rattle.farm.specs.declared.Herd.{Herd}
 use Rattle.farm.specs.declared.Farm.{Farm}
 use Rattle.farm.specs.declared.Checked.the-variants.{Accepted}
 use Rattle.checks.specs.Checks.{checkHerd, checkFarm, herdsOf}
-use Rattle.cut.proofs.Shares.{part-le}
+use Rattle.cut_division.proofs.Shares.{part-le}
 use Rattle.amounts.specs.Units.{billionths, year}
 use Rattle.amounts.specs.Arithmetic.{cutting}
 use Rattle.kinds.specs.declared.ExerciseYard.the-variants.{NotAvailable}
@@ -67,9 +67,9 @@ use Rattle.pig_house.proofs.Truths.{
   outdoor-fractions-are-empty,
   outdoors-no-gases,
 }
-use Rattle.typed.specs.Typed.{roughageOf, outdoorOf, kindOf, cattleOf, pigsOf, typedOf}
-use Rattle.typed.proofs.Fields.{in-slots}
-use Rattle.typed.proofs.Sound.{typed-sound}
+use Rattle.typed_inputs.specs.Typed.{roughageOf, outdoorOf, kindOf, cattleOf, pigsOf, typedOf}
+use Rattle.typed_inputs.proofs.Fields.{in-slots}
+use Rattle.typed_inputs.proofs.Sound.{typed-sound}
 use Rattle.outputs.specs.declared.Figures.{Figures}
 use Rattle.outputs.specs.Sections.{FiguresIn}
 use Rattle.outputs.specs.Grams.{gramsOf, figure}

@@ -8,10 +8,10 @@ use Rattle.farm.specs.declared.Checked.{Checked}
 use Rattle.farm.specs.declared.Checked.the-variants.{Accepted, Refused}
 use Rattle.checks.specs.Checks.{checkHerd, checkFarm, herdsOf}
 use Rattle.notes.specs.Notes.{notesOf, noNotes}
-use Rattle.typed.specs.Typed.{typedOf}
+use Rattle.typed_inputs.specs.Typed.{typedOf}
 use Rattle.outputs.specs.declared.Figures.{Figures}
 use Rattle.outputs.specs.declared.Totals.{Totals}
-use Rattle.outputs.specs.Grams.{noFigures, summed, totalsOf, To, figureMost}
+use Rattle.outputs.specs.Grams.{noFigures, summed, totalsOf, GramsTo, figureMost}
 use Rattle.kilograms.specs.Kilograms.{kilogramsOf, totalKilogramsOf}
 use Rattle.herd.specs.Herd.{figuresOf}
 use Rattle.cuts.specs.declared.Cuts.{Cuts}
@@ -37,9 +37,9 @@ answerHerd Accepted h =
       notes = notesOf (typedOf h);
       cuts = herdCuts h;
     }
-answerHerd (Refused fault at) h =
+answerHerd (Refused refusal at) h =
     record {
-      checked = Refused fault at;
+      checked = Refused refusal at;
       figures = noFigures;
       kilograms = kilogramsOf noFigures;
       notes = noNotes;
@@ -55,7 +55,7 @@ answerTotals c t = record { checked = c; totals = t; kilograms = totalKilogramsO
 
 abbrev pub answerFarm : Checked → Farm → FarmAnswer
 answerFarm Accepted f = answerTotals Accepted (totalsOf (map herdFigures (herdsOf f)))
-answerFarm (Refused fault at) f = answerTotals (Refused fault at) (totalsOf [])
+answerFarm (Refused refusal at) f = answerTotals (Refused refusal at) (totalsOf [])
 
 unfoldable pub farmAnswer : Farm → FarmAnswer
 farmAnswer f = answerFarm (checkFarm f) f
@@ -63,4 +63,4 @@ farmAnswer f = answerFarm (checkFarm f) f
 -- the sum of all herds' figures, and that it stays small
 pub record Added (f : Farm) (r : Figures) : Type 0 where
   pub is : r .grams ≡ summed herdFigures (herdsOf f)
-  pub small : To figureMost (r .grams)
+  pub small : GramsTo figureMost (r .grams)

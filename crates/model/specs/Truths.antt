@@ -16,7 +16,7 @@ use Rattle.kinds.specs.declared.Inputs.the-variants as typed
 use Rattle.inputs.specs.declared.Kind.the-variants.{Cattle}
 use Rattle.inputs.specs.Inputs.{rowsOf, countOf}
 use Rattle.farm.specs.declared.Herd.{Herd}
-use Rattle.typed.specs.Typed.{placeNamed, givenAt}
+use Rattle.typed_inputs.specs.Typed.{placeNamed, givenAt}
 use Rattle.pasture.specs.Pasture.{GrazingIn}
 use Rattle.housing.specs.Housing.{HousingIn, «c_grazing», «ef_nh3_nhousing», uncapped}
 use Rattle.pig_house.specs.PigHouse.{PigHouseIn}

@@ -3,8 +3,8 @@ use mathlib.Core.Path.{refl}
 use Rattle.base.specs.Part.{sameBytes}
 use Rattle.words.specs.Find.{firstFrom, isName, findText}
 use Rattle.words.proofs.Places.{Once}
-use Rattle.names.specs.declared.Names.{Names}
-use Rattle.names.specs.declared.Names.the-variants.{
+use Rattle.names.specs.declared.ValueList.{ValueList}
+use Rattle.names.specs.declared.ValueList.the-variants.{
   Categories,
   Yards,
   Floors,
@@ -15,7 +15,7 @@ use Rattle.names.specs.declared.Names.the-variants.{
 }
 use Rattle.names.specs.Names.{namesOf}
 
-pub names-once : (names : Names) → Once (namesOf names)
+pub names-once : (names : ValueList) → Once (namesOf names)
 unfolding findText firstFrom isName sameBytes
 names-once Categories = refl
 names-once Yards = refl

@@ -7,11 +7,11 @@ use Rattle.base.specs.Part.{sameBytes}
 use Rattle.words.specs.declared.Found.{Found}
 use Rattle.words.specs.Find.{firstFrom, wordsOf}
 use Rattle.words.proofs.Words.{words-found}
-use Rattle.names.specs.declared.Names.{Names}
+use Rattle.names.specs.declared.ValueList.{ValueList}
 use Rattle.names.specs.Names.{namesOf}
 use Rattle.names.specs.Find.{findName}
 
-pub find-words : (names : Names) (s : List ℕ) {list : Names} (words lengths : List ℕ) {r : Found} → names ≡ list
+pub find-words : (names : ValueList) (s : List ℕ) {list : ValueList} (words lengths : List ℕ) {r : Found} → names ≡ list
     → r ≡ firstFrom (sameBytes s) 0 (wordsOf words lengths)
     → wordsOf words lengths ≡ map bytes (namesOf list) → r ≡ findName names s
 unfolding findName

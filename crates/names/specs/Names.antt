@@ -3,8 +3,8 @@ use Prim.Native.Nat.{ℕ}
 use Prim.Native.String.{String}
 use mathlib.Core.List.{List, [], _∷_}
 use lib.ListN.{length}
-use Rattle.names.specs.declared.Names.{Names}
-use Rattle.names.specs.declared.Names.the-variants.{
+use Rattle.names.specs.declared.ValueList.{ValueList}
+use Rattle.names.specs.declared.ValueList.the-variants.{
   Categories,
   Yards,
   Floors,
@@ -59,7 +59,7 @@ housingFloors = "none" ∷ []
 abbrev pub housingAirs : List String
 housingAirs = "low_impuls_air_supply" ∷ "none" ∷ []
 
-abbrev pub namesOf : Names → List String
+abbrev pub namesOf : ValueList → List String
 namesOf Categories = categories
 namesOf Yards = yards
 namesOf Floors = floors
@@ -68,5 +68,5 @@ namesOf AirScrubbers = airScrubbers
 namesOf HousingFloors = housingFloors
 namesOf HousingAirs = housingAirs
 
-abbrev pub sizeOf : Names → ℕ
+abbrev pub sizeOf : ValueList → ℕ
 sizeOf names = length (namesOf names)

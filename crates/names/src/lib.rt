@@ -8,7 +8,7 @@ ghost use Rattle.names.specs.Find.{findName};
 
 // The lists. A new one is a list in specs/Names.antt, a variant here and its two arms: how many names it has, and its
 // names as words. A name of another length is passed by in one step.
-pub enum Names {
+pub enum ValueList {
     Categories,
     Yards,
     Floors,
@@ -19,44 +19,48 @@ pub enum Names {
 }
 
 // How many names a list has.
-pub fn size_of(names: Names) -> usize
+pub fn size_of(names: ValueList) -> usize
     ensures { λ r. ⌜ r ≡ sizeOf names ⌝ }
 {
     match names {
-        Names::Categories => lists::CATEGORIES_COUNT,
-        Names::Yards => lists::YARDS_COUNT,
-        Names::Floors => lists::FLOORS_COUNT,
-        Names::HousingTypes => lists::HOUSING_TYPES_COUNT,
-        Names::AirScrubbers => lists::AIR_SCRUBBERS_COUNT,
-        Names::HousingFloors => lists::HOUSING_FLOORS_COUNT,
-        Names::HousingAirs => lists::HOUSING_AIRS_COUNT,
+        ValueList::Categories => lists::CATEGORIES_COUNT,
+        ValueList::Yards => lists::YARDS_COUNT,
+        ValueList::Floors => lists::FLOORS_COUNT,
+        ValueList::HousingTypes => lists::HOUSING_TYPES_COUNT,
+        ValueList::AirScrubbers => lists::AIR_SCRUBBERS_COUNT,
+        ValueList::HousingFloors => lists::HOUSING_FLOORS_COUNT,
+        ValueList::HousingAirs => lists::HOUSING_AIRS_COUNT,
     }
 }
 
 // Which name of the list a text is, counted from 0.
-pub fn find_name(names: Names, text: &[u8]) -> Found
+pub fn find_name(names: ValueList, text: &[u8]) -> Found
     ensures { λ r. ⌜ r ≡ findName names (now (text .entry)) ⌝ }
 {
     match names {
-        Names::Categories => words::find_word(text, &lists::CATEGORIES, &lists::CATEGORIES_LENGTHS),
-        Names::Yards => words::find_word(text, &lists::YARDS, &lists::YARDS_LENGTHS),
-        Names::Floors => words::find_word(text, &lists::FLOORS, &lists::FLOORS_LENGTHS),
-        Names::HousingTypes => words::find_word(
+        ValueList::Categories => words::find_word(
+            text,
+            &lists::CATEGORIES,
+            &lists::CATEGORIES_LENGTHS,
+        ),
+        ValueList::Yards => words::find_word(text, &lists::YARDS, &lists::YARDS_LENGTHS),
+        ValueList::Floors => words::find_word(text, &lists::FLOORS, &lists::FLOORS_LENGTHS),
+        ValueList::HousingTypes => words::find_word(
             text,
             &lists::HOUSING_TYPES,
             &lists::HOUSING_TYPES_LENGTHS,
         ),
-        Names::AirScrubbers => words::find_word(
+        ValueList::AirScrubbers => words::find_word(
             text,
             &lists::AIR_SCRUBBERS,
             &lists::AIR_SCRUBBERS_LENGTHS,
         ),
-        Names::HousingFloors => words::find_word(
+        ValueList::HousingFloors => words::find_word(
             text,
             &lists::HOUSING_FLOORS,
             &lists::HOUSING_FLOORS_LENGTHS,
         ),
-        Names::HousingAirs => words::find_word(
+        ValueList::HousingAirs => words::find_word(
             text,
             &lists::HOUSING_AIRS,
             &lists::HOUSING_AIRS_LENGTHS,

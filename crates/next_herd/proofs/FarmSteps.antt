@@ -6,39 +6,39 @@ use mathlib.Core.Bool.{Bool, true, false}
 use mathlib.Core.List.{List}
 use borrow.Author.Tests.{eq-eqb, ne-eqb, le-leb, lt-leb}
 use Rattle.farm.specs.declared.Label.{Label}
-use Rattle.farm.specs.declared.Fault.the-variants.{EarlierLabel, NoRoomForHerd}
+use Rattle.farm.specs.declared.Refusal.the-variants.{EarlierLabel, NoRoomForHerd}
 use Rattle.farm.specs.declared.Checked.the-variants.{Accepted, Refused}
 use Rattle.farm.specs.Limits.{herdsMost}
 use Rattle.herd_tests.specs.Tests.{hasLabel}
-use Rattle.next_herd.specs.Farms.{counted, admitted}
+use Rattle.next_herd.specs.Farms.{herdsSoFar, newLabelChecked}
 
 -- ---- how many herds there are
 
 module _ (count first′ : ℕ) where
-  pub none-counted : first′ ≡ 0 → count ≡ counted count first′
-  unfolding counted
-  none-counted e = simp (counted, eq-eqb first′ 0 e)
+  pub none-counted : first′ ≡ 0 → count ≡ herdsSoFar count first′
+  unfolding herdsSoFar
+  none-counted e = simp (herdsSoFar, eq-eqb first′ 0 e)
 
-  pub one-counted : (first′ ≡ 0 → ⊥) → count + 1 ≡ counted count first′
-  unfolding counted
-  one-counted n = simp (counted, ne-eqb first′ 0 n)
+  pub one-counted : (first′ ≡ 0 → ⊥) → count + 1 ≡ herdsSoFar count first′
+  unfolding herdsSoFar
+  one-counted n = simp (herdsSoFar, ne-eqb first′ 0 n)
 
 pub ruleset counted-steps = (none-counted, one-counted)
 
 -- ---- another label: 8 and 9
 
 module _ (ls : List Label) (count : ℕ) (l : Label) (n : ℕ) {b : Bool} (q : b ≡ hasLabel ls l) where
-  pub earlier : b ≡ true → Refused EarlierLabel n ≡ admitted ls count l n
-  unfolding admitted
-  earlier e = simp (admitted, sym q ∙ e)
+  pub earlier : b ≡ true → Refused EarlierLabel n ≡ newLabelChecked ls count l n
+  unfolding newLabelChecked
+  earlier e = simp (newLabelChecked, sym q ∙ e)
 
   module _ (new : b ≡ false) {k : ℕ} (w : k ≡ count) where
-    pub no-room : herdsMost ≤ k → Refused NoRoomForHerd n ≡ admitted ls count l n
-    unfolding admitted
-    no-room h = simp (admitted, sym q ∙ new, sym w, le-leb herdsMost k h)
+    pub no-room : herdsMost ≤ k → Refused NoRoomForHerd n ≡ newLabelChecked ls count l n
+    unfolding newLabelChecked
+    no-room h = simp (newLabelChecked, sym q ∙ new, sym w, le-leb herdsMost k h)
 
-    pub room : k < herdsMost → Accepted ≡ admitted ls count l n
-    unfolding admitted
-    room h = simp (admitted, sym q ∙ new, sym w, lt-leb herdsMost k h)
+    pub room : k < herdsMost → Accepted ≡ newLabelChecked ls count l n
+    unfolding newLabelChecked
+    room h = simp (newLabelChecked, sym q ∙ new, sym w, lt-leb herdsMost k h)
 
 pub ruleset admitted-steps = (earlier, no-room, room)

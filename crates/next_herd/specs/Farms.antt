@@ -1,5 +1,5 @@
 -- A herd that follows the one being read: refusals 8 and 9, how many herds there are, and which lacks an input, for 12.
--- It mirrors the code for its contracts; what 8, 9 and 12 mean is said of the records in `rules/specs`, and proved to
+-- It mirrors the code for its contracts; what 8, 9 and 12 mean is said of the records in `rules_theorems/specs`, and proved to
 -- be the same there.
 use Prim.Native.Nat.{ℕ, _+_}
 use mathlib.Core.List.{List, [], _∷_}
@@ -8,7 +8,7 @@ use Rattle.base.specs.Pick.{pick}
 use Rattle.base.specs.First.{_when_, first}
 use Rattle.farm.specs.declared.Label.{Label}
 use Rattle.farm.specs.declared.Herd.{Herd}
-use Rattle.farm.specs.declared.Fault.the-variants.{EarlierLabel, NoRoomForHerd}
+use Rattle.farm.specs.declared.Refusal.the-variants.{EarlierLabel, NoRoomForHerd}
 use Rattle.farm.specs.declared.Checked.{Checked}
 use Rattle.farm.specs.declared.Checked.the-variants.{Accepted, Refused}
 use Rattle.farm.specs.Limits.{herdsMost}
@@ -20,12 +20,12 @@ abbrev pub lackingWith : ℕ → Herd → ℕ → ℕ
 lackingWith before h first′ = pick (eqb before 0) (pick (lacks h) first′ 0) before
 
 -- how many herds the farm has with the one being read, where there is one
-unfoldable pub counted : ℕ → ℕ → ℕ
-counted count first′ = pick (eqb first′ 0) count (count + 1)
+unfoldable pub herdsSoFar : ℕ → ℕ → ℕ
+herdsSoFar count first′ = pick (eqb first′ 0) count (count + 1)
 
 -- a record of another label than the herd being read, where the closed herds have these labels and the farm has so many
 -- herds with the one being read: 8, or 9
-unfoldable pub admitted : List Label → ℕ → Label → ℕ → Checked
-admitted labels count l n =
+unfoldable pub newLabelChecked : List Label → ℕ → Label → ℕ → Checked
+newLabelChecked labels count l n =
     first (Refused EarlierLabel n when hasLabel labels l ∷ Refused NoRoomForHerd n when leb herdsMost count ∷ [])
     Accepted

@@ -1,16 +1,16 @@
 // A herd that follows the one being read: whether its label is new and there is room for it, and how many herds there
 // are and which lacks an input with the one that was being read.
 use farm::Checked;
-use farm::Fault;
 use farm::HERDS_MOST;
 use farm::Herd;
 use farm::Label;
+use farm::Refusal;
 use farm::labels::Labels;
 ghost use mathlib.Core.Path.{_≡_};
 ghost use Prim.Native.Nat.{_<_};
 ghost use lib.ListN.{take};
 ghost use Rattle.farm.specs.Limits.{herdsMost};
-ghost use Rattle.next_herd.specs.Farms.{lackingWith, counted, admitted};
+ghost use Rattle.next_herd.specs.Farms.{lackingWith, herdsSoFar, newLabelChecked};
 
 // The first record of the first herd that lacks an input: `before` where one of those before this herd does.
 pub fn lacking_with(before: usize, herd: Herd, first: usize) -> usize
@@ -26,9 +26,9 @@ pub fn lacking_with(before: usize, herd: Herd, first: usize) -> usize
 }
 
 // How many herds the farm has with the one being read, where there is one.
-pub fn counted(count: usize, first: usize) -> usize
+pub fn herds_so_far(count: usize, first: usize) -> usize
     requires { ⌜ count < herdsMost ⌝ }
-    ensures { λ r. ⌜ r ≡ counted count first ⌝ }
+    ensures { λ r. ⌜ r ≡ herdsSoFar count first ⌝ }
 {
     if first == 0 {
         return count;
@@ -37,15 +37,21 @@ pub fn counted(count: usize, first: usize) -> usize
 }
 
 // A record of another label than the herd being read, the farm having these labels: 8, or 9.
-pub fn admitted(labels: Labels, count: usize, first: usize, label: Label, number: usize) -> Checked
+pub fn check_new_label(
+    labels: Labels,
+    count: usize,
+    first: usize,
+    label: Label,
+    number: usize,
+) -> Checked
     requires { ⌜ count < herdsMost ⌝ }
-    ensures { λ r. ⌜ r ≡ admitted (take count (labels .of)) (counted count first) label number ⌝ }
+    ensures { λ r. ⌜ r ≡ newLabelChecked (take count (labels .of)) (herdsSoFar count first) label number ⌝ }
 {
     if herd_tests::earlier_label(labels, count, label) {
-        return Checked::Refused(Fault::EarlierLabel, number);
+        return Checked::Refused(Refusal::EarlierLabel, number);
     }
-    if HERDS_MOST <= counted(count, first) {
-        return Checked::Refused(Fault::NoRoomForHerd, number);
+    if HERDS_MOST <= herds_so_far(count, first) {
+        return Checked::Refused(Refusal::NoRoomForHerd, number);
     }
     Checked::Accepted
 }

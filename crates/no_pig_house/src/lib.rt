@@ -12,7 +12,7 @@ ghost use Rattle.pig_house.specs.NxOx.{noNxOx, handedNxOx};
 pub fn no_pig_factors() -> PigFactors
     ensures { λ f. ⌜ f ≡ handedPigFactors (noPigFactors dividing) ⌝ }
 {
-    let none = cut::undivided(0);
+    let none = cut_division::undivided(0);
     PigFactors {
         before_times_c_free_factor_housing: none,
         before_times_red_housing_air: none,
@@ -27,7 +27,7 @@ pub fn no_pig_factors() -> PigFactors
 pub fn no_scrubbed() -> Scrubbed
     ensures { λ s. ⌜ s ≡ handedScrubbed (noScrubbed dividing) ⌝ }
 {
-    let none = cut::undivided(0);
+    let none = cut_division::undivided(0);
     Scrubbed {
         times_tan_excretion: none,
         times_ef_housing_indoor_before_air_scrubber: none,
@@ -50,7 +50,7 @@ pub fn no_pig_house() -> PigHouse
 pub fn no_nx_ox() -> NxOx
     ensures { λ x. ⌜ x ≡ handedNxOx (noNxOx dividing) ⌝ }
 {
-    let none = cut::undivided(0);
+    let none = cut_division::undivided(0);
     NxOx {
         n2_nsolid: none,
         no_nsolid: none,

@@ -104,16 +104,16 @@ category name = placeIn categories name
 -- ---- a row
 
 -- the notes that say yes, by name
-abbrev said : Bool → String → List String
-said flag name = pick flag (name ∷ []) []
+abbrev nameIf : Bool → String → List String
+nameIf flag name = pick flag (name ∷ []) []
 
 abbrev pub namesOf : Notes → List String
 namesOf n =
-    said (n .«n_off_standard») "n_off_standard"
-    ++ said (n .«tan_off_standard») "tan_off_standard"
-    ++ said (n .«free_factor») "free_factor"
-    ++ said (n .«share_lowered») "share_lowered"
-    ++ said (n .«factor_above_1») "factor_above_1"
+    nameIf (n .«n_off_standard») "n_off_standard"
+    ++ nameIf (n .«tan_off_standard») "tan_off_standard"
+    ++ nameIf (n .«free_factor») "free_factor"
+    ++ nameIf (n .«share_lowered») "share_lowered"
+    ++ nameIf (n .«factor_above_1») "factor_above_1"
 
 pub record Row : Type 0 where
   pub herd : Inputs

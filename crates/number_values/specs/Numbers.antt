@@ -1,5 +1,5 @@
 -- What a number's text says as a value: one in range, or nothing; and a whole number that may be below zero (02, W3).
--- It mirrors the code for its contracts; what a value is, is said in `rules/specs/Rules`, and proved to be the same
+-- It mirrors the code for its contracts; what a value is, is said in `rules_theorems/specs/Rules`, and proved to be the same
 -- there.
 use Prim.Native.Nat.{ℕ, zero, suc}
 use mathlib.Core.Bool.{Bool, false}

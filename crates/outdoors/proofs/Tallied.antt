@@ -11,7 +11,7 @@ use Rattle.base.specs.Pick.{pick}
 use Rattle.calendar.specs.Calendar.{isLeapDay}
 use Rattle.outdoors.specs.declared.Day.{Day}
 use Rattle.outdoors.specs.declared.Tally.{Tally}
-use Rattle.outdoors.specs.Outdoors.{those, counted, grazed, onYard, pastureHours, outdoorsOf}
+use Rattle.outdoors.specs.Outdoors.{those, daysThatCount, grazed, onYard, pastureHours, outdoorsOf}
 use Rattle.outdoors.specs.Tallies.{oneIf, tally, withDay, outdoorsBy}
 
 -- the tally of some days
@@ -73,22 +73,22 @@ pub tally-last : (ds : List Day) (d : Day) → tallyOf (ds ++ (d ∷ [])) ≡ wi
 unfolding withDay
 tally-last ds d = go (isLeapDay (d .date)) refl
   where
-    is : (l : List Day) → counted (ds ++ (d ∷ [])) ≡ l
+    is : (l : List Day) → daysThatCount (ds ++ (d ∷ [])) ≡ l
         → tallyOf (ds ++ (d ∷ []))
         ≡ tally (length (those (λ x. ltb 0 (x .pasture)) l)) (length (those (λ x. ltb 0 (x .yard)) l))
         (pastureHours (those (λ x. ltb 0 (x .pasture)) l))
     is l e = rw e
 
-    rest : counted (ds ++ (d ∷ [])) ≡ counted ds ++ pick (not (isLeapDay (d .date))) (d ∷ []) []
+    rest : daysThatCount (ds ++ (d ∷ [])) ≡ daysThatCount ds ++ pick (not (isLeapDay (d .date))) (d ∷ []) []
     rest = those-last (λ x. not (isLeapDay (x .date))) ds d
 
     go : (t : Bool) → isLeapDay (d .date) ≡ t → tallyOf (ds ++ (d ∷ [])) ≡ withDay (tallyOf ds) d
-    go true e = is (counted ds) (rest ∙ rw e (append-nil (counted ds))) ∙ simp (withDay, e)
+    go true e = is (daysThatCount ds) (rest ∙ rw e (append-nil (daysThatCount ds))) ∙ simp (withDay, e)
     go false e =
-        is (counted ds ++ (d ∷ [])) (rest ∙ rw e refl)
+        is (daysThatCount ds ++ (d ∷ [])) (rest ∙ rw e refl)
         ∙ rw (
-          some-count (λ x. x .pasture) (counted ds) d,
-          some-count (λ x. x .yard) (counted ds) d,
-          some-hours (counted ds) d,
+          some-count (λ x. x .pasture) (daysThatCount ds) d,
+          some-count (λ x. x .yard) (daysThatCount ds) d,
+          some-hours (daysThatCount ds) d,
         )
         (simp (withDay, e))

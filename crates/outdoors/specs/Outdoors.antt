@@ -15,15 +15,15 @@ those f [] = []
 those f (d ∷ ds) = pick (f d) (d ∷ those f ds) (those f ds)
 
 -- "In a leap year 29 February is read and checked but not counted, since the model has 365 days."
-abbrev pub counted : List Day → List Day
-counted days = those (λ d. not (isLeapDay (d .date))) days
+abbrev pub daysThatCount : List Day → List Day
+daysThatCount days = those (λ d. not (isLeapDay (d .date))) days
 
 -- "grazing_days (days with pasture hours above 0), yard_days likewise"
 abbrev pub grazed : List Day → List Day
-grazed days = those (λ d. ltb 0 (d .pasture)) (counted days)
+grazed days = those (λ d. ltb 0 (d .pasture)) (daysThatCount days)
 
 abbrev pub onYard : List Day → List Day
-onYard days = those (λ d. ltb 0 (d .yard)) (counted days)
+onYard days = those (λ d. ltb 0 (d .yard)) (daysThatCount days)
 
 abbrev pub pastureHours : List Day → ℕ
 pastureHours [] = 0

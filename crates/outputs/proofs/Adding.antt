@@ -14,26 +14,26 @@ use Rattle.base.specs.Reordered.{Reordered}
 use Rattle.base.proofs.Table.{both-left, both-right}
 use Rattle.base.proofs.Each.{each-of}
 use Rattle.base.proofs.Runs.{all-at}
-use Rattle.cut.specs.Total.{addUp, signedTotal}
-use Rattle.cut.proofs.Signed.{abs-add}
-use Rattle.cut.proofs.Totals.{addUp-part, addUp-map, signedTotal-same, signedTotal-reordered}
+use Rattle.cut_division.specs.Total.{addUp, signedTotal}
+use Rattle.cut_division.proofs.Signed.{abs-add}
+use Rattle.cut_division.proofs.Totals.{addUp-part, addUp-map, signedTotal-same, signedTotal-reordered}
 use Rattle.outputs.specs.declared.Figures.{Figures}
 use Rattle.outputs.specs.declared.Totals.{Totals}
 use Rattle.outputs.specs.Names.{Row, rows, number, Total, totals, totalNumber, addends}
-use Rattle.outputs.specs.Grams.{at, plusGrams, zeros, summed, totalAt, totalGrams, farmTotal, totalsOf, To}
+use Rattle.outputs.specs.Grams.{gramsAt, plusGrams, zeros, summed, totalAt, totalGrams, farmTotal, totalsOf, GramsTo}
 use Rattle.outputs.proofs.ByNumber.{by-number-at, by-number-past, by-number-same}
 
 -- ---- every number
 
-pub plus-at : (a b : List ℤ) (n : ℕ) → n < length rows → at (plusGrams a b) n ≡ at a n +ℤ at b n
-plus-at a b n h = by-number-at (λ n. at a n +ℤ at b n) (length rows) n h
+pub plus-at : (a b : List ℤ) (n : ℕ) → n < length rows → gramsAt (plusGrams a b) n ≡ gramsAt a n +ℤ gramsAt b n
+plus-at a b n h = by-number-at (λ n. gramsAt a n +ℤ gramsAt b n) (length rows) n h
 
 pub summed-at : {A : Type 0} (g : A → Figures) (l : List A) (n : ℕ) → n < length rows
-    → at (summed g l) n ≡ signedTotal (λ (f : Figures). at (f .grams) n) (map g l)
+    → gramsAt (summed g l) n ≡ signedTotal (λ (f : Figures). gramsAt (f .grams) n) (map g l)
 summed-at g l n h =
-    addUp-part plusGrams _+ℤ_ (λ x. at x n) (λ a b. plus-at a b n h) (λ a. g a .grams) zeros l
-    ∙ ap (λ z. addUp _+ℤ_ (λ a. at (g a .grams) n) z l) (by-number-at (λ n. pos 0) (length rows) n h)
-    ∙ sym (addUp-map _+ℤ_ (λ (f : Figures). at (f .grams) n) g (pos 0) l)
+    addUp-part plusGrams _+ℤ_ (λ x. gramsAt x n) (λ a b. plus-at a b n h) (λ a. g a .grams) zeros l
+    ∙ ap (λ z. addUp _+ℤ_ (λ a. gramsAt (g a .grams) n) z l) (by-number-at (λ n. pos 0) (length rows) n h)
+    ∙ sym (addUp-map _+ℤ_ (λ (f : Figures). gramsAt (f .grams) n) g (pos 0) l)
 
 -- ---- every total
 
@@ -45,14 +45,14 @@ pub addends-known : T (all areNames addends)
 addends-known = tt
 
 -- no text stands twice: the number of each row's text is the row's place, and so of each total's
-abbrev counted {ℓ} : {A : Type ℓ} → ℕ → List A → List ℕ
-counted i [] = []
-counted i (x ∷ xs) = i ∷ counted (suc i) xs
+abbrev placesFrom {ℓ} : {A : Type ℓ} → ℕ → List A → List ℕ
+placesFrom i [] = []
+placesFrom i (x ∷ xs) = i ∷ placesFrom (suc i) xs
 
-pub numbers-are-places : map (λ (r : Row). number (r .text)) rows ≡ counted 0 rows
+pub numbers-are-places : map (λ (r : Row). number (r .text)) rows ≡ placesFrom 0 rows
 numbers-are-places = refl
 
-pub total-numbers-are-places : map (λ (t : Total). totalNumber (t .text)) totals ≡ counted 0 totals
+pub total-numbers-are-places : map (λ (t : Total). totalNumber (t .text)) totals ≡ placesFrom 0 totals
 total-numbers-are-places = refl
 
 -- two rules that agree on names agree on sums over names
@@ -68,7 +68,7 @@ module _ {A : Type 0} (g : A → Figures) (l : List A) where
   total-of-sum : (t : ℕ) → t < length totals → totalAt (summed g l) t ≡ farmTotal (map g l) t
   unfolding totalAt farmTotal
   total-of-sum t h =
-      same-sum (at (summed g l)) (λ n. signedTotal (λ (f : Figures). at (f .grams) n) (map g l)) (summed-at g l)
+      same-sum (gramsAt (summed g l)) (λ n. signedTotal (λ (f : Figures). gramsAt (f .grams) n) (map g l)) (summed-at g l)
       (getD addends t []) (all-at areNames addends addends-known t [] h) (pos 0)
 
   pub totals-of-sum : (t : Totals) → t .grams ≡ totalGrams (summed g l) → t ≡ totalsOf (map g l)
@@ -85,7 +85,7 @@ module _ {l m : List Figures} (o : Reordered l m) where
   total-in-any-order : (t : ℕ) → farmTotal l t ≡ farmTotal m t
   unfolding farmTotal
   total-in-any-order t =
-      signedTotal-same (each-of (λ n. signedTotal-reordered (λ (f : Figures). at (f .grams) n) o) (getD addends t []))
+      signedTotal-same (each-of (λ n. signedTotal-reordered (λ (f : Figures). gramsAt (f .grams) n) o) (getD addends t []))
 
   pub totals-in-any-order : totalsOf l ≡ totalsOf m
   unfolding totalsOf
@@ -97,21 +97,21 @@ module _ {l m : List Figures} (o : Reordered l m) where
 
 -- ---- bounds
 
-pub plus-to : (k l : ℕ) (a b : List ℤ) → To k a → To l b → To (k + l) (plusGrams a b)
+pub plus-to : (k l : ℕ) (a b : List ℤ) → GramsTo k a → GramsTo l b → GramsTo (k + l) (plusGrams a b)
 plus-to k l a b ta tb = record { most = λ n. go n (ltb n (length rows)) refl }
   where
-    go : (n : ℕ) (t : Bool) → ltb n (length rows) ≡ t → natAbs (at (plusGrams a b) n) ≤ k + l
+    go : (n : ℕ) (t : Bool) → ltb n (length rows) ≡ t → natAbs (gramsAt (plusGrams a b) n) ≤ k + l
     go n true e = rw (plus-at a b n (ltb-true n (length rows) e))
-        (omega (arith, ta .most n, tb .most n, abs-add (at a n) (at b n)))
-    go n false e = rw (by-number-past (λ n. at a n +ℤ at b n) (length rows) n (ltb-false n (length rows) e))
+        (omega (arith, ta .most n, tb .most n, abs-add (gramsAt a n) (gramsAt b n)))
+    go n false e = rw (by-number-past (λ n. gramsAt a n +ℤ gramsAt b n) (length rows) n (ltb-false n (length rows) e))
         (omega arith)
 
-pub zeros-to : (k : ℕ) → To k zeros
+pub zeros-to : (k : ℕ) → GramsTo k zeros
 zeros-to k = record { most = λ n. go n (ltb n (length rows)) refl }
   where
-    go : (n : ℕ) (t : Bool) → ltb n (length rows) ≡ t → natAbs (at zeros n) ≤ k
+    go : (n : ℕ) (t : Bool) → ltb n (length rows) ≡ t → natAbs (gramsAt zeros n) ≤ k
     go n true e = rw (by-number-at (λ n. pos 0) (length rows) n (ltb-true n (length rows) e)) (omega arith)
     go n false e = rw (by-number-past (λ n. pos 0) (length rows) n (ltb-false n (length rows) e)) (omega arith)
 
-pub widen : (k m : ℕ) {g : List ℤ} → To k g → k ≤ m → To m g
+pub widen : (k m : ℕ) {g : List ℤ} → GramsTo k g → k ≤ m → GramsTo m g
 widen k m t h = record { most = λ n. omega (arith, t .most n) }

@@ -11,11 +11,11 @@ use lib.IntN.{+ℤ-idl}
 use Rattle.base.specs.Runs.{all}
 use Rattle.base.specs.Each.{Each, none, more}
 use Rattle.base.proofs.Table.{both-left, both-right}
-use Rattle.cut.specs.Total.{signedTotal}
-use Rattle.cut.proofs.Totals.{signedTotal-same, signedTotal-swap}
+use Rattle.cut_division.specs.Total.{signedTotal}
+use Rattle.cut_division.proofs.Totals.{signedTotal-same, signedTotal-swap}
 use Rattle.outputs.specs.declared.Figures.{Figures}
 use Rattle.outputs.specs.Names.{number, totals, totalNumber, addends}
-use Rattle.outputs.specs.Grams.{at, figure, total, farmTotal, totalsOf}
+use Rattle.outputs.specs.Grams.{gramsAt, figure, total, farmTotal, totalsOf}
 use Rattle.outputs.proofs.ByNumber.{by-number-at}
 
 abbrev onlyOne : List ℕ → ℕ → Bool
@@ -40,7 +40,7 @@ total-alone l t h =
     let second = onlyOne (getD addends (totalNumber t) []) (number t) in
     by-number-at (farmTotal l) (length totals) (totalNumber t)
     (ltb→lt (totalNumber t) (length totals) (both-left first second h))
-    ∙ ap (λ ns. signedTotal (λ n. signedTotal (λ (f : Figures). at (f .grams) n) l) ns)
+    ∙ ap (λ ns. signedTotal (λ n. signedTotal (λ (f : Figures). gramsAt (f .grams) n) l) ns)
     (only-one (getD addends (totalNumber t) []) (number t) (both-right first second h))
     ∙ +ℤ-idl (signedTotal (λ f. figure t f) l)
 

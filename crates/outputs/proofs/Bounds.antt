@@ -6,7 +6,7 @@ use lib.IntN.{ℤ, natAbs}
 use Rattle.amounts.specs.Arithmetic.{Arithmetic, cutting}
 use Rattle.outputs.specs.Sections.{FiguresIn}
 use Rattle.outputs.specs.Names.{Field, excretion, yard, grazing, housing, pigHouse, nxOx}
-use Rattle.outputs.specs.Grams.{at, gramsOf, To}
+use Rattle.outputs.specs.Grams.{gramsAt, gramsOf, GramsTo}
 
 -- none of these is larger than k
 abbrev pub AllTo : ℕ → List ℤ → Type 0
@@ -24,18 +24,18 @@ all-append : (k : ℕ) (g h : List ℤ) → AllTo k g → AllTo k h → AllTo k 
 all-append k [] h p q = q
 all-append k (x ∷ g) h p q = (p .0, all-append k g h (p .1) q)
 
-all-to : (k : ℕ) (g : List ℤ) → AllTo k g → To k g
+all-to : (k : ℕ) (g : List ℤ) → AllTo k g → GramsTo k g
 all-to k [] a = record { most = λ n. omega arith }
 all-to k (x ∷ g) a = record { most = λ n. go (all-to k g (a .1)) n }
   where
-    go : To k g → (n : ℕ) → natAbs (at (x ∷ g) n) ≤ k
+    go : GramsTo k g → (n : ℕ) → natAbs (gramsAt (x ∷ g) n) ≤ k
     go t zero = a .0
     go t (suc n) = t .most n
 
 -- from those of the sections, those of the herd
 pub sections-to : (k : ℕ) (f : FiguresIn cutting) → SectionTo k excretion (f .excretion) → SectionTo k yard (f .yard)
     → SectionTo k grazing (f .grazing) → SectionTo k housing (f .housing) → SectionTo k pigHouse (f .pigHouse)
-    → SectionTo k nxOx (f .nxOx) → To k (gramsOf f)
+    → SectionTo k nxOx (f .nxOx) → GramsTo k (gramsOf f)
 sections-to k f e y g h p x =
     let past-housing = of pigHouse (f .pigHouse) ++ of nxOx (f .nxOx) in
     let past-grazing = of housing (f .housing) ++ past-housing in

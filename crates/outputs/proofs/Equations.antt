@@ -3,7 +3,7 @@ use Prim.Native.String.{String}
 use mathlib.Core.Path.{_≡_, sym, ap}
 use mathlib.Core.List.{List}
 use lib.IntN.{ℤ, pos, _+ℤ_, +ℤ-idl}
-use Rattle.cut.specs.Total.{signedTotal}
+use Rattle.cut_division.specs.Total.{signedTotal}
 use Rattle.outputs.specs.declared.Figures.{Figures}
 use Rattle.outputs.specs.Grams.{figure, byNumber, farmTotal, totalsOf}
 use Rattle.outputs.specs.Equations.{sums, Adds}

@@ -6,25 +6,25 @@ use native.Mathlib.Omega.{arith}
 use lib.IntN.{ℤ, natAbs, _+ℤ_}
 use mir.Syntax.{w64}
 use mir.Val.{SFits, toZ, ofZ}
-use Rattle.cut.proofs.Signed.{fits-abs, back, plus-asks, plus-gave}
-use Rattle.outputs.specs.Grams.{at, To, figureMost}
+use Rattle.cut_division.proofs.Signed.{fits-abs, back, plus-asks, plus-gave}
+use Rattle.outputs.specs.Grams.{gramsAt, GramsTo, figureMost}
 
-pub fits : {g : List ℤ} → To figureMost g → (n : ℕ) → SFits w64 (at g n)
-fits {g} to n = fits-abs (at g n) (omega (arith, to .most n))
+pub fits : {g : List ℤ} → GramsTo figureMost g → (n : ℕ) → SFits w64 (gramsAt g n)
+fits {g} to n = fits-abs (gramsAt g n) (omega (arith, to .most n))
 
 -- grams that were cast or read are the grams
-pub kept : (g : List ℤ) → To figureMost g → map (λ (z : ℤ). toZ w64 (ofZ w64 z)) g ≡ g
-kept [] to = refl
-kept (z ∷ g) to =
+pub grams-back : (g : List ℤ) → GramsTo figureMost g → map (λ (z : ℤ). toZ w64 (ofZ w64 z)) g ≡ g
+grams-back [] to = refl
+grams-back (z ∷ g) to =
     let e = back z (omega (arith, to .most 0)) in
-    let d = kept g (record { most = λ n. to .most (suc n) }) in cc
+    let d = grams-back g (record { most = λ n. to .most (suc n) }) in cc
 
 -- ---- two figures of one number, added by the machine
 
-module _ {a b : List ℤ} (ta : To figureMost a) (tb : To figureMost b) (n : ℕ) where
-  pub plus-fits : natAbs (toZ w64 (ofZ w64 (at a n))) + natAbs (toZ w64 (ofZ w64 (at b n))) < 2 ^ 63
-  plus-fits = plus-asks (at a n) (at b n) (omega (arith, ta .most n, tb .most n))
+module _ {a b : List ℤ} (ta : GramsTo figureMost a) (tb : GramsTo figureMost b) (n : ℕ) where
+  pub plus-fits : natAbs (toZ w64 (ofZ w64 (gramsAt a n))) + natAbs (toZ w64 (ofZ w64 (gramsAt b n))) < 2 ^ 63
+  plus-fits = plus-asks (gramsAt a n) (gramsAt b n) (omega (arith, ta .most n, tb .most n))
 
-  pub plus-is : (r : ℤ) → r ≡ toZ w64 (ofZ w64 (at a n)) +ℤ toZ w64 (ofZ w64 (at b n))
-      → toZ w64 (ofZ w64 r) ≡ at a n +ℤ at b n
-  plus-is = plus-gave (at a n) (at b n) (omega (arith, ta .most n, tb .most n))
+  pub plus-is : (r : ℤ) → r ≡ toZ w64 (ofZ w64 (gramsAt a n)) +ℤ toZ w64 (ofZ w64 (gramsAt b n))
+      → toZ w64 (ofZ w64 r) ≡ gramsAt a n +ℤ gramsAt b n
+  plus-is = plus-gave (gramsAt a n) (gramsAt b n) (omega (arith, ta .most n, tb .most n))

@@ -6,7 +6,7 @@ use mathlib.Core.Path.{_≡_}
 use mathlib.Core.List.{List, [], _∷_}
 use lib.IntN.{_+ℤ_}
 use Rattle.base.specs.Each.{Each}
-use Rattle.cut.specs.Total.{signedTotal}
+use Rattle.cut_division.specs.Total.{signedTotal}
 use Rattle.outputs.specs.declared.Figures.{Figures}
 use Rattle.outputs.specs.declared.Totals.{Totals}
 use Rattle.outputs.specs.Grams.{figure, total}

@@ -8,7 +8,7 @@ use Prim.Native.String.{String}
 use mathlib.Core.List.{List, [], _∷_}
 use lib.ListN.{length, getD}
 use lib.IntN.{ℤ, pos, natAbs, _+ℤ_}
-use Rattle.cut.specs.Total.{addUp, signedTotal}
+use Rattle.cut_division.specs.Total.{addUp, signedTotal}
 use Rattle.amounts.specs.Arithmetic.{cutting}
 use Rattle.outputs.specs.declared.Figures.{Figures}
 use Rattle.outputs.specs.declared.Sections.{Sections}
@@ -20,15 +20,15 @@ abbrev pub gramsOf : FiguresIn cutting → List ℤ
 gramsOf f = figures cutting f
 
 -- the grams of a number; past the last 0
-abbrev pub at : List ℤ → ℕ → ℤ
-at g n = getD g n (pos 0)
+abbrev pub gramsAt : List ℤ → ℕ → ℤ
+gramsAt g n = getD g n (pos 0)
 
 -- a herd's figure under a name, and a farm's total under one
 abbrev pub figure : String → Figures → ℤ
-figure t f = at (f .grams) (number t)
+figure t f = gramsAt (f .grams) (number t)
 
 abbrev pub total : String → Totals → ℤ
-total t f = at (f .grams) (totalNumber t)
+total t f = gramsAt (f .grams) (totalNumber t)
 
 -- the grams of the code's sections, in the order of their numbers
 abbrev pub gramsIn : Sections → List ℤ
@@ -68,19 +68,19 @@ gramsIn s =
 
 -- ---- lists of grams by a rule
 
-abbrev pub from : ℕ → ℕ → (ℕ → ℤ) → List ℤ
-from i zero f = []
-from i (suc k) f = f i ∷ from (suc i) k f
+abbrev pub ruleFrom : ℕ → ℕ → (ℕ → ℤ) → List ℤ
+ruleFrom i zero f = []
+ruleFrom i (suc k) f = f i ∷ ruleFrom (suc i) k f
 
 -- the k numbers' grams by a rule
 unfoldable pub byNumber : ℕ → (ℕ → ℤ) → List ℤ
-byNumber k f = from 0 k f
+byNumber k f = ruleFrom 0 k f
 
 -- ---- a farm's totals
 
 -- 2.1: for each addend of the total, its figure summed over the herds
 unfoldable pub farmTotal : List Figures → ℕ → ℤ
-farmTotal l t = signedTotal (λ n. signedTotal (λ (f : Figures). at (f .grams) n) l) (getD addends t [])
+farmTotal l t = signedTotal (λ n. signedTotal (λ (f : Figures). gramsAt (f .grams) n) l) (getD addends t [])
 
 unfoldable pub totalsOf : List Figures → Totals
 totalsOf l = record { grams = byNumber (length totals) (farmTotal l) }
@@ -88,7 +88,7 @@ totalsOf l = record { grams = byNumber (length totals) (farmTotal l) }
 -- ---- as the code adds up
 
 abbrev pub plusGrams : List ℤ → List ℤ → List ℤ
-plusGrams a b = byNumber (length rows) (λ n. at a n +ℤ at b n)
+plusGrams a b = byNumber (length rows) (λ n. gramsAt a n +ℤ gramsAt b n)
 
 abbrev pub zeros : List ℤ
 zeros = byNumber (length rows) (λ n. pos 0)
@@ -102,7 +102,7 @@ summed g l = addUp plusGrams (λ a. g a .grams) zeros l
 
 -- the sum of the grams of a total's addends
 unfoldable pub totalAt : List ℤ → ℕ → ℤ
-totalAt g t = signedTotal (at g) (getD addends t [])
+totalAt g t = signedTotal (gramsAt g) (getD addends t [])
 
 abbrev pub totalGrams : List ℤ → List ℤ
 totalGrams g = byNumber (length totals) (totalAt g)
@@ -110,8 +110,8 @@ totalGrams g = byNumber (length totals) (totalAt g)
 -- ---- bounds
 
 -- no figure is larger than k
-pub record To (k : ℕ) (g : List ℤ) : Type 0 where
-  pub most : (n : ℕ) → natAbs (at g n) ≤ k
+pub record GramsTo (k : ℕ) (g : List ℤ) : Type 0 where
+  pub most : (n : ℕ) → natAbs (gramsAt g n) ≤ k
 
 -- so that up to three of them fit an i64: nh3_nlivestock is the sum of three
 abbrev pub figureMost : ℕ

@@ -6,15 +6,15 @@ use Prim.Native.Nat.{ℕ, _+_, _-_, _*_, _≤_}
 use native.Mathlib.Nat.{le-refl}
 use native.Mathlib.Omega.{arith}
 use borrow.Author.Needs.{zero≤}
-use Rattle.cut.specs.declared.Quotient.{Quotient}
-use Rattle.cut.specs.Cut.{undivided}
-use Rattle.cut.proofs.Products.{mul-to}
-use Rattle.cut.proofs.Shares.{part-le, parts-over-le}
+use Rattle.cut_division.specs.declared.Quotient.{Quotient}
+use Rattle.cut_division.specs.Cut.{undivided}
+use Rattle.cut_division.proofs.Products.{mul-to}
+use Rattle.cut_division.proofs.Shares.{part-le, parts-over-le}
 use Rattle.amounts.specs.declared.Parts.{Parts}
 use Rattle.amounts.specs.Units.{tenths, year, day}
 use Rattle.amounts.specs.Arithmetic.{cutting}
 use Rattle.amounts.specs.Dividing.{dividing, uncut}
-use Rattle.amounts.specs.Bounds.{Modest, PortionsOf}
+use Rattle.amounts.specs.Bounds.{WithinMostN, PortionsOf}
 use Rattle.amounts.proofs.Amounts.{modest-share, modest-rest}
 use Rattle.kinds.specs.declared.Outdoor.{Outdoor}
 use Rattle.kinds.specs.declared.Roughage.{Roughage}
@@ -49,8 +49,8 @@ module _ (o : Outdoor) (s : SoundOutdoor o) where
       parts-over-le n (yardTime o) (outdoorGrazingTime o) (tenths * year) (day * (tenths * year)) (omega arith)
       (omega arith) (omega (arith, times-le o s))
 
-  pub outdoor-pasture-modest : (n tan : ℕ) → Modest n tan
-      → Modest (outdoorIntoGrazing cutting o n) (outdoorIntoGrazing cutting o tan)
+  pub outdoor-pasture-modest : (n tan : ℕ) → WithinMostN n tan
+      → WithinMostN (outdoorIntoGrazing cutting o n) (outdoorIntoGrazing cutting o tan)
   outdoor-pasture-modest n tan m =
       modest-share n tan (outdoorGrazingTime o) (day * (tenths * year)) m (outdoor-grazing-time-le o s)
 
@@ -60,23 +60,23 @@ module _ (r : Roughage) (s : SoundRoughage r) where
   pub roughage-into-le : (n : ℕ) → roughageIntoGrazing cutting r n ≤ n
   roughage-into-le n = part-le n (roughageGrazingTime r) (day * year) (roughage-grazing-time-le r s)
 
-  pub roughage-pasture-modest : (n tan : ℕ) → Modest n tan
-      → Modest (roughageIntoGrazing cutting r n) (roughageIntoGrazing cutting r tan)
+  pub roughage-pasture-modest : (n tan : ℕ) → WithinMostN n tan
+      → WithinMostN (roughageIntoGrazing cutting r n) (roughageIntoGrazing cutting r tan)
   roughage-pasture-modest n tan m =
       modest-share n tan (roughageGrazingTime r) (day * year) m (roughage-grazing-time-le r s)
 
-  pub roughage-housing-modest : (n tan : ℕ) → Modest n tan
-      → Modest (n - roughageIntoGrazing cutting r n) (tan - roughageIntoGrazing cutting r tan)
+  pub roughage-housing-modest : (n tan : ℕ) → WithinMostN n tan
+      → WithinMostN (n - roughageIntoGrazing cutting r n) (tan - roughageIntoGrazing cutting r tan)
   roughage-housing-modest n tan m =
       modest-rest n tan (roughageGrazingTime r) (day * year) m (omega arith) (roughage-grazing-time-le r s)
 
 -- ---- pigs
 
-nothing : Modest 0 0
+nothing : WithinMostN 0 0
 nothing = record { n-most = omega arith; tan-most = omega arith }
 
-pub pigs-pasture-modest : (t : HousingType) (n tan : ℕ) → Modest n tan
-    → Modest (pigsIntoGrazing cutting t n) (pigsIntoGrazing cutting t tan)
+pub pigs-pasture-modest : (t : HousingType) (n tan : ℕ) → WithinMostN n tan
+    → WithinMostN (pigsIntoGrazing cutting t n) (pigsIntoGrazing cutting t tan)
 pigs-pasture-modest housed.Outdoor n tan m = m
 pigs-pasture-modest housed.SlurryConventional n tan m = nothing
 pigs-pasture-modest housed.SlurryLabel n tan m = nothing
@@ -123,7 +123,7 @@ pigs-undivided housed.DeepLitter x = refl
 
 module _ (t : HousingType) (n tan a b : ℕ) (qn qt : Quotient) (ea : a ≡ pigsIntoGrazing cutting t n)
     (eb : b ≡ pigsIntoGrazing cutting t tan) (en : qn ≡ undivided a) (et : qt ≡ undivided b) where
-  pub pigs-modest : Modest n tan → Modest (qn .whole) (qt .whole)
+  pub pigs-modest : WithinMostN n tan → WithinMostN (qn .whole) (qt .whole)
   pigs-modest m = rw (en, et, ea, eb) (pigs-pasture-modest t n tan m)
 
   pub is-pigs-grazing : (r : Rates) (g : Grazing)

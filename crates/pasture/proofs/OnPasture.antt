@@ -7,13 +7,13 @@ use lib.IntN.{ℤ, pos, negℤ, _+ℤ_, _-ℤ_, +ℤ-assoc, negℤ-+ℤ, -ℤ-+�
 use lib.Signed.{mag}
 use mir.Syntax.{w64}
 use mir.Val.{toZ, ofZ}
-use Rattle.cut.specs.declared.Quotient.{Quotient}
-use Rattle.cut.proofs.Signed.{kept}
+use Rattle.cut_division.specs.declared.Quotient.{Quotient}
+use Rattle.cut_division.proofs.Signed.{back-mag}
 use Rattle.amounts.specs.declared.Parts.{Parts}
 use Rattle.amounts.specs.Units.{tenThousandths}
 use Rattle.amounts.specs.Arithmetic.{cutting}
 use Rattle.amounts.specs.Dividing.{dividing, uncut}
-use Rattle.amounts.specs.Bounds.{Modest, PortionOf}
+use Rattle.amounts.specs.Bounds.{WithinMostN, PortionOf}
 use Rattle.rates.specs.declared.Rates.{Rates}
 use Rattle.rates.specs.Bounds.{ModestRates}
 use Rattle.pasture.specs.declared.Gases.{Gases}
@@ -37,13 +37,13 @@ rest-all n a b c d = omega arith
 -- ---- the four gases
 
 module _ (r : Rates) (n tan : ℕ) where
-  pub gases-le : ModestRates r → Modest n tan
+  pub gases-le : ModestRates r → WithinMostN n tan
       → gas cutting tan (r .nh3) + gas cutting n (r .n2) + gas cutting n (r .no) + gas cutting n (r .n2o) ≤ n
   gases-le h m = omega (arith, mul-le-mul-right (r .nh3) (m .tan-most), mul-le-mul-left n (h .together))
 
   -- ---- conservation: what comes onto the pasture remains there or is emitted
 
-  pub pasture-keeps-n : ModestRates r → Modest n tan
+  pub pasture-keeps-n : ModestRates r → WithinMostN n tan
       → let g = onPasture cutting r n tan in
       g .«n_into_grazing»
       ≡ g .«n_remain_grazing» + (g .«nh3_ngrazing» + g .«n2_ngrazing» + g .«no_ngrazing» + g .«n2o_ngrazing»)
@@ -61,7 +61,7 @@ module _ (r : Rates) (n tan : ℕ) where
 
   -- ---- the code's steps
 
-  pub emitted : (nh3 n2 nO n2o : Quotient) → ModestRates r → Modest n tan
+  pub emitted : (nh3 n2 nO n2o : Quotient) → ModestRates r → WithinMostN n tan
       → PortionOf tan (r .nh3) tenThousandths nh3 → PortionOf n (r .n2) tenThousandths n2
       → PortionOf n (r .no) tenThousandths nO → PortionOf n (r .n2o) tenThousandths n2o
       → Emitted r n tan (record { nh3 = nh3; n2 = n2; no = nO; n2o = n2o })
@@ -83,7 +83,7 @@ pub remains : (r : Rates) (into : Parts) (g : Gases) (left : ℤ) → Emitted r 
     (handedFrom into (onPasture dividing r (uncut (into .n .whole)) (uncut (into .tan .whole))))
 remains r into g left e fits el =
     rw (
-      kept left fits,
+      back-mag left fits,
       el,
       less-all (pos (into .tan .whole)) (g .nh3 .whole) (g .n2 .whole) (g .no .whole) (g .n2o .whole),
       rest-all (into .n .whole) (g .nh3 .whole) (g .n2 .whole) (g .no .whole) (g .n2o .whole),

@@ -6,14 +6,14 @@ use native.Mathlib.Nat.{mul-le-mul-right}
 use native.Mathlib.Omega.{arith}
 use mir.Syntax.{w64}
 use mir.Val.{Fits}
-use Rattle.cut.proofs.Products.{mul-to}
+use Rattle.cut_division.proofs.Products.{mul-to}
 use Rattle.amounts.specs.Units.{tenths, year, day}
 use Rattle.amounts.specs.Bounds.{UpTo}
 use Rattle.kinds.specs.declared.Outdoor.{Outdoor}
 use Rattle.kinds.specs.declared.Roughage.{Roughage}
 use Rattle.kinds.specs.Sound.{SoundOutdoor, SoundRoughage}
 use Rattle.yard.specs.Yard.{«days_with_grazing_and_yard», «share_excretion», «share_excretion_with_grazing», yardTime}
-use Rattle.yard.specs.Bounds.{Both}
+use Rattle.yard.specs.Bounds.{DaysWithBoth}
 use Rattle.yard.proofs.Times.{is-both, share-le, shared-le}
 use Rattle.pasture.specs.Pasture.{outdoorGrazingTime, roughageGrazingTime}
 
@@ -23,7 +23,7 @@ use Rattle.pasture.specs.Pasture.{outdoorGrazingTime, roughageGrazingTim
 abbrev pub grazed : Outdoor → ℕ → ℕ → ℕ
 grazed o both shared = (o .«grazing_days» - both) * tenths + (tenths - shared) * both
 
-module _ (o : Outdoor) (s : SoundOutdoor o) (both shared : ℕ) (eb : Both o both) (ht : shared ≤ tenths) where
+module _ (o : Outdoor) (s : SoundOutdoor o) (both shared : ℕ) (eb : DaysWithBoth o both) (ht : shared ≤ tenths) where
   pasture-le : grazed o both shared ≤ tenths * year
   pasture-le =
       let k : (tenths - shared) * both ≤ tenths * both = mul-le-mul-right both (omega arith) in
@@ -59,7 +59,7 @@ module _ (o : Outdoor) (s : SoundOutdoor o) (both shared : ℕ) (eb : Both o bot
 pub ruleset outdoor-time-steps = (pasture-both-fits, pasture-sum-fits, time-fits, is-time)
 
 module _ (o : Outdoor) (s : SoundOutdoor o) where
-  here : Both o («days_with_grazing_and_yard» o)
+  here : DaysWithBoth o («days_with_grazing_and_yard» o)
   here = is-both o s («days_with_grazing_and_yard» o) refl
 
   pub outdoor-grazing-time-le : outdoorGrazingTime o ≤ day * (tenths * year)

@@ -5,7 +5,7 @@ use mathlib.Core.Path.{_≡_, refl, ap}
 use Prim.Native.Nat.{ℕ, _+_, _-_, _*_, _/_, _≤_}
 use native.Mathlib.Nat.{le-refl}
 use native.Mathlib.Omega.{arith}
-use Rattle.cut.proofs.Shares.{part-mono}
+use Rattle.cut_division.proofs.Shares.{part-mono}
 use Rattle.amounts.specs.Units.{tenths, year, day}
 use Rattle.amounts.specs.Arithmetic.{Arithmetic, cutting}
 use Rattle.kinds.specs.declared.ExerciseYard.the-variants.{NotAvailable}

@@ -6,7 +6,7 @@ use amounts::TEN_THOUSANDTHS;
 use amounts::TENTHS;
 use amounts::YEAR;
 use amounts::YEAR_OF_HOURS;
-use cut::Quotient;
+use cut_division::Quotient;
 use kinds::HousingType;
 use kinds::Outdoor;
 use kinds::Roughage;
@@ -16,7 +16,7 @@ ghost use Prim.Native.Nat.{_*_};
 ghost use Rattle.amounts.specs.Units.{tenths, year, day};
 ghost use Rattle.amounts.specs.Arithmetic.{cutting};
 ghost use Rattle.amounts.specs.Dividing.{dividing, uncut};
-ghost use Rattle.amounts.specs.Bounds.{Modest, PortionsOf, UpTo};
+ghost use Rattle.amounts.specs.Bounds.{WithinMostN, PortionsOf, UpTo};
 ghost use Rattle.kinds.specs.Sound.{SoundOutdoor, SoundRoughage};
 ghost use Rattle.rates.specs.Bounds.{ModestRates};
 ghost use Rattle.pasture.specs.Pasture.{outdoorGrazingTime, roughageGrazingTime, onPasture, pigsIntoGrazing};
@@ -53,7 +53,7 @@ fn outdoor_grazing_time(o: Outdoor) -> u64
 
 // What a herd with a yard puts on pasture, of so much N and TAN.
 fn outdoor_into_grazing(o: Outdoor, n: u64, tan: u64) -> Parts
-    requires { ⌜ SoundOutdoor o × Modest n tan ⌝ }
+    requires { ⌜ SoundOutdoor o × WithinMostN n tan ⌝ }
     ensures { λ r. ⌜ PortionsOf n tan (outdoorGrazingTime o) (day * (tenths * year)) r ⌝ }
 {
     amounts::portions(n, tan, outdoor_grazing_time(o), YEAR_OF_SHARED_HOURS)
@@ -61,7 +61,7 @@ fn outdoor_into_grazing(o: Outdoor, n: u64, tan: u64) -> Parts
 
 // What a roughage herd puts on pasture, of so much N and TAN.
 fn roughage_into_grazing(h: Roughage, n: u64, tan: u64) -> Parts
-    requires { ⌜ SoundRoughage h × Modest n tan ⌝ }
+    requires { ⌜ SoundRoughage h × WithinMostN n tan ⌝ }
     ensures { λ r. ⌜ PortionsOf n tan (roughageGrazingTime h) (day * year) r ⌝ }
 {
     amounts::portions(n, tan, h.grazing_hours * h.grazing_days, YEAR_OF_HOURS)
@@ -82,7 +82,7 @@ fn pigs_into_grazing(housing: HousingType, amount: u64) -> u64
 
 // What a pasture emits onto which so much N and TAN comes.
 fn gases_of(r: Rates, n: u64, tan: u64) -> Gases
-    requires { ⌜ ModestRates r × Modest n tan ⌝ }
+    requires { ⌜ ModestRates r × WithinMostN n tan ⌝ }
     ensures { λ g. ⌜ Emitted r n tan g ⌝ }
 {
     let nh3 = amounts::portion(tan, r.nh3, TEN_THOUSANDTHS);
@@ -94,7 +94,7 @@ fn gases_of(r: Rates, n: u64, tan: u64) -> Gases
 
 // The pasture onto which so much N and TAN comes.
 fn on_pasture(r: Rates, into: Parts) -> Grazing
-    requires { ⌜ ModestRates r × Modest (into .n .whole) (into .tan .whole) ⌝ }
+    requires { ⌜ ModestRates r × WithinMostN (into .n .whole) (into .tan .whole) ⌝ }
     ensures { λ g. ⌜ g ≡ handedFrom into (onPasture dividing r (uncut (into .n .whole)) (uncut (into .tan .whole))) ⌝ }
 {
     let n = into.n.whole;
@@ -105,13 +105,13 @@ fn on_pasture(r: Rates, into: Parts) -> Grazing
         into,
         gases: g,
         n_remain_grazing: n - all,
-        tan_remain_grazing: cut::less(tan, all),
+        tan_remain_grazing: cut_division::less(tan, all),
     }
 }
 
 // The pasture of a herd with a yard, at its kind's rates, where the herd excretes so much N and TAN.
 pub fn outdoor_grazing(r: Rates, o: Outdoor, n: u64, tan: u64) -> Grazing
-    requires { ⌜ ModestRates r × SoundOutdoor o × Modest n tan ⌝ }
+    requires { ⌜ ModestRates r × SoundOutdoor o × WithinMostN n tan ⌝ }
     ensures { λ g. ⌜ g ≡ handedGrazing (outdoorGrazing dividing r o (uncut n) (uncut tan)) ⌝ }
 {
     let into = outdoor_into_grazing(o, n, tan);
@@ -120,7 +120,7 @@ pub fn outdoor_grazing(r: Rates, o: Outdoor, n: u64, tan: u64) -> Grazing
 
 // The pasture of a roughage herd.
 pub fn roughage_grazing(h: Roughage, n: u64, tan: u64) -> Grazing
-    requires { ⌜ SoundRoughage h × Modest n tan ⌝ }
+    requires { ⌜ SoundRoughage h × WithinMostN n tan ⌝ }
     ensures { λ g. ⌜ g ≡ handedGrazing (roughageGrazing dividing h (uncut n) (uncut tan)) ⌝ }
 {
     let into = roughage_into_grazing(h, n, tan);
@@ -129,12 +129,12 @@ pub fn roughage_grazing(h: Roughage, n: u64, tan: u64) -> Grazing
 
 // The pasture of a pig herd.
 pub fn pigs_grazing(housing: HousingType, n: u64, tan: u64) -> Grazing
-    requires { ⌜ Modest n tan ⌝ }
+    requires { ⌜ WithinMostN n tan ⌝ }
     ensures { λ g. ⌜ g ≡ handedGrazing (pigsGrazing dividing housing (uncut n) (uncut tan)) ⌝ }
 {
     let into = Parts {
-        n: cut::undivided(pigs_into_grazing(housing, n)),
-        tan: cut::undivided(pigs_into_grazing(housing, tan)),
+        n: cut_division::undivided(pigs_into_grazing(housing, n)),
+        tan: cut_division::undivided(pigs_into_grazing(housing, tan)),
     };
     on_pasture(rates::pigs_rates(), into)
 }

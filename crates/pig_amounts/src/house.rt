@@ -1,7 +1,7 @@
 // 2.51: what goes into a pig house, is emitted there or kept back, and leaves it as slurry or as solid manure.
 use crate::scrubber;
 use amounts::BILLIONTHS;
-use cut::Quotient;
+use cut_division::Quotient;
 use housing::Housing;
 use kinds::Pigs;
 use pig_factors::factors;

@@ -7,14 +7,14 @@ use borrow.Author.Needs.{zero≤}
 use borrow.Author.Tests.{lt-ltb, le-ltb}
 use mir.Syntax.{w64}
 use mir.Val.{Fits}
-use Rattle.cut.specs.declared.Quotient.{Quotient}
-use Rattle.cut.specs.Cut.{_cutBy_, least, undivided}
-use Rattle.cut.proofs.Products.{mul-fits, mul-to}
-use Rattle.cut.proofs.Shares.{part-le, part-mono, parts-over-le, least-le, least-most}
+use Rattle.cut_division.specs.declared.Quotient.{Quotient}
+use Rattle.cut_division.specs.Cut.{_cutBy_, least, undivided}
+use Rattle.cut_division.proofs.Products.{mul-fits, mul-to}
+use Rattle.cut_division.proofs.Shares.{part-le, part-mono, parts-over-le, least-le, least-most}
 use Rattle.amounts.specs.Units.{tenths, percent, billionths}
 use Rattle.amounts.specs.Arithmetic.{cutting}
 use Rattle.amounts.specs.Dividing.{dividing}
-use Rattle.amounts.specs.Bounds.{PortionOf, TwiceOf, UpTo}
+use Rattle.amounts.specs.Bounds.{PortionOf, PortionToTwice, UpTo}
 use Rattle.kinds.specs.declared.HousingType.{HousingType}
 use Rattle.kinds.specs.declared.HousingType.the-variants as housed
 use Rattle.kinds.specs.declared.AirScrubber.{AirScrubber}
@@ -169,7 +169,7 @@ module _ (p : Pigs) where
 
   pub is-before-free : (rate left : ℕ) (q : Quotient) → UpTo billionths («er_housing» (p .«housing_type»)) rate
       → UpTo (percent + percent) («c_free_factor» (p .«free_correction_factor»)) left
-      → TwiceOf (rate * «c_area») left percent q
+      → PortionToTwice (rate * «c_area») left percent q
       → FactorOf (beforeWithFree dividing p) q
   is-before-free rate left q u ul c =
       record { is = rw (c .cut, u .is, ul .is) refl; most = omega (arith, c .most, u .most) }
@@ -202,7 +202,7 @@ module _ (p : Pigs) where
 
   pub is-grazing-free : (rate left : ℕ) (q : Quotient) → UpTo billionths («er_housing» (p .«housing_type»)) rate
       → UpTo (percent + percent) («c_free_factor» (p .«free_correction_factor»)) left
-      → TwiceOf rate (left * «c_area») percent q
+      → PortionToTwice rate (left * «c_area») percent q
       → FactorOf (grazingWithFree dividing p) q
   is-grazing-free rate left q u ul c =
       record { is = rw (c .cut, u .is, ul .is) refl; most = omega (arith, c .most, u .most) }

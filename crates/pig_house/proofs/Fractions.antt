@@ -5,9 +5,9 @@ use Prim.Native.Nat.{ℕ, zero, suc, _-_, _≤_, _<_}
 use native.Mathlib.Nat.{le-trans, le-refl}
 use native.Mathlib.Omega.{arith}
 use borrow.Author.Needs.{zero≤}
-use Rattle.cut.specs.declared.Quotient.{Quotient}
-use Rattle.cut.specs.Cut.{undivided}
-use Rattle.cut.proofs.Shares.{part-le}
+use Rattle.cut_division.specs.declared.Quotient.{Quotient}
+use Rattle.cut_division.specs.Cut.{undivided}
+use Rattle.cut_division.proofs.Shares.{part-le}
 use Rattle.amounts.specs.Units.{tenThousandths}
 use Rattle.amounts.specs.Arithmetic.{cutting}
 use Rattle.amounts.specs.Dividing.{dividing, uncut, worth}

@@ -16,10 +16,10 @@ use native.Mathlib.Omega.{arith}
 use borrow.Author.Needs.{zero≤}
 use mir.Syntax.{w64}
 use mir.Val.{Fits}
-use Rattle.cut.specs.declared.Quotient.{Quotient}
-use Rattle.cut.specs.Cut.{undivided, quotientOf}
-use Rattle.cut.proofs.Products.{mul-fits, mul-to}
-use Rattle.cut.proofs.Shares.{part-le, least-le}
+use Rattle.cut_division.specs.declared.Quotient.{Quotient}
+use Rattle.cut_division.specs.Cut.{undivided, quotientOf}
+use Rattle.cut_division.proofs.Products.{mul-fits, mul-to}
+use Rattle.cut_division.proofs.Shares.{part-le, least-le}
 use Rattle.amounts.specs.Units.{tenths, billionths}
 use Rattle.amounts.specs.Arithmetic.{cutting}
 use Rattle.amounts.specs.Dividing.{Divided, dividing, uncut, worth}

@@ -7,8 +7,8 @@ use native.Mathlib.Nat.{zero-mul, mul-zero, le-trans, mul-le-mul-left, div-le-of
 use native.Mathlib.Omega.{arith}
 use borrow.Author.Tests.{le-ltb}
 use lib.IntN.{pos}
-use Rattle.cut.specs.Cut.{least}
-use Rattle.cut.proofs.Shares.{part-le, least-le}
+use Rattle.cut_division.specs.Cut.{least}
+use Rattle.cut_division.proofs.Shares.{part-le, least-le}
 use Rattle.amounts.specs.Units.{tenths, percent, billionths}
 use Rattle.amounts.specs.Arithmetic.{cutting}
 use Rattle.kinds.specs.declared.HousingType.{HousingType}

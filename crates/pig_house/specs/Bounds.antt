@@ -2,10 +2,10 @@
 -- taken from less. No figure of 001 is defined here.
 use mathlib.Core.Path.{_≡_}
 use Prim.Native.Nat.{ℕ, _+_, _≤_}
-use Rattle.cut.specs.declared.Quotient.{Quotient}
+use Rattle.cut_division.specs.declared.Quotient.{Quotient}
 use Rattle.amounts.specs.Units.{tenThousandths, billionths}
 use Rattle.amounts.specs.Dividing.{Divided, handed}
-use Rattle.amounts.specs.Bounds.{Modest, PortionOf, mostN}
+use Rattle.amounts.specs.Bounds.{WithinMostN, PortionOf, mostN}
 use Rattle.kinds.specs.declared.HousingType.{HousingType}
 use Rattle.kinds.specs.declared.HousingType.the-variants as housed
 use Rattle.kinds.specs.declared.Pigs.{Pigs}
@@ -24,7 +24,7 @@ pub data Housed : HousingType → ℕ → ℕ → Type 0 where
 
 -- what goes into a pig house
 pub record Enters (p : Pigs) (excreted n tan : ℕ) : Type 0 where
-  pub modest : Modest n tan
+  pub modest : WithinMostN n tan
   pub excreted-most : excreted ≤ mostN
   pub housed : Housed (p .«housing_type») excreted tan
 

@@ -1,5 +1,5 @@
 -- 2.52 to 2.62, what the names of a pig house stand for: the values of the Technical Parameters, by the page's decimals
--- (crate `page`). To be believed.
+-- (crate `printed_numbers`). To be believed.
 use Prim.Native.Nat.{ℕ, _*_}
 use Rattle.kinds.specs.declared.HousingType.{HousingType}
 use Rattle.kinds.specs.declared.HousingType.the-variants as housed

@@ -1,8 +1,8 @@
 // What stands at a place of the file, and what it does to the herd being read. Refusal 2.
 use csv::ReaderPlace;
 use csv::Step;
-use farm::Fault;
 use farm::Herd;
+use farm::Refusal;
 use progress::Effect;
 use records::entries;
 ghost use mathlib.Core.Path.{_≡_};
@@ -25,7 +25,7 @@ pub fn read_at(s: &[u8], place: ReaderPlace, herd: Herd) -> PlaceRead
             next: place,
         },
         Step::Broken => PlaceRead {
-            effect: Effect::Wrong(Fault::RecordBroken),
+            effect: Effect::Wrong(Refusal::RecordBroken),
             herd,
             next: place,
         },

@@ -3,7 +3,7 @@
 pub mod input; // the farm file on standard input
 pub mod tell; // answers of other calls, a line each
 
-use farm::Fault;
+use farm::Refusal;
 use streams::Outcome;
 use views::View;
 use views::program;
@@ -12,7 +12,7 @@ use written::Written;
 // What was printed: what the view lists of the farm, the refusal's line, or not all of either.
 pub enum Printed {
     Listed,
-    Refused(Fault, usize),
+    Refused(Refusal, usize),
     Broken,
 }
 
@@ -25,9 +25,9 @@ fn print(text: &[u8]) -> bool {
 }
 
 // The line of a refusal.
-pub fn print_refusal(fault: Fault, record: usize) -> bool {
+pub fn print_refusal(refusal: Refusal, record: usize) -> bool {
     let mut line = [0u8; refusal_line::LINE_ROOM];
-    let n = fault_line::put_line(&mut line, fault, record);
+    let n = file_refusal_line::put_line(&mut line, refusal, record);
     print(base::part_of(&line, 0, n))
 }
 
@@ -45,6 +45,6 @@ pub fn print_view(view: View, s: &[u8]) -> Printed {
     let ended = output.ended;
     match ended {
         Written::Length(_) => Printed::Listed,
-        Written::Refused(fault, record) => Printed::Refused(fault, record),
+        Written::Refused(refusal, record) => Printed::Refused(refusal, record),
     }
 }

@@ -1,6 +1,6 @@
 // Answers on standard output, a line each.
 use farm::Checked;
-use farm::Fault;
+use farm::Refusal;
 use libc::STDOUT_FILENO;
 use written::Written;
 
@@ -28,14 +28,14 @@ pub fn kilograms(grams: i64) {
     line(base::part_of(&text, 0, n));
 }
 
-fn refusal_line(fault: Fault, record: usize) {
-    crate::print_refusal(fault, record);
+fn refusal_line(refusal: Refusal, record: usize) {
+    crate::print_refusal(refusal, record);
 }
 
 pub fn checked_line(checked: Checked) {
     match checked {
         Checked::Accepted => line(b"accepted"),
-        Checked::Refused(fault, record) => refusal_line(fault, record),
+        Checked::Refused(refusal, record) => refusal_line(refusal, record),
     }
 }
 
@@ -45,6 +45,6 @@ pub fn written_line(written: Written) {
             say(b"length,");
             number(n as u64);
         }
-        Written::Refused(fault, record) => refusal_line(fault, record),
+        Written::Refused(refusal, record) => refusal_line(refusal, record),
     }
 }

@@ -9,8 +9,8 @@ use Rattle.inputs.specs.Inputs.{sameKind}
 use Rattle.farm.specs.declared.Label.{Label}
 use Rattle.farm.specs.declared.Given.{Given}
 use Rattle.farm.specs.declared.Herd.{Herd}
-use Rattle.farm.specs.declared.Fault.{Fault}
-use Rattle.farm.specs.declared.Fault.the-variants.{OtherKind, GivenAlready}
+use Rattle.farm.specs.declared.Refusal.{Refusal}
+use Rattle.farm.specs.declared.Refusal.the-variants.{OtherKind, GivenAlready}
 use Rattle.farm.specs.Limits.{slots}
 use Rattle.farm.specs.Labels.{sameLabel}
 use Rattle.farm.specs.Herds.{isMissing, noSlot}
@@ -56,7 +56,7 @@ pub ruleset adding-steps = (other-kind, given-already, adds)
 -- ---- what a record does to the herd being read
 
 module _ (h : Herd) (e : Entry) where
-  pub effect-wrong : {fault : Fault} → e .read ≡ reads.Wrong fault → after (Wrong fault) h ≡ effectOf h e
+  pub effect-wrong : {refusal : Refusal} → e .read ≡ reads.Wrong refusal → after (Wrong refusal) h ≡ effectOf h e
   unfolding effectOf
   effect-wrong t = simp (effectOf, t)
 

@@ -1,5 +1,5 @@
 -- What a record does to the herd being read: it adds an input, begins another herd, or is refused with 10 or 11. It
--- mirrors the code for its contracts; what 10 and 11 mean is said of the records in `rules/specs`, and proved to be the
+-- mirrors the code for its contracts; what 10 and 11 mean is said of the records in `rules_theorems/specs`, and proved to be the
 -- same there.
 use Prim.Native.Nat.{ℕ}
 use mathlib.Core.Bool.{Bool, not}
@@ -12,7 +12,7 @@ use Rattle.inputs.specs.Inputs.{sameKind}
 use Rattle.farm.specs.declared.Label.{Label}
 use Rattle.farm.specs.declared.Given.{Given}
 use Rattle.farm.specs.declared.Herd.{Herd}
-use Rattle.farm.specs.declared.Fault.the-variants.{OtherKind, GivenAlready}
+use Rattle.farm.specs.declared.Refusal.the-variants.{OtherKind, GivenAlready}
 use Rattle.farm.specs.Limits.{slots}
 use Rattle.farm.specs.Labels.{sameLabel}
 use Rattle.farm.specs.Herds.{isMissing, noSlot}
@@ -47,7 +47,7 @@ addingTo h k slot g =
 
 -- what a record of this label does that says this
 abbrev pub effectBy : Herd → Label → RecordRead → HerdAfter
-effectBy h l (reads.Wrong fault) = after (Wrong fault) h
+effectBy h l (reads.Wrong refusal) = after (Wrong refusal) h
 effectBy h l (reads.Gives k slot g) =
     pick (sameLabel (h .label) l) (addingTo h k slot g) (after Begins (newHerd l k slot g))
 

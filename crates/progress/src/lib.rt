@@ -1,8 +1,8 @@
 // What a record does to the herd being read: it adds an input to it, begins another, or is refused with 10 or 11.
-use farm::Fault;
 use farm::Given;
 use farm::Herd;
 use farm::Label;
+use farm::Refusal;
 use farm::SLOTS;
 use farm::Slot;
 use farm::herds;
@@ -21,7 +21,7 @@ ghost use Rattle.progress.specs.Herds.{newHerd, hasInput, addingTo, effe
 pub enum Effect {
     Adds,
     Begins,
-    Wrong(Fault),
+    Wrong(Refusal),
     Ends,
 }
 
@@ -65,13 +65,13 @@ fn adding_to(h: Herd, kind: Kind, slot: usize, given: Given) -> HerdAfter
     let own = h.kind;
     if !inputs::same_kind(own, kind) {
         return HerdAfter {
-            effect: Effect::Wrong(Fault::OtherKind),
+            effect: Effect::Wrong(Refusal::OtherKind),
             herd: h,
         };
     }
     if has_input(h, slot) {
         return HerdAfter {
-            effect: Effect::Wrong(Fault::GivenAlready),
+            effect: Effect::Wrong(Refusal::GivenAlready),
             herd: h,
         };
     }
@@ -90,8 +90,8 @@ pub fn effect_of(h: Herd, entry: Entry) -> HerdAfter
     let label = entry.label;
     let read = entry.read;
     match read {
-        RecordRead::Wrong(fault) => HerdAfter {
-            effect: Effect::Wrong(fault),
+        RecordRead::Wrong(refusal) => HerdAfter {
+            effect: Effect::Wrong(refusal),
             herd: h,
         },
         RecordRead::Gives(kind, slot, given) => {

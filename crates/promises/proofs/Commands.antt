@@ -8,24 +8,24 @@ use Rattle.record_lines.specs.Records.{RecordsOf, refusalFields}
 use Rattle.record_lines.proofs.Records.{both, refusal-read}
 use Rattle.farm.specs.declared.Herd.{Herd}
 use Rattle.farm.specs.declared.Farm.{Farm}
-use Rattle.farm.specs.declared.Fault.{Fault}
+use Rattle.farm.specs.declared.Refusal.{Refusal}
 use Rattle.farm.specs.Refusals.{number}
 use Rattle.checks.specs.Accepts.{GoodHerd}
 use Rattle.checks.proofs.Accepts.{accepted-farm}
-use Rattle.rules.specs.Rules.{farmOf, KeepsRules}
-use Rattle.rules.specs.Refusals.{First}
-use Rattle.rules.proofs.Farms.{herds-of}
-use Rattle.rules.proofs.Accepts.{accepts-exactly}
-use Rattle.rules.proofs.Refuses.{first-refusal}
-use Rattle.rules.proofs.Passing.{accepted-passes}
+use Rattle.rules_theorems.specs.Rules.{farmOf, KeepsRules}
+use Rattle.rules_theorems.specs.Refusals.{First}
+use Rattle.rules_theorems.proofs.Farms.{herds-of}
+use Rattle.rules_theorems.proofs.Accepts.{accepts-exactly}
+use Rattle.rules_theorems.proofs.Refuses.{first-refusal}
+use Rattle.rules_theorems.proofs.Passing.{accepted-passes}
 use Rattle.outputs.specs.Grams.{totalsOf}
 use Rattle.model.specs.Answers.{herdFigures}
 use Rattle.refusal_line.specs.Lines.{refusalLine}
 use Rattle.line_parts.proofs.Records.{records}
 use Rattle.listing.proofs.WellFormed.{listing-reads, totals-read}
-use Rattle.noting.proofs.WellFormed.{notes-read}
-use Rattle.cut_lines.proofs.WellFormed.{cuts-read}
-use Rattle.why_lines.proofs.WellFormed.{reason-reads}
+use Rattle.lines_notes.proofs.WellFormed.{notes-read}
+use Rattle.lines_cuts.proofs.WellFormed.{cuts-read}
+use Rattle.lines_reasons.proofs.WellFormed.{reason-reads}
 use Rattle.views.specs.declared.View.{View}
 use Rattle.views.specs.Views.{herdText, viewed}
 use Rattle.views.specs.Program.{outputOf}
@@ -40,9 +40,9 @@ module _ (v : View) (s : List ℕ) where
   unfolding outputOf
   prints-listed f keeps = rw (accepts-exactly s f .1 keeps)
 
-  pub prints-refused : (n : ℕ) (fault : Fault) → First s n fault → outputOf v s ≡ refusalLine (number fault) n
+  pub prints-refused : (n : ℕ) (refusal : Refusal) → First s n refusal → outputOf v s ≡ refusalLine (number refusal) n
   unfolding outputOf
-  prints-refused n fault first = rw (first-refusal s n fault .1 first)
+  prints-refused n refusal first = rw (first-refusal s n refusal .1 first)
 
 -- ---- as records
 
@@ -71,6 +71,6 @@ prints-records t {s} k =
     rw (printed-view k (viewOf t)) (herds-read t (rw (herds-of hs) at good))
 
 -- of every other file
-pub prints-a-record : (v : View) {s : List ℕ} {n : ℕ} {fault : Fault} → First s n fault
-    → RecordsOf 3 (refusalFields (number fault) n ∷ []) (outputOf v s)
-prints-a-record v {s} {n} {fault} first = rw (prints-refused v s n fault first) (refusal-read (number fault) n)
+pub prints-a-record : (v : View) {s : List ℕ} {n : ℕ} {refusal : Refusal} → First s n refusal
+    → RecordsOf 3 (refusalFields (number refusal) n ∷ []) (outputOf v s)
+prints-a-record v {s} {n} {refusal} first = rw (prints-refused v s n refusal first) (refusal-read (number refusal) n)

@@ -3,7 +3,7 @@
 -- divisor; that yard, pasture and housing are together what is excreted is `kept` (crate `model`). And the quotients of
 -- a roughage herd's factors are the factors of its housing. Assumes nothing.
 use mathlib.Core.Path.{_≡_, refl}
-use Rattle.cut.specs.Frac.{Same}
+use Rattle.cut_division.specs.Frac.{Same}
 use Rattle.amounts.specs.Arithmetic.{cutting}
 use Rattle.kinds.specs.declared.Roughage.{Roughage}
 use Rattle.kinds.specs.declared.Cattle.{Cattle}
@@ -11,15 +11,15 @@ use Rattle.kinds.specs.declared.Inputs.the-variants as kinds
 use Rattle.farm.specs.declared.Herd.{Herd}
 use Rattle.farm.specs.declared.Checked.the-variants.{Accepted}
 use Rattle.checks.specs.Checks.{checkHerd}
-use Rattle.typed.specs.Typed.{typedOf}
+use Rattle.typed_inputs.specs.Typed.{typedOf}
 use Rattle.housing.specs.Housing.{«c_grazing», withRate, uncapped}
 use Rattle.housing.proofs.InHousing.{grown-whole}
 use Rattle.outputs.specs.Grams.{figure}
 use Rattle.cuts.specs.Cuts.{cutOff}
 use Rattle.cuts.specs.Herd.{quotientUnder}
 use Rattle.model.specs.Answers.{herdAnswer}
-use Rattle.nearness.specs.Exact.{exactFigure}
-use Rattle.nearness.proofs.CutOff.{andOver, yard-exactly, pasture-exactly}
+use Rattle.nearness_theorems.specs.Exact.{exactFigure}
+use Rattle.nearness_theorems.proofs.CutOff.{andOver, yard-exactly, pasture-exactly}
 
 module _ (h : Herd) (accepted : checkHerd h ≡ Accepted) (c : Cattle) (is-cattle : typedOf h ≡ kinds.Cattle c) where
   pub answered-yard-exactly : Same (exactFigure "n_into_yard" (typedOf h))

@@ -15,8 +15,8 @@ use Rattle.base.specs.Pick.{pick}
 use Rattle.base.proofs.Clash.{clash}
 use Rattle.farm.specs.declared.Herd.{Herd}
 use Rattle.farm.specs.declared.Farm.{Farm}
-use Rattle.farm.specs.declared.Fault.{Fault}
-use Rattle.farm.specs.declared.Fault.the-variants.{BufferTooShort}
+use Rattle.farm.specs.declared.Refusal.{Refusal}
+use Rattle.farm.specs.declared.Refusal.the-variants.{BufferTooShort}
 use Rattle.farm.specs.declared.Checked.{Checked}
 use Rattle.farm.specs.declared.Checked.the-variants as checks
 use Rattle.farm.specs.Refusals.{number, Says, accepts, gives, refuses, says}
@@ -25,8 +25,8 @@ use Rattle.checks.proofs.Refuses.{record-gets}
 use Rattle.reader.specs.declared.FileAnswer.{FileAnswer}
 use Rattle.reader.specs.Files.{readOf, accepted, refused}
 use Rattle.first_refusal.specs.Records.{Record}
-use Rattle.rules.specs.Rules.{KeepsRules}
-use Rattle.rules.specs.Refusals.{
+use Rattle.rules_theorems.specs.Rules.{KeepsRules}
+use Rattle.rules_theorems.specs.Refusals.{
   First,
   AppliesAt,
   too-long,
@@ -44,9 +44,9 @@ use Rattle.rules.specs.Refusals.{
   other-kind,
   given-already,
 }
-use Rattle.rules.proofs.Accepts.{accepts-exactly}
-use Rattle.rules.proofs.Refuses.{Outcome, takes, gives as gives-first, outcome}
-use Rattle.rules.proofs.Answers.{answered}
+use Rattle.rules_theorems.proofs.Accepts.{accepts-exactly}
+use Rattle.rules_theorems.proofs.Refuses.{Outcome, takes, gives as gives-first, outcome}
+use Rattle.rules_theorems.proofs.Answers.{answered}
 use Rattle.model.specs.Answers.{herdAnswer, farmAnswer}
 use Rattle.written.specs.declared.Written.{Written}
 use Rattle.written.specs.declared.Written.the-variants.{Length, Refused}
@@ -54,7 +54,7 @@ use Rattle.written.specs.Answer.{leaves, answers, saysOf}
 use Rattle.views.specs.declared.View.{View}
 use Rattle.views.specs.declared.Output.{Output}
 use Rattle.views.specs.Program.{endedOf, PutOutput}
-use Rattle.contracts.specs.Listings.{Call, Called, left, said}
+use Rattle.contracts.specs.Listings.{Call, Called, left, answerOf}
 use Rattle.contracts.proofs.RecordSteps.{herd-checked, farm-checked}
 
 -- ---- a file
@@ -62,29 +62,29 @@ use Rattle.contracts.proofs.RecordSteps.{herd-checked, farm-checked}
 -- what a file gets: the farm that it says, by the rules; or the first refusal in the written order
 pub data Gets (s : List ℕ) : FileAnswer → Type 0 where
   farm : {f : Farm} → KeepsRules s f → Gets s (accepted f)
-  refusal : {n : ℕ} {fault : Fault} → First s n fault → Gets s (refused n fault)
+  gets-refusal : {n : ℕ} {refusal : Refusal} → First s n refusal → Gets s (refused n refusal)
 
 pub demand-1 : (s : List ℕ) → Gets s (readOf s)
 demand-1 s = by (readOf s) refl (outcome (answered s))
   where
     by : (x : FileAnswer) → readOf s ≡ x → Outcome s x → Gets s x
     by x e (takes {f = f} none) = farm (accepts-exactly s f .0 e)
-    by x e (gives-first r) = refusal r
+    by x e (gives-first r) = gets-refusal r
 
 -- and what is said of it
 pub data FileSays (s : List ℕ) : Says → Type 0 where
   fine : {f : Farm} → KeepsRules s f → FileSays s accepts
-  first : {n : ℕ} {fault : Fault} → First s n fault → FileSays s (refuses (number fault) n)
+  first : {n : ℕ} {refusal : Refusal} → First s n refusal → FileSays s (refuses (number refusal) n)
 
 pub demand-1-says : (s : List ℕ) → FileSays s (says (readOf s .checked))
 demand-1-says s = by (demand-1 s)
   where
     by : {a : FileAnswer} → Gets s a → FileSays s (says (a .checked))
     by (farm keeps) = fine keeps
-    by (refusal r) = first r
+    by (gets-refusal r) = first r
 
 -- 01: "13 belongs to the writing calls alone"
-of-a-record : {before : List Record} {cs : Record} {fault : Fault} → Applies before cs fault → number fault < 13
+of-a-record : {before : List Record} {cs : Record} {refusal : Refusal} → Applies before cs refusal → number refusal < 13
 of-a-record (not-four-fields a) = omega arith
 of-a-record (bad-label a) = omega arith
 of-a-record (not-in-the-list a) = omega arith
@@ -95,13 +95,13 @@ of-a-record (no-room-for-herd a b) = omega arith
 of-a-record (other-kind a b c d e) = omega arith
 of-a-record (given-already a b) = omega arith
 
-of-a-file : {s : List ℕ} {n : ℕ} {fault : Fault} → AppliesAt s n fault → number fault < 13
+of-a-file : {s : List ℕ} {n : ℕ} {refusal : Refusal} → AppliesAt s n refusal → number refusal < 13
 of-a-file (too-long a) = omega arith
 of-a-file (broken a) = omega arith
 of-a-file (wrong a b) = of-a-record b
 of-a-file (missing before cs after a b) = omega arith
 
-pub never-13 : {s : List ℕ} {n : ℕ} {fault : Fault} → First s n fault → number fault < 13
+pub never-13 : {s : List ℕ} {n : ℕ} {refusal : Refusal} → First s n refusal → number refusal < 13
 never-13 r = of-a-file (r .applies)
 
 -- ---- a record that is handed in: no refusal applies to it; or the first that applies is given, with record 0
@@ -126,10 +126,10 @@ module _ (c : Call) (old : List ℕ) where
   by-room a true e = listed a (leb-true _ _ e)
   by-room a false e = too-short a (leb-false _ _ e)
 
-  by-finding : (k : Checked) → c .checked ≡ k → CallSays c old (saysOf (said k (c .listing) old))
+  by-finding : (k : Checked) → c .checked ≡ k → CallSays c old (saysOf (answerOf k (c .listing) old))
   unfolding answers
   by-finding checks.Accepted e = by-room (ap says e) (leb (length (c .listing)) (length old)) refl
-  by-finding (checks.Refused fault n) e = as-found (ap says e)
+  by-finding (checks.Refused refusal n) e = as-found (ap says e)
 
 pub call-says : {c : Call} {old new : List ℕ} {r : Written} → Called c old new r → CallSays c old (saysOf r)
 call-says {c} {old} w = rw (w .answer) (by-finding c old (c .checked) refl)
@@ -141,7 +141,7 @@ fits-or-not : (listing old : List ℕ) (t : Bool) (k n : ℕ)
 fits-or-not listing old true k n e = clash cc
 fits-or-not listing old false k n e = refl
 
-by-checks : (c : Checked) (listing old : List ℕ) (k n : ℕ) → saysOf (said c listing old) ≡ refuses k n
+by-checks : (c : Checked) (listing old : List ℕ) (k n : ℕ) → saysOf (answerOf c listing old) ≡ refuses k n
     → left c listing old ≡ old
 unfolding leaves answers
 by-checks checks.Accepted listing old k n e = fits-or-not listing old (leb (length listing) (length old)) k n e

@@ -14,10 +14,10 @@ use Rattle.farm.specs.declared.Checked.the-variants.{Accepted}
 use Rattle.checks.specs.Checks.{checkHerd, checkFarm, herdsOf}
 use Rattle.checks.proofs.Accepts.{farm-each}
 use Rattle.reader.specs.Files.{readOf, accepted}
-use Rattle.rules.specs.Rules.{farmOf, KeepsRules}
-use Rattle.rules.proofs.Farms.{herds-of}
-use Rattle.rules.proofs.Accepts.{accepts-exactly}
-use Rattle.rules.proofs.Passing.{accepted-passes}
+use Rattle.rules_theorems.specs.Rules.{farmOf, KeepsRules}
+use Rattle.rules_theorems.proofs.Farms.{herds-of}
+use Rattle.rules_theorems.proofs.Accepts.{accepts-exactly}
+use Rattle.rules_theorems.proofs.Passing.{accepted-passes}
 use Rattle.model.specs.Answers.{herdAnswer, farmAnswer}
 use Rattle.written.specs.declared.Written.{Written}
 use Rattle.written.specs.declared.Written.the-variants.{Length}

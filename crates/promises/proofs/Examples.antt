@@ -8,12 +8,12 @@ use Rattle.inputs.specs.declared.Kind.the-variants.{Pigs}
 use Rattle.farm.specs.declared.Checked.the-variants.{Accepted}
 use Rattle.farm.specs.Labels.{labelOf}
 use Rattle.reader.specs.Files.{readOf, accepted}
-use Rattle.rules.specs.Rules.{farmOf}
-use Rattle.rules.proofs.Accepts.{accepts-exactly}
+use Rattle.rules_theorems.specs.Rules.{farmOf}
+use Rattle.rules_theorems.proofs.Accepts.{accepts-exactly}
 use Rattle.worked_files.proofs.Examples.{pigHerd, pigs-keep}
 use Rattle.outputs.specs.declared.Figures.{Figures}
 use Rattle.kinds.specs.Choices.{housingAt, scrubberAt, housingFloorAt, housingAirAt}
-use Rattle.typed.specs.Typed.{typedOf, pigsOf}
+use Rattle.typed_inputs.specs.Typed.{typedOf, pigsOf}
 use Rattle.herd.specs.Herd.{figuresOf}
 use Rattle.model.specs.Answers.{herdFigures}
 use Rattle.line_parts.specs.Fields.{each}

@@ -10,9 +10,9 @@ use Rattle.farm.specs.declared.Checked.the-variants.{Accepted}
 use Rattle.checks.specs.Checks.{herdsOf}
 use Rattle.checks.proofs.Accepts.{farm-each}
 use Rattle.model.specs.Answers.{herdAnswer, farmAnswer}
-use Rattle.growing.specs.Growing.{Grows, More, OneHasMore, NoLessAmmonia, NoLessInTotal}
-use Rattle.growing.proofs.Herd.{more-no-less}
-use Rattle.growing.proofs.Farm.{totals-no-less}
+use Rattle.growing_theorems.specs.Growing.{Grows, More, OneHasMore, NoLessAmmonia, NoLessInTotal}
+use Rattle.growing_theorems.proofs.Herd.{more-no-less}
+use Rattle.growing_theorems.proofs.Farm.{totals-no-less}
 use Rattle.contracts.proofs.RecordSteps.{herd-checked, herd-figured, farm-checked, farm-figured}
 
 module _ {name : String} (grows : Grows name) where

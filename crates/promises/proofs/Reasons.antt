@@ -4,13 +4,13 @@
 use Prim.Native.Nat.{ℕ, _+_, _-_, _*_}
 use mathlib.Core.Path.{_≡_, ap}
 use lib.IntN.{pos, natAbs}
-use Rattle.cut.specs.Cut.{_cutBy_}
+use Rattle.cut_division.specs.Cut.{_cutBy_}
 use Rattle.kinds.specs.declared.Outdoor.{Outdoor}
 use Rattle.kinds.specs.declared.Inputs.{Inputs}
 use Rattle.farm.specs.declared.Herd.{Herd}
 use Rattle.farm.specs.declared.Checked.the-variants.{Accepted}
 use Rattle.checks.specs.Checks.{checkHerd}
-use Rattle.typed.specs.Typed.{typedOf}
+use Rattle.typed_inputs.specs.Typed.{typedOf}
 use Rattle.outputs.specs.declared.Figures.{Figures}
 use Rattle.outputs.specs.Grams.{figure}
 use Rattle.herd.specs.Herd.{figuresOf}

@@ -33,11 +33,11 @@ use Rattle.herd_tests.specs.Tests.{lacks}
 use Rattle.fits.specs.Fits.{unfit}
 use Rattle.checks.specs.Checks.{herdsOf, checkHerd, checkFarm}
 use Rattle.checks.proofs.Accepts.{farm-each}
-use Rattle.rules.specs.Rules.{KeepsRules}
-use Rattle.rules.proofs.Accepts.{accepts-exactly}
-use Rattle.rules.proofs.Passing.{accepted-passes}
+use Rattle.rules_theorems.specs.Rules.{KeepsRules}
+use Rattle.rules_theorems.proofs.Accepts.{accepts-exactly}
+use Rattle.rules_theorems.proofs.Passing.{accepted-passes}
 use Rattle.kinds.specs.Choices.{housingAt, scrubberAt, housingFloorAt, housingAirAt}
-use Rattle.typed.specs.Typed.{typedOf, pigsOf}
+use Rattle.typed_inputs.specs.Typed.{typedOf, pigsOf}
 use Rattle.outputs.specs.declared.Totals.{Totals}
 use Rattle.outputs.specs.Names.{totalTexts}
 use Rattle.outputs.specs.Grams.{figure, total, byNumber, farmTotal, totalsOf}
@@ -51,18 +51,18 @@ use Rattle.listing.specs.Listing.{totalPath, totalLine, totalsListing}
 use Rattle.listing_room.specs.Bounds.{farmRoom}
 use Rattle.listing_room.proofs.Lengths.{line-length, each-fills}
 use Rattle.listing_room.proofs.Rooms.{all-fit, herds-few}
-use Rattle.figure_lines.specs.Lines.{listingOf, farmListing}
-use Rattle.figure_lines.proofs.Fits.{farm-fits}
-use Rattle.noting.specs.Records.{herdNotes}
-use Rattle.noting.specs.Rooms.{longestRecord}
-use Rattle.noting.proofs.Fits.{notes-fit}
-use Rattle.cut_lines.specs.Lines.{herdCutLines}
-use Rattle.cut_lines.specs.Rooms.{longestCuts}
-use Rattle.cut_lines.proofs.Lengths.{cuts-fit}
-use Rattle.why_lines.specs.declared.Wording.the-variants.{Record, Sentence}
-use Rattle.why_lines.specs.Lines.{herdWhy}
-use Rattle.why_lines.specs.Rooms.{longestLine}
-use Rattle.why_lines.proofs.Fits.{why-fits}
+use Rattle.lines_figures.specs.Lines.{listingOf, farmListing}
+use Rattle.lines_figures.proofs.Fits.{farm-fits}
+use Rattle.lines_notes.specs.Records.{herdNotes}
+use Rattle.lines_notes.specs.Rooms.{longestRecord}
+use Rattle.lines_notes.proofs.Fits.{notes-fit}
+use Rattle.lines_cuts.specs.Lines.{herdCutLines}
+use Rattle.lines_cuts.specs.Rooms.{longestCuts}
+use Rattle.lines_cuts.proofs.Lengths.{cuts-fit}
+use Rattle.lines_reasons.specs.declared.Wording.the-variants.{Record, Sentence}
+use Rattle.lines_reasons.specs.Lines.{herdWhy}
+use Rattle.lines_reasons.specs.Rooms.{longestLine}
+use Rattle.lines_reasons.proofs.Fits.{why-fits}
 use Rattle.views.specs.declared.View.{View}
 use Rattle.views.specs.declared.View.the-variants.{Figures, Notes, Cuts, Reasons, Sentences}
 use Rattle.views.specs.Views.{herdText, viewed}

@@ -7,8 +7,8 @@ use Rattle.base.specs.Text.{bytes}
 use Rattle.decimal.specs.Writing.{width, wholeOf}
 use Rattle.kilogram_text.specs.Kilograms.{thousandthsOf, sign, kilogramsOf}
 use Rattle.farm.specs.Labels.{labelOf}
-use Rattle.rules.specs.Rules.{farmOf}
-use Rattle.rules.proofs.Passing.{accepted-passes}
+use Rattle.rules_theorems.specs.Rules.{farmOf}
+use Rattle.rules_theorems.proofs.Passing.{accepted-passes}
 use Rattle.worked_files.proofs.Examples.{fourKinds, fourHerds, four-kinds-read}
 use Rattle.tables.specs.Standards.{standardOf}
 use Rattle.tables.specs.Growth.{kOf, withinDay, kAt, nearest, growthNum, growthDen, expNum, expDen}
@@ -16,7 +16,7 @@ use Rattle.kinds.specs.Choices.{yardAt, floorAt, housingAt, scrubberAt, housing
 use Rattle.yard.specs.Yard.{«days_with_grazing_and_yard», shareLowered, «share_excretion_with_grazing», yardTime}
 use Rattle.pasture.specs.Pasture.{outdoorGrazingTime, roughageGrazingTime}
 use Rattle.notes.specs.Notes.{notesOf}
-use Rattle.typed.specs.Typed.{roughageOf, outdoorOf, cattleOf, pigsOf, typedOf}
+use Rattle.typed_inputs.specs.Typed.{roughageOf, outdoorOf, cattleOf, pigsOf, typedOf}
 use Rattle.outputs.specs.Grams.{byNumber, farmTotal, totalsOf}
 use Rattle.herd.specs.Herd.{figuresOf}
 use Rattle.cuts.specs.Herd.{cutsOf}
@@ -25,10 +25,10 @@ use Rattle.model.specs.Answers.{herdFigures, farmAnswer}
 use Rattle.line_parts.specs.Fields.{hasComma, labelField, each}
 use Rattle.listing.specs.Listing.{lineOf, herdLines, totalsListing}
 use Rattle.listing.proofs.Examples.{pigLines, cattleLines, dairyLines, deerLines, totalLines}
-use Rattle.figure_lines.specs.Lines.{farmListing}
-use Rattle.noting.specs.Records.{notesRecord}
-use Rattle.cut_lines.specs.Lines.{cutLine, numbersOf as cutNumbers, cutLines as herdCuts}
-use Rattle.why_lines.specs.Lines.{tenthsOf, numbersOf as whyNumbers, whyRecord, daysWords, sharesWords, whySentence}
+use Rattle.lines_figures.specs.Lines.{farmListing}
+use Rattle.lines_notes.specs.Records.{notesRecord}
+use Rattle.lines_cuts.specs.Lines.{cutLine, numbersOf as cutNumbers, cutLines as herdCuts}
+use Rattle.lines_reasons.specs.Lines.{tenthsOf, numbersOf as whyNumbers, whyRecord, daysWords, sharesWords, whySentence}
 use Rattle.views.specs.declared.View.{View}
 use Rattle.views.specs.declared.View.the-variants.{Figures, Notes, Cuts, Reasons, Sentences}
 use Rattle.views.specs.Views.{herdText, viewed}

@@ -8,9 +8,9 @@ use Rattle.base.specs.Each.{Each}
 use Rattle.farm.specs.declared.Herd.{Herd}
 use Rattle.farm.specs.declared.Checked.the-variants.{Accepted}
 use Rattle.reader.specs.Files.{readOf, accepted}
-use Rattle.rules.specs.Rules.{farmOf}
+use Rattle.rules_theorems.specs.Rules.{farmOf}
 use Rattle.notes.specs.Notes.{notesOf}
-use Rattle.typed.specs.Typed.{typedOf}
+use Rattle.typed_inputs.specs.Typed.{typedOf}
 use Rattle.outputs.specs.declared.Totals.{Totals}
 use Rattle.outputs.specs.Grams.{totalsOf}
 use Rattle.kilograms.specs.Kilograms.{kilogramsOf, totalKilogramsOf}

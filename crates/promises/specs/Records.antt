@@ -8,9 +8,9 @@ use Rattle.outputs.specs.Grams.{totalsOf}
 use Rattle.model.specs.Answers.{herdFigures}
 use Rattle.line_parts.specs.Fields.{each}
 use Rattle.listing.specs.Records as listing
-use Rattle.noting.specs.Records as noting
-use Rattle.cut_lines.specs.Records.{herdCutRecords}
-use Rattle.why_lines.specs.Records.{herdWhyRecords}
+use Rattle.lines_notes.specs.Records as noting
+use Rattle.lines_cuts.specs.Records.{herdCutRecords}
+use Rattle.lines_reasons.specs.Records.{herdWhyRecords}
 use Rattle.views.specs.declared.View.{View}
 use Rattle.views.specs.declared.View.the-variants as views
 

@@ -12,7 +12,7 @@ use Rattle.base.specs.Wrote.{Wrote}
 use Rattle.base.specs.Text.{bytes}
 use Rattle.base.proofs.Clash.{clash}
 use Rattle.base.proofs.Rest.{rest-at, rest-end}
-use Rattle.base.proofs.Writes.{joined, none}
+use Rattle.base.proofs.Writes.{wrote-append, wrote-nothing}
 use Rattle.base.proofs.ToCome.{ToCome, begun, gone-on, ended}
 use Rattle.shown_bytes.specs.declared.Form.{Form}
 use Rattle.shown_bytes.specs.declared.Form.the-variants.{Plain, Quoted, Escaped}
@@ -204,10 +204,10 @@ pair-room s i at n h p e = omega (arith, ap length e, length-take (i + 2 - i) (d
 -- ---- the quotes
 
 pub no-opening : (f : Form) (old : List ℕ) (at : ℕ) → f ≡ Plain → Wrote old at (opening f) old at
-no-opening f old at e = rw e (none old at)
+no-opening f old at e = rw e (wrote-nothing old at)
 
 pub no-closing : (f : Form) (old : List ℕ) (at : ℕ) → f ≡ Plain → Wrote old at (closing f) old at
-no-closing f old at e = rw e (none old at)
+no-closing f old at e = rw e (wrote-nothing old at)
 
 module _ (f : Form) (old : List ℕ) (at : ℕ) (new : List ℕ) (r : ℕ) where
   pub quote-opens : f ≡ Quoted → Wrote old at (bytes "'") new r → Wrote old at (opening f) new r
@@ -230,4 +230,4 @@ pub all-put : (s old mid more new : List ℕ) (at a b r : ℕ) (f : Form) → f 
     → Wrote old at (quoted s) new r × (r ≤ at + quotedMost (length s))
 unfolding quoted
 all-put s old mid more new at a b r f e x y z =
-    (rw (sym e) (joined (joined (x .0) (y .0)) (z .0)), omega (arith, x .1, y .1, z .1))
+    (rw (sym e) (wrote-append (wrote-append (x .0) (y .0)) (z .0)), omega (arith, x .1, y .1, z .1))

@@ -15,8 +15,8 @@ use Rattle.inputs.specs.Inputs.{sameKind}
 use Rattle.farm.specs.declared.Label.{Label}
 use Rattle.farm.specs.declared.Given.{Given}
 use Rattle.farm.specs.declared.Herd.{Herd}
-use Rattle.farm.specs.declared.Fault.{Fault}
-use Rattle.farm.specs.declared.Fault.the-variants.{EarlierLabel, NoRoomForHerd, OtherKind, GivenAlready}
+use Rattle.farm.specs.declared.Refusal.{Refusal}
+use Rattle.farm.specs.declared.Refusal.the-variants.{EarlierLabel, NoRoomForHerd, OtherKind, GivenAlready}
 use Rattle.farm.specs.declared.Checked.{Checked}
 use Rattle.farm.specs.declared.Checked.the-variants.{Accepted, Refused}
 use Rattle.farm.specs.Limits.{herdsMost}
@@ -31,7 +31,7 @@ use Rattle.progress.specs.declared.Effect.{Effect}
 use Rattle.progress.specs.declared.Effect.the-variants.{Adds, Begins, Wrong}
 use Rattle.records.specs.Entries.{labelIn, kindIn, slotIn, givenIn, recordRead, entryOf}
 use Rattle.progress.specs.Herds.{withInput, newHerd, hasInput, after, addingTo, effectBy, effectOf}
-use Rattle.next_herd.specs.Farms.{admitted}
+use Rattle.next_herd.specs.Farms.{newLabelChecked}
 use Rattle.records.proofs.RecordReads.{faults, decided, read-first, read-gives, input-good}
 use Rattle.reader.specs.declared.FileAnswer.{FileAnswer}
 use Rattle.reader.specs.Files.{Progress, refused, closed, isCurrent, recordTests, taken}
@@ -52,8 +52,8 @@ abbrev pub withCurrent : Progress → Herd → Progress
 withCurrent p h = record { farm = p .farm; herd = h; first = p .first; lacking = p .lacking }
 
 pub data EffectSays (n : ℕ) (p : Progress) (x : Parts) : Effect → Herd → Type 0 where
-  wrong : {fault : Fault} {h : Herd} → ((z : FileAnswer) → first (recordTests n p x) z ≡ refused n fault)
-      → EffectSays n p x (Wrong fault) h
+  wrong : {refusal : Refusal} {h : Herd} → ((z : FileAnswer) → first (recordTests n p x) z ≡ refused n refusal)
+      → EffectSays n p x (Wrong refusal) h
   adds : {h : Herd} → (p .herd ≡ noHerd → ⊥) → ((z : FileAnswer) → first (recordTests n p x) z ≡ z)
       → taken n p x ≡ withCurrent p h → EffectSays n p x Adds h
   begins : {h : Herd} → ((z : FileAnswer) → first (recordTests n p x) z ≡ first (newTests n p (h .label)) z)
@@ -114,7 +114,7 @@ module _ (n : ℕ) (p : Progress) (x : Parts) where
   read-effect : (t : RecordRead) → recordRead x ≡ t
       → EffectSays n p x (effectBy (p .herd) (labelIn x) t .effect) (effectBy (p .herd) (labelIn x) t .herd)
   unfolding recordRead taken
-  read-effect (reads.Wrong fault) e = EffectSays.wrong (read-lines e)
+  read-effect (reads.Wrong refusal) e = EffectSays.wrong (read-lines e)
   read-effect (reads.Gives m j v) e =
       subst (λ (t : RecordRead). EffectSays n p x (effectBy (p .herd) (labelIn x) t .effect)
       (effectBy (p .herd) (labelIn x) t .herd)) (read-gives k i g (faults x) e)
@@ -127,14 +127,14 @@ module _ (n : ℕ) (p : Progress) (x : Parts) where
 -- ---- another label: 8 and 9
 
 pub data Admits (n : ℕ) (p : Progress) (l : Label) : Checked → Type 0 where
-  refuses : {fault : Fault} {k : ℕ} → ((z : FileAnswer) → first (newTests n p l) z ≡ refused k fault)
-      → Admits n p l (Refused fault k)
+  refuses : {refusal : Refusal} {k : ℕ} → ((z : FileAnswer) → first (newTests n p l) z ≡ refused k refusal)
+      → Admits n p l (Refused refusal k)
   accepts : ((z : FileAnswer) → first (newTests n p l) z ≡ z) → closed p .farm .count < herdsMost
       → Admits n p l Accepted
 
 pub admits : (n : ℕ) (p : Progress) (l : Label)
-    → Admits n p l (admitted (labelsOf (herdsOf (p .farm))) (closed p .farm .count) l n)
-unfolding admitted earlierLabel
+    → Admits n p l (newLabelChecked (labelsOf (herdsOf (p .farm))) (closed p .farm .count) l n)
+unfolding newLabelChecked earlierLabel
 admits n p l = go (hasLabel (labelsOf (herdsOf (p .farm))) l) (leb herdsMost (closed p .farm .count)) (λ z. refl) refl
   where
     go : (earlier full : Bool)

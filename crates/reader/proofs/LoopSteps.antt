@@ -16,8 +16,8 @@ use Rattle.farm.specs.declared.Label.{Label}
 use Rattle.farm.specs.declared.Herd.{Herd}
 use Rattle.farm.specs.declared.Farm.{Farm}
 use Rattle.farm.specs.declared.labels.Labels.{Labels}
-use Rattle.farm.specs.declared.Fault.{Fault}
-use Rattle.farm.specs.declared.Fault.the-variants.{RecordBroken}
+use Rattle.farm.specs.declared.Refusal.{Refusal}
+use Rattle.farm.specs.declared.Refusal.the-variants.{RecordBroken}
 use Rattle.farm.specs.declared.Checked.{Checked}
 use Rattle.farm.specs.declared.Checked.the-variants.{Accepted, Refused}
 use Rattle.farm.specs.Labels.{noLabels}
@@ -30,7 +30,7 @@ use Rattle.progress.specs.declared.Effect.{Effect}
 use Rattle.progress.specs.declared.Effect.the-variants.{Adds, Wrong, Begins, Ends}
 use Rattle.places.specs.declared.PlaceRead.{PlaceRead}
 use Rattle.places.specs.Places.{readBy, readAt}
-use Rattle.next_herd.specs.Farms.{lackingWith, counted, admitted}
+use Rattle.next_herd.specs.Farms.{lackingWith, herdsSoFar, newLabelChecked}
 use Rattle.next_herd.proofs.FarmSteps.{one-counted}
 use Rattle.reader.specs.declared.files.Current.{Current}
 use Rattle.reader.specs.declared.FileAnswer.{FileAnswer}
@@ -47,8 +47,8 @@ onFrom s place n p = readFrom n p (readingOf (drop (place .at) s))
 
 data PlaceSays (s : List ℕ) (place : ReaderPlace) (n : ℕ) (p : Progress) : Effect → Herd → ReaderPlace → Type 0 where
   ends : {h : Herd} {next : ReaderPlace} → onFrom s place n p ≡ finished p → PlaceSays s place n p Ends h next
-  wrong : {fault : Fault} {h : Herd} {next : ReaderPlace} → onFrom s place n p ≡ refused n fault
-      → PlaceSays s place n p (Wrong fault) h next
+  wrong : {refusal : Refusal} {h : Herd} {next : ReaderPlace} → onFrom s place n p ≡ refused n refusal
+      → PlaceSays s place n p (Wrong refusal) h next
   adds : {h : Herd} {next : ReaderPlace} → (p .herd ≡ noHerd → ⊥)
       → onFrom s place n p ≡ onFrom s next (n + 1) (withCurrent p h) → place .at < next .at → next .at ≤ length s
       → PlaceSays s place n p Adds h next
@@ -77,7 +77,7 @@ module _ (s : List ℕ) (place : ReaderPlace) (n : ℕ) (p : Progress) where
       ≡ first (recordTests n p (partsAt s f)) (onFrom s next (n + 1) (taken n p (partsAt s f))) =
       rw (x .reads, readFrom, x .holds) in
       effect-read (partsAt s f) next e (x .past) (x .fits) (effect-says n p (partsAt s f))
-  step-read (Says.broken b a e) = PlaceSays.wrong {fault = RecordBroken} (rw (e, readFrom))
+  step-read (Says.broken b a e) = PlaceSays.wrong {refusal = RecordBroken} (rw (e, readFrom))
   step-read (Says.ended l) = PlaceSays.ends (rw (end-read s (place .at) l, readFrom))
 
   place-says : let m = readAt s place (p .herd) in PlaceSays s place n p (m .effect) (m .herd) (m .next)
@@ -135,10 +135,10 @@ module _ (s : List ℕ) (place : ReaderPlace) (f : Farm) (ls : List Label) (c : 
       go : PlaceSays s place n (progress f c) Ends (m .herd) (m .next) → r ≡ X
       go (PlaceSays.ends e) = v ∙ sym e ∙ x .reads
 
-  pub read-wrong : {fault : Fault} → m .effect ≡ Wrong fault → {r : FileAnswer} → r ≡ refused n fault → r ≡ X
-  read-wrong {fault} z {r} v = go (place-is z)
+  pub read-wrong : {refusal : Refusal} → m .effect ≡ Wrong refusal → {r : FileAnswer} → r ≡ refused n refusal → r ≡ X
+  read-wrong {refusal} z {r} v = go (place-is z)
     where
-      go : PlaceSays s place n (progress f c) (Wrong fault) (m .herd) (m .next) → r ≡ X
+      go : PlaceSays s place n (progress f c) (Wrong refusal) (m .herd) (m .next) → r ≡ X
       go (PlaceSays.wrong e) = v ∙ sym e ∙ x .reads
 
   past-it : {u : Effect} → Taken u → m .effect ≡ u → (place .at < m .next .at) × (m .next .at ≤ length s)
@@ -178,24 +178,24 @@ module _ (s : List ℕ) (place : ReaderPlace) (f : Farm) (ls : List Label) (c : 
 
   -- a record of another label
   module _ (z : m .effect ≡ Begins) {b : Checked}
-      (v : b ≡ admitted (take (f .count) ls) (counted (f .count) (c .first)) (m .herd .label) n) where
+      (v : b ≡ newLabelChecked (take (f .count) ls) (herdsSoFar (f .count) (c .first)) (m .herd .label) n) where
     admits-is : {k : Checked} → b ≡ k → Admits n (progress f c) (m .herd .label) k
     admits-is y =
-        let e : admitted (labelsOf (herdsOf f)) (closed (progress f c) .farm .count) (m .herd .label) n ≡ b =
+        let e : newLabelChecked (labelsOf (herdsOf f)) (closed (progress f c) .farm .count) (m .herd .label) n ≡ b =
         rw (closed-farm (x .underway), sym (x .labelled)) (sym v) in
         rw (e ∙ y) at (admits n (progress f c) (m .herd .label))
 
-    pub read-refused : {fault : Fault} {k : ℕ} → b ≡ Refused fault k → {r : FileAnswer} → r ≡ refused k fault → r ≡ X
-    read-refused {fault} {k} y {r} q = go (place-is z) (admits-is y)
+    pub read-refused : {refusal : Refusal} {k : ℕ} → b ≡ Refused refusal k → {r : FileAnswer} → r ≡ refused k refusal → r ≡ X
+    read-refused {refusal} {k} y {r} q = go (place-is z) (admits-is y)
       where
         go : PlaceSays s place n (progress f c) Begins (m .herd) (m .next)
-            → Admits n (progress f c) (m .herd .label) (Refused fault k) → r ≡ X
+            → Admits n (progress f c) (m .herd .label) (Refused refusal k) → r ≡ X
         go (PlaceSays.begins e past fits) (Admits.refuses h) = q ∙ sym (h _) ∙ sym e ∙ x .reads
 
     pub begins-less : length s - m .next .at < length s - place .at
     begins-less = omega (arith, past-it Taken.on-begins z)
 
-    pub begun : b ≡ Accepted → {k : ℕ} → k ≡ counted (f .count) (c .first) → {lacking′ : ℕ}
+    pub begun : b ≡ Accepted → {k : ℕ} → k ≡ herdsSoFar (f .count) (c .first) → {lacking′ : ℕ}
         → lacking′ ≡ lackingWith (c .lacking) (c .herd) (c .first)
         → Reached s (m .next) (stored f (c .herd) k) (set ls (f .count) (c .herd .label))
         (record { herd = m .herd; first = n; lacking = lacking′ }) (n + 1)

@@ -1,6 +1,6 @@
 -- 01, Refusal numbers, over a whole file: 1 before all, then records from the front, in each 2 to 11 in that order,
 -- then 12. The first that applies is given; where none does, the farm that the records say. It mirrors the code for its
--- contracts: this is how the reader goes; what it means is said of the records alone in `rules/specs`, and proved to be
+-- contracts: this is how the reader goes; what it means is said of the records alone in `rules_theorems/specs`, and proved to be
 -- the same there.
 use Prim.Native.Nat.{ℕ, _+_}
 use mathlib.Core.Bool.{Bool, not, _&&_}
@@ -13,8 +13,8 @@ use Rattle.grammar.specs.Reading.{Parts, partsOf, Reading, _then_, end, broken,
 use Rattle.inputs.specs.Inputs.{sameKind}
 use Rattle.farm.specs.declared.Herd.{Herd}
 use Rattle.farm.specs.declared.Farm.{Farm}
-use Rattle.farm.specs.declared.Fault.{Fault}
-use Rattle.farm.specs.declared.Fault.the-variants.{
+use Rattle.farm.specs.declared.Refusal.{Refusal}
+use Rattle.farm.specs.declared.Refusal.the-variants.{
   FileTooLong,
   RecordBroken,
   EarlierLabel,
@@ -34,8 +34,8 @@ use Rattle.progress.specs.Herds.{withInput, newHerd, hasInput}
 use Rattle.next_herd.specs.Farms.{lackingWith}
 use Rattle.reader.specs.declared.FileAnswer.{FileAnswer}
 
-abbrev pub refused : ℕ → Fault → FileAnswer
-refused record′ fault = record { checked = Refused fault record′; farm = noFarm }
+abbrev pub refused : ℕ → Refusal → FileAnswer
+refused record′ refusal = record { checked = Refused refusal record′; farm = noFarm }
 
 abbrev pub accepted : Farm → FileAnswer
 accepted f = record { checked = Accepted; farm = f }

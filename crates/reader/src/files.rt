@@ -3,8 +3,8 @@ use crate::FileAnswer;
 use csv::ReaderPlace;
 use farm::Checked;
 use farm::Farm;
-use farm::Fault;
 use farm::Herd;
+use farm::Refusal;
 use farm::herds;
 use farm::labels;
 use progress::Effect;
@@ -23,11 +23,11 @@ struct Current {
     lacking: usize,
 }
 
-pub fn refused(record: usize, fault: Fault) -> FileAnswer
-    ensures { λ r. ⌜ r ≡ refused «record» fault ⌝ }
+pub fn refused(record: usize, refusal: Refusal) -> FileAnswer
+    ensures { λ r. ⌜ r ≡ refused «record» refusal ⌝ }
 {
     FileAnswer {
-        checked: Checked::Refused(fault, record),
+        checked: Checked::Refused(refusal, record),
         farm: herds::no_farm(),
     }
 }
@@ -40,11 +40,11 @@ fn finished(mut farm: Farm, c: Current) -> FileAnswer
     let herd = c.herd;
     let lacking = next_herd::lacking_with(c.lacking, herd, c.first);
     if lacking != 0 {
-        return refused(lacking, Fault::InputMissing);
+        return refused(lacking, Refusal::InputMissing);
     }
     let count = farm.count;
     farm.herds[count] = herd;
-    farm.count = next_herd::counted(count, c.first);
+    farm.count = next_herd::herds_so_far(count, c.first);
     FileAnswer {
         checked: Checked::Accepted,
         farm,
@@ -72,7 +72,7 @@ pub fn read_records(s: &[u8]) -> FileAnswer
         let after = number + 1;
         match effect {
             Effect::Ends => return finished(farm, c),
-            Effect::Wrong(fault) => return refused(number, fault),
+            Effect::Wrong(refusal) => return refused(number, refusal),
             Effect::Adds => {
                 c.herd = herd;
                 place = read.next;
@@ -81,14 +81,20 @@ pub fn read_records(s: &[u8]) -> FileAnswer
             }
             Effect::Begins => {
                 let count = farm.count;
-                let checked = next_herd::admitted(labels, count, c.first, herd.label, number);
-                if let Checked::Refused(fault, record) = checked {
-                    return refused(record, fault);
+                let checked = next_herd::check_new_label(
+                    labels,
+                    count,
+                    c.first,
+                    herd.label,
+                    number,
+                );
+                if let Checked::Refused(refusal, record) = checked {
+                    return refused(record, refusal);
                 }
                 let done = c.herd;
                 let label = done.label;
                 farm.herds[count] = done;
-                farm.count = next_herd::counted(count, c.first);
+                farm.count = next_herd::herds_so_far(count, c.first);
                 labels.of[count] = label;
                 let lacking = next_herd::lacking_with(c.lacking, c.herd, c.first);
                 c = Current {

@@ -5,14 +5,14 @@ use mathlib.Core.Bool.{Bool, true, false}
 use Rattle.base.proofs.Clash.{clash}
 use Rattle.farm.specs.declared.Herd.{Herd}
 use Rattle.farm.specs.declared.Checked.{Checked}
-use Rattle.checks.specs.Refusals.{RecordGets, fine, refusal}
+use Rattle.checks.specs.Refusals.{RecordGets, fine, gets-refusal}
 use Rattle.checks.specs.Refusals as handed
 use Rattle.checks.proofs.Refuses.{record-gets, one-first}
 use Rattle.kinds.specs.declared.Outdoor.{Outdoor}
 use Rattle.kinds.specs.declared.Inputs.{Inputs}
 use Rattle.kinds.specs.declared.Inputs.the-variants as kinds
 use Rattle.yard.specs.Yard.{«days_with_grazing_and_yard»}
-use Rattle.typed.specs.Typed.{typedOf}
+use Rattle.typed_inputs.specs.Typed.{typedOf}
 use Rattle.reasons.specs.declared.Reason.{Reason}
 use Rattle.reasons.specs.Reasons.{number, chosenShare, reasonOf, shareFrom, toldOf, FirstReason}
 use Rattle.reasons.specs.Reasons.{HasOutdoor, cattle}
@@ -46,7 +46,7 @@ reason-gets h = go (record-gets (handed.herd h)) (yarded (typedOf h))
   where
     go : {k : Checked} → RecordGets (handed.herd h) k → Yarded (typedOf h)
         → ReasonGets h (says (checkedAnswer k (toldOf (typedOf h))))
-    go (refusal f) y = ReasonGets.refusal f
+    go (gets-refusal f) y = ReasonGets.gets-refusal f
     go (fine f) (without n) = rw (no-yard (typedOf h) n .0) (ReasonGets.other-kind f n)
     go (fine f) (with-yard o y) = rw (told-of y) (ReasonGets.reason f y (first-reason o (reasonOf o) .0 refl))
 
@@ -61,12 +61,12 @@ same : {o p : Outdoor} {r s : Reason} → o ≡ p → FirstReason o r → FirstR
 same {p = p} {r = r} e f g = let k : FirstReason p r = subst (λ x. FirstReason x r) e f in rw (e, one-reason p k g)
 
 pub one-answer : (h : Herd) {s t : Says} → ReasonGets h s → ReasonGets h t → s ≡ t
-one-answer h (ReasonGets.refusal f) (ReasonGets.refusal g) = rw (one-first f g)
-one-answer h (ReasonGets.refusal f) (ReasonGets.other-kind g n) = absurd (g (f .place) _ (f .is-first .applies))
-one-answer h (ReasonGets.refusal f) (ReasonGets.reason g y r) = absurd (g (f .place) _ (f .is-first .applies))
-one-answer h (ReasonGets.other-kind g n) (ReasonGets.refusal f) = absurd (g (f .place) _ (f .is-first .applies))
+one-answer h (ReasonGets.gets-refusal f) (ReasonGets.gets-refusal g) = rw (one-first f g)
+one-answer h (ReasonGets.gets-refusal f) (ReasonGets.other-kind g n) = absurd (g (f .place) _ (f .is-first .applies))
+one-answer h (ReasonGets.gets-refusal f) (ReasonGets.reason g y r) = absurd (g (f .place) _ (f .is-first .applies))
+one-answer h (ReasonGets.other-kind g n) (ReasonGets.gets-refusal f) = absurd (g (f .place) _ (f .is-first .applies))
 one-answer h (ReasonGets.other-kind g n) (ReasonGets.other-kind k m) = refl
 one-answer h (ReasonGets.other-kind g n) (ReasonGets.reason k y r) = absurd (n _ y)
-one-answer h (ReasonGets.reason g y r) (ReasonGets.refusal f) = absurd (g (f .place) _ (f .is-first .applies))
+one-answer h (ReasonGets.reason g y r) (ReasonGets.gets-refusal f) = absurd (g (f .place) _ (f .is-first .applies))
 one-answer h (ReasonGets.reason g y r) (ReasonGets.other-kind k n) = absurd (n _ y)
 one-answer h (ReasonGets.reason g y r) (ReasonGets.reason k z s) = same (one-outdoor y z) r s

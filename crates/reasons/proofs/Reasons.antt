@@ -23,7 +23,7 @@ use Rattle.yard.specs.Yard.{«share_excretion_with_grazing», yardTime}
 use Rattle.notes.specs.Notes.{notesOf}
 use Rattle.reasons.specs.declared.Reason.{Reason}
 use Rattle.reasons.specs.declared.Reason.the-variants.{NoSuchDays, NotAvailable, AsChosen, Lowered}
-use Rattle.reasons.specs.declared.Told.the-variants.{Because, NoYard}
+use Rattle.reasons.specs.declared.YardReason.the-variants.{Because, NoYard}
 use Rattle.reasons.specs.Reasons.{number, partly, chosenShare, isNotAvailable, reasonOf, shareFrom, whyOf, toldOf}
 use Rattle.reasons.specs.Reasons.{Fact, no-such-days, not-available, as-chosen, lowered, FirstReason}
 use Rattle.reasons.specs.Reasons.{HasOutdoor, cattle}

@@ -21,8 +21,8 @@ use Rattle.yard.specs.Yard.{«share_available_roughage_is_partly_supplied_in_th
 use Rattle.reasons.specs.declared.Reason.{Reason}
 use Rattle.reasons.specs.declared.Reason.the-variants.{NoSuchDays, NotAvailable, AsChosen, Lowered}
 use Rattle.reasons.specs.declared.Why.{Why}
-use Rattle.reasons.specs.declared.Told.{Told}
-use Rattle.reasons.specs.declared.Told.the-variants.{Because, NoYard}
+use Rattle.reasons.specs.declared.YardReason.{YardReason}
+use Rattle.reasons.specs.declared.YardReason.the-variants.{Because, NoYard}
 
 -- the number of each, in 02's order, and the word that is printed
 abbrev pub number : Reason → ℕ
@@ -82,7 +82,7 @@ whyOf o =
     }
 
 -- a kind with the module `Outdoor` of 2.33 or 2.18 is told the reason; the others have no yard
-unfoldable pub toldOf : Inputs → Told
+unfoldable pub toldOf : Inputs → YardReason
 toldOf (kinds.Roughage r) = NoYard
 toldOf (kinds.Cattle c) = Because (whyOf (c .outdoor))
 toldOf (kinds.Pigs p) = NoYard

@@ -1,7 +1,7 @@
 // 02, W2: what is told of why a yard has its share on days with both yard and pasture: the first of four reasons whose
 // fact holds in the herd's record, the number of such days, and the shares. The definitions in specs/ say which, and
 // crate `herd_reasons` finds it.
-use farm::Fault;
+use farm::Refusal;
 
 // In 02's order.
 pub enum Reason {
@@ -20,7 +20,7 @@ pub struct Why {
 }
 
 // What a kind of herd is told: the reason, or that it has no yard.
-pub enum Told {
+pub enum YardReason {
     Because(Why),
     NoYard,
 }
@@ -29,5 +29,5 @@ pub enum Told {
 pub enum ReasonAnswer {
     Given(Why),
     NoHerd,
-    Refused(Fault, usize),
+    Refused(Refusal, usize),
 }

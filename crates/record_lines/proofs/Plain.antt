@@ -19,11 +19,11 @@ past-comma b h = record
 abbrev pub allPast : List ℕ → Bool
 allPast s = all (ltb 44) s
 
-pub plain : (s : List ℕ) → allPast s ≡ true → Plain s
-plain [] e = Plain.none
-plain (b ∷ s) e =
+pub past-plain : (s : List ℕ) → allPast s ≡ true → Plain s
+past-plain [] e = Plain.none
+past-plain (b ∷ s) e =
     let h = both-true (ltb 44 b) (allPast s) e in
-    Plain.byte (past-comma b (ltb-true 44 b (h .0))) (plain s (h .1))
+    Plain.byte (past-comma b (ltb-true 44 b (h .0))) (past-plain s (h .1))
 
 pub plain-append : {a b : List ℕ} → Plain a → Plain b → Plain (a ++ b)
 plain-append Plain.none q = q

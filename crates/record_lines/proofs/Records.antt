@@ -10,7 +10,7 @@ use Rattle.grammar.specs.Grammar.{comma, cr, lf, FieldOf, RecordOf, FileOf, Bef
 use Rattle.decimal.specs.Writing.{wholeOf}
 use Rattle.refusal_line.specs.Lines.{refusalLine}
 use Rattle.record_lines.specs.Records.{RecordsOf, refusalFields}
-use Rattle.record_lines.proofs.Plain.{plain, plain-whole}
+use Rattle.record_lines.proofs.Plain.{past-plain, plain-whole}
 
 -- ---- of any records
 
@@ -59,6 +59,6 @@ pub refusal-read : (number record′ : ℕ) → RecordsOf 3 (refusalFields numbe
 unfolding refusalLine
 refusal-read number record′ =
     line
-    (RecordOf.more (FieldOf.plain (plain (bytes "refused") refl))
+    (RecordOf.more (FieldOf.plain (past-plain (bytes "refused") refl))
     (RecordOf.more (FieldOf.plain (plain-whole number)) (RecordOf.last (FieldOf.plain (plain-whole record′))))) refl
     (simp append-assoc)

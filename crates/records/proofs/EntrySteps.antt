@@ -15,7 +15,7 @@ use Rattle.finding.specs.declared.FoundInput.the-variants.{At, Nowhere}
 use Rattle.finding.specs.Find.{findInput}
 use Rattle.farm.specs.declared.Label.{Label}
 use Rattle.farm.specs.declared.Given.{Given}
-use Rattle.farm.specs.declared.Fault.the-variants.{NotFourFields, BadLabel, NotInTheList, StandardForbidden, BadValue}
+use Rattle.farm.specs.declared.Refusal.the-variants.{NotFourFields, BadLabel, NotInTheList, StandardForbidden, BadValue}
 use Rattle.farm.specs.Labels.{labelOk, labelOf}
 use Rattle.number_values.specs.declared.ValueRead.{ValueRead}
 use Rattle.number_values.specs.declared.ValueRead.the-variants.{Is, Forbidden, Unfit}

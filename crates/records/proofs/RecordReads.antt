@@ -15,8 +15,8 @@ use Rattle.finding.specs.declared.FoundInput.the-variants.{At, Nowhere}
 use Rattle.finding.specs.Find.{findInput}
 use Rattle.finding.proofs.Finds.{find-input-at}
 use Rattle.farm.specs.declared.Given.{Given}
-use Rattle.farm.specs.declared.Fault.{Fault}
-use Rattle.farm.specs.declared.Fault.the-variants.{NotFourFields, BadLabel, NotInTheList, StandardForbidden, BadValue}
+use Rattle.farm.specs.declared.Refusal.{Refusal}
+use Rattle.farm.specs.declared.Refusal.the-variants.{NotFourFields, BadLabel, NotInTheList, StandardForbidden, BadValue}
 use Rattle.farm.specs.Limits.{slots}
 use Rattle.farm.specs.Labels.{labelOk}
 use Rattle.farm.proofs.Slots.{count-most}
@@ -42,50 +42,50 @@ use Rattle.records.specs.Entries.{
 
 -- ---- lists of refusals, whatever a refusal is said as
 
-abbrev pub lines : {A : Type 0} → (Fault → A) → List (Test Fault) → List (Test A)
+abbrev pub lines : {A : Type 0} → (Refusal → A) → List (Test Refusal) → List (Test A)
 lines refuse [] = []
 lines refuse (l ∷ ls) = refuse (l .answer) when l .holds ∷ lines refuse ls
 
-abbrev pub faults : Parts → List (Test Fault)
-faults x = entryTests (λ fault. fault) x
+abbrev pub faults : Parts → List (Test Refusal)
+faults x = entryTests (λ refusal. refusal) x
 
 -- what is read decides: the refusal, or what comes behind
-abbrev pub decided : {A : Type 0} → (Fault → A) → A → RecordRead → A
-decided refuse z (reads.Wrong fault) = refuse fault
+abbrev pub decided : {A : Type 0} → (Refusal → A) → A → RecordRead → A
+decided refuse z (reads.Wrong refusal) = refuse refusal
 decided refuse z (reads.Gives k i g) = z
 
 -- what a list of refusals says of a record that gives g for the slot i of the kind k
-abbrev pub said : Kind → ℕ → Given → List (Test Fault) → RecordRead
-said k i g ls = first (lines reads.Wrong ls) (reads.Gives k i g)
+abbrev pub readBy : Kind → ℕ → Given → List (Test Refusal) → RecordRead
+readBy k i g ls = first (lines reads.Wrong ls) (reads.Gives k i g)
 
 module _ (k : Kind) (i : ℕ) (g : Given) where
-  pub read-first : {A : Type 0} (refuse : Fault → A) (behind : List (Test A)) (z : A) (ls : List (Test Fault))
-      → first (lines refuse ls ++ behind) z ≡ decided refuse (first behind z) (said k i g ls)
+  pub read-first : {A : Type 0} (refuse : Refusal → A) (behind : List (Test A)) (z : A) (ls : List (Test Refusal))
+      → first (lines refuse ls ++ behind) z ≡ decided refuse (first behind z) (readBy k i g ls)
   read-first refuse behind z [] = refl
   read-first {A} refuse behind z (l ∷ ls) = go (l .holds) (read-first refuse behind z ls)
     where
-      go : (b : Bool) → first (lines refuse ls ++ behind) z ≡ decided refuse (first behind z) (said k i g ls)
+      go : (b : Bool) → first (lines refuse ls ++ behind) z ≡ decided refuse (first behind z) (readBy k i g ls)
           → pick b (refuse (l .answer)) (first (lines refuse ls ++ behind) z)
-          ≡ decided refuse (first behind z) (pick b (reads.Wrong (l .answer)) (said k i g ls))
+          ≡ decided refuse (first behind z) (pick b (reads.Wrong (l .answer)) (readBy k i g ls))
       go true e = refl
       go false e = e
 
-  pub read-gives : (ls : List (Test Fault)) {m : Kind} {j : ℕ} {v : Given} → said k i g ls ≡ reads.Gives m j v
+  pub read-gives : (ls : List (Test Refusal)) {m : Kind} {j : ℕ} {v : Given} → readBy k i g ls ≡ reads.Gives m j v
       → reads.Gives k i g ≡ reads.Gives m j v
   read-gives [] e = e
   read-gives (l ∷ ls) {m} {j} {v} e = go (l .holds) e (read-gives ls)
     where
-      go : (b : Bool) → pick b (reads.Wrong (l .answer)) (said k i g ls) ≡ reads.Gives m j v
-          → (said k i g ls ≡ reads.Gives m j v → reads.Gives k i g ≡ reads.Gives m j v)
+      go : (b : Bool) → pick b (reads.Wrong (l .answer)) (readBy k i g ls) ≡ reads.Gives m j v
+          → (readBy k i g ls ≡ reads.Gives m j v → reads.Gives k i g ≡ reads.Gives m j v)
           → reads.Gives k i g ≡ reads.Gives m j v
       go true h more = cc
       go false h more = more h
 
-  read-has-slot : i < slots → (ls : List (Test Fault)) → HasSlot (said k i g ls)
+  read-has-slot : i < slots → (ls : List (Test Refusal)) → HasSlot (readBy k i g ls)
   read-has-slot b [] = HasSlot.gives b
   read-has-slot b (l ∷ ls) = go (l .holds) (read-has-slot b ls)
     where
-      go : (t : Bool) → HasSlot (said k i g ls) → HasSlot (pick t (reads.Wrong (l .answer)) (said k i g ls))
+      go : (t : Bool) → HasSlot (readBy k i g ls) → HasSlot (pick t (reads.Wrong (l .answer)) (readBy k i g ls))
       go true h = HasSlot.wrong
       go false h = h
 
@@ -107,7 +107,7 @@ entry-has-slot x = go (foundIn x) refl
     nowhere false true = HasSlot.wrong
     nowhere false false = HasSlot.wrong
 
-    by : FoundInput → List (Test Fault)
+    by : FoundInput → List (Test Refusal)
     by o =
         NotFourFields when a
         ∷ BadLabel when b

@@ -1,6 +1,6 @@
 -- What a record says by itself: its label, the input that it names and the value that it gives; and refusals 3 to 7
 -- (01, Refusal numbers). It mirrors the code for its contracts; what these mean is said of the records in
--- `rules/specs`, and proved to be the same there.
+-- `rules_theorems/specs`, and proved to be the same there.
 use Prim.Native.Nat.{ℕ, _<_}
 use mathlib.Core.Bool.{Bool, true, false, not}
 use mathlib.Core.List.{List, [], _∷_}
@@ -18,8 +18,8 @@ use Rattle.finding.specs.Find.{findInput}
 use Rattle.farm.specs.declared.Label.{Label}
 use Rattle.farm.specs.declared.Given.{Given}
 use Rattle.farm.specs.declared.Given.the-variants.{Missing}
-use Rattle.farm.specs.declared.Fault.{Fault}
-use Rattle.farm.specs.declared.Fault.the-variants.{NotFourFields, BadLabel, NotInTheList, StandardForbidden, BadValue}
+use Rattle.farm.specs.declared.Refusal.{Refusal}
+use Rattle.farm.specs.declared.Refusal.the-variants.{NotFourFields, BadLabel, NotInTheList, StandardForbidden, BadValue}
 use Rattle.farm.specs.Limits.{slots}
 use Rattle.farm.specs.Labels.{labelOk, labelOf}
 use Rattle.number_values.specs.declared.ValueRead.{ValueRead}
@@ -82,7 +82,7 @@ abbrev pub givenIn : Parts → Given
 givenIn x = givenBy (valueReadIn x)
 
 -- 3 to 7, in that order; `refuse` makes the answer of a fault
-abbrev pub entryTests : {A : Type 0} → (Fault → A) → Parts → List (Test A)
+abbrev pub entryTests : {A : Type 0} → (Refusal → A) → Parts → List (Test A)
 entryTests refuse x =
     refuse NotFourFields when not (eqb (x .count) 4)
     ∷ refuse BadLabel when not (labelOk (labelIn x))
@@ -103,5 +103,5 @@ entryOf x = record { label = labelIn x; read = recordRead x }
 
 -- what a record gives has a slot
 pub data HasSlot : RecordRead → Type 0 where
-  wrong : {fault : Fault} → HasSlot (Wrong fault)
+  wrong : {refusal : Refusal} → HasSlot (Wrong refusal)
   gives : {k : Kind} {slot : ℕ} {g : Given} → slot < slots → HasSlot (Gives k slot g)

@@ -2,7 +2,7 @@
 use crate::Entry;
 use crate::RecordRead;
 use csv::Fields;
-use farm::Fault;
+use farm::Refusal;
 use farm::labels;
 use finding::FoundInput;
 use number_values::ValueRead;
@@ -19,13 +19,13 @@ fn input_read(s: &[u8], f: Fields) -> RecordRead
     let path = csv::field(s, f.second);
     let name = csv::field(s, f.third);
     let FoundInput::At(kind, slot, form) = finding::find_input(path, name) else {
-        return RecordRead::Wrong(Fault::NotInTheList);
+        return RecordRead::Wrong(Refusal::NotInTheList);
     };
     let value = csv::field(s, f.fourth);
     match values::value_of(form, value) {
         ValueRead::Is(given) => RecordRead::Gives(kind, slot, given),
-        ValueRead::Forbidden => RecordRead::Wrong(Fault::StandardForbidden),
-        ValueRead::Unfit => RecordRead::Wrong(Fault::BadValue),
+        ValueRead::Forbidden => RecordRead::Wrong(Refusal::StandardForbidden),
+        ValueRead::Unfit => RecordRead::Wrong(Refusal::BadValue),
     }
 }
 
@@ -37,13 +37,13 @@ pub fn entry_of(s: &[u8], f: Fields) -> Entry
     if f.count != FIELDS {
         return Entry {
             label,
-            read: RecordRead::Wrong(Fault::NotFourFields),
+            read: RecordRead::Wrong(Refusal::NotFourFields),
         };
     }
     if !labels::label_ok(label) {
         return Entry {
             label,
-            read: RecordRead::Wrong(Fault::BadLabel),
+            read: RecordRead::Wrong(Refusal::BadLabel),
         };
     }
     Entry {

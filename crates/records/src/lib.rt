@@ -2,15 +2,15 @@
 // whole file crate `reader`.
 pub mod entries; // what a record says
 
-use farm::Fault;
 use farm::Given;
 use farm::Label;
+use farm::Refusal;
 use inputs::Kind;
 
 // What a record says by itself: a value for the input of this kind and slot, or what is wrong with it.
 pub enum RecordRead {
     Gives(Kind, usize, Given),
-    Wrong(Fault),
+    Wrong(Refusal),
 }
 
 // A record's label and what it says.

@@ -6,7 +6,7 @@ use kinds::Entered;
 ghost use mathlib.Core.Path.{_≡_};
 ghost use Prim.Native.Nat.{_<_};
 ghost use Rattle.farm.specs.Limits.{slots};
-ghost use Rattle.typed.specs.Typed.{numberIn, signedIn, enteredIn, numberAt, signedAt, enteredAt};
+ghost use Rattle.typed_inputs.specs.Typed.{numberIn, signedIn, enteredIn, numberAt, signedAt, enteredAt};
 
 fn number_in(given: Given) -> u64
     ensures { λ r. ⌜ r ≡ numberIn given ⌝ }

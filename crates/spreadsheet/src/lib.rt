@@ -27,7 +27,7 @@ impl Passed {
         }
     }
 
-    pub fn and(self, b: u8) -> Self
+    pub fn with_byte(self, b: u8) -> Self
         ensures { λ r. ⌜ r ≡ andByte self b ⌝ }
     {
         if b == b'"' {
@@ -93,7 +93,7 @@ pub fn bare_count(s: &[u8], from: usize) -> usize
     while i < s.len() {
         let b = s[i];
         n = n + as_count(passed.bare(b));
-        passed = passed.and(b);
+        passed = passed.with_byte(b);
         i += 1;
     }
     n

@@ -11,11 +11,11 @@ use lib.Seq.{slice, slice-cons, length-take-le}
 use lib.IntN.{ℤ, pos, natAbs, _+ℤ_}
 use mir.Syntax.{w64}
 use mir.Val.{toZ, ofZ}
-use Rattle.cut.specs.Total.{addUp}
-use Rattle.cut.proofs.Signed.{abs-add, back}
+use Rattle.cut_division.specs.Total.{addUp}
+use Rattle.cut_division.proofs.Signed.{abs-add, back}
 use Rattle.outputs.specs.Names.{totals, rows, addends}
 use Rattle.base.specs.Runs.{joined, starts}
-use Rattle.outputs.specs.Grams.{at, To, figureMost, totalAt}
+use Rattle.outputs.specs.Grams.{gramsAt, GramsTo, figureMost, totalAt}
 use Rattle.base.proofs.Runs.{Run, run-at, all-at}
 
 abbrev table : List ℕ
@@ -23,7 +23,7 @@ table = joined addends
 
 -- the grams of the numbers from k to before the end, added to the sum, make the total
 pub record Adding (g : List ℤ) (total : ℤ) (end k : ℕ) (sum : ℤ) : Type 0 where
-  pub to-come : addUp _+ℤ_ (at g) sum (slice k end table) ≡ total
+  pub to-come : addUp _+ℤ_ (gramsAt g) sum (slice k end table) ≡ total
   pub room : natAbs sum + (end - k) * figureMost < 2 ^ 63
   pub inside : end ≤ length table
 
@@ -39,14 +39,14 @@ pub known : {g : List ℤ} {total : ℤ} {end k : ℕ} {sum : ℤ} → Adding g 
     → getD table k 0 < length rows
 known {end} {k} a h = ltb→lt _ _ (all-at (λ (n : ℕ). ltb n (length rows)) table tt k 0 (omega (arith, a .inside)))
 
-module _ (g : List ℤ) (to : To figureMost g) where
+module _ (g : List ℤ) (to : GramsTo figureMost g) where
   pub begun : (t : ℕ) → t < length totals
       → Adding g (totalAt g t) (getD (starts 0 addends) (t + 1) 0) (getD (starts 0 addends) t 0) (pos 0)
   unfolding totalAt
   begun t h =
       let r = run t h in
       record {
-        to-come = ap (addUp _+ℤ_ (at g) (pos 0)) (r .is);
+        to-come = ap (addUp _+ℤ_ (gramsAt g) (pos 0)) (r .is);
         room = omega (arith, r .long, few t h);
         inside = r .inside;
       }
@@ -56,23 +56,23 @@ module _ (g : List ℤ) (to : To figureMost g) where
     n = getD table k 0
 
     abbrev read : ℤ
-    read = toZ w64 (ofZ w64 (at g n))
+    read = toZ w64 (ofZ w64 (gramsAt g n))
 
-    was : read ≡ at g n
-    was = back (at g n) (omega (arith, to .most n))
+    was : read ≡ gramsAt g n
+    was = back (gramsAt g n) (omega (arith, to .most n))
 
     pub one-fits : natAbs sum + natAbs read < 2 ^ 63
     one-fits = rw was (omega (arith, a .room, to .most n))
 
     pub one-more : (r : ℤ) → r ≡ sum +ℤ read → Adding g total end (k + 1) (toZ w64 (ofZ w64 r))
     one-more r e =
-        let s : r ≡ sum +ℤ at g n = rw was at e in
-        let b : toZ w64 (ofZ w64 (sum +ℤ at g n)) ≡ sum +ℤ at g n =
-        back (sum +ℤ at g n) (omega (arith, a .room, to .most n, abs-add sum (at g n))) in
+        let s : r ≡ sum +ℤ gramsAt g n = rw was at e in
+        let b : toZ w64 (ofZ w64 (sum +ℤ gramsAt g n)) ≡ sum +ℤ gramsAt g n =
+        back (sum +ℤ gramsAt g n) (omega (arith, a .room, to .most n, abs-add sum (gramsAt g n))) in
         record {
           to-come = rw (s, b, add-one)
-              (ap (addUp _+ℤ_ (at g) sum) (sym (slice-cons k end table 0 h (a .inside))) ∙ a .to-come);
-          room = rw (s, b) (omega (arith, a .room, to .most n, abs-add sum (at g n)));
+              (ap (addUp _+ℤ_ (gramsAt g) sum) (sym (slice-cons k end table 0 h (a .inside))) ∙ a .to-come);
+          room = rw (s, b) (omega (arith, a .room, to .most n, abs-add sum (gramsAt g n)));
           inside = a .inside;
         }
 
@@ -80,4 +80,4 @@ module _ (g : List ℤ) (to : To figureMost g) where
   all-added total end k sum a h =
       let l : length (take end table) ≤ k = omega (arith, length-take-le end table (a .inside)) in
       let e : slice k end table ≡ [] = drop-of-length-le (take end table) l in
-      sym (ap (addUp _+ℤ_ (at g) sum) e) ∙ a .to-come
+      sym (ap (addUp _+ℤ_ (gramsAt g) sum) e) ∙ a .to-come

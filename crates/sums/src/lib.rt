@@ -9,10 +9,10 @@ ghost use mathlib.Core.Path.{_≡_};
 ghost use Prim.Native.Nat.{_<_};
 ghost use lib.ListN.{length};
 ghost use Rattle.outputs.specs.Names.{totals};
-ghost use Rattle.outputs.specs.Grams.{To, figureMost, plusGrams, zeros, totalAt, totalGrams};
+ghost use Rattle.outputs.specs.Grams.{GramsTo, figureMost, plusGrams, zeros, totalAt, totalGrams};
 
 pub fn plus(a: Figures, b: Figures) -> Figures
-    requires { ⌜ To figureMost (a .grams) × To figureMost (b .grams) ⌝ }
+    requires { ⌜ GramsTo figureMost (a .grams) × GramsTo figureMost (b .grams) ⌝ }
     ensures { λ r. ⌜ r .grams ≡ plusGrams (a .grams) (b .grams) ⌝ }
 {
     let mut sum = a;
@@ -20,7 +20,7 @@ pub fn plus(a: Figures, b: Figures) -> Figures
     while i < names::COUNT {
         let x = a.grams[i];
         let y = b.grams[i];
-        sum.grams[i] = cut::plus(x, y);
+        sum.grams[i] = cut_division::plus(x, y);
         i += 1;
     }
     sum
@@ -35,7 +35,7 @@ pub fn no_figures() -> Figures
 }
 
 fn total(f: Figures, t: usize) -> i64
-    requires { ⌜ To figureMost (f .grams) × (t < length totals) ⌝ }
+    requires { ⌜ GramsTo figureMost (f .grams) × (t < length totals) ⌝ }
     ensures { λ r. ⌜ r ≡ totalAt (f .grams) t ⌝ }
 {
     let end = total_addends::STARTS[t + 1];
@@ -44,7 +44,7 @@ fn total(f: Figures, t: usize) -> i64
     while k < end {
         let n = total_addends::ADDENDS[k];
         let g = f.grams[n];
-        sum = cut::plus(sum, g);
+        sum = cut_division::plus(sum, g);
         k += 1;
     }
     sum
@@ -52,7 +52,7 @@ fn total(f: Figures, t: usize) -> i64
 
 // 2.1, from the sums of all herds' figures.
 pub fn totals_from(f: Figures) -> Totals
-    requires { ⌜ To figureMost (f .grams) ⌝ }
+    requires { ⌜ GramsTo figureMost (f .grams) ⌝ }
     ensures { λ r. ⌜ r .grams ≡ totalGrams (f .grams) ⌝ }
 {
     let mut r = Totals {

@@ -10,7 +10,7 @@ use lib.Dec.{T, leb, eqb, eqb→eq}
 use lib.ListN.{length, getD}
 use borrow.Author.Tests.{leb-true}
 use Rattle.base.specs.Pick.{pick}
-use Rattle.base.proofs.Table.{both, both-left, both-right, every, at}
+use Rattle.base.proofs.Table.{both, both-left, both-right, every, every-at}
 use Rattle.tables.specs.Growth.{kAt, withinDay, kOf}
 
 pick-le : (t : ℕ) (b : Bool) → leb t 240 ≡ b → pick b t 240 ≤ 240
@@ -33,4 +33,4 @@ unfolding right table-right kOf
 entry ks tenths t e h =
     let l : length ks ≡ 241 = eqb→eq (length ks) 241 (both-left (eqb (length ks) 241) (every right 0 ks) h) in
     let b : t < length ks = omega (arith, withinDay-le tenths) in
-    eqb→eq (getD ks t 0) (kAt t) (at right ks (both-right (eqb (length ks) 241) (every right 0 ks) h) t b) ∙ ap kAt e
+    eqb→eq (getD ks t 0) (kAt t) (every-at right ks (both-right (eqb (length ks) 241) (every right 0 ks) h) t b) ∙ ap kAt e

@@ -7,7 +7,7 @@ use mathlib.Core.List.{List}
 use native.Mathlib.Omega.{arith}
 use lib.Dec.{eqb, ltb, eqb→eq, ltb→lt}
 use lib.ListN.{length, replicate}
-use Rattle.base.proofs.Table.{at}
+use Rattle.base.proofs.Table.{every-at}
 use Rattle.tables.specs.Growth.{expNum, expDen, «k_grazing_b», growthNum, growthDen, nearest, kAt}
 
 -- a place for each entry
@@ -26,7 +26,7 @@ tieless t x = ltb 0 (left t)
 
 pub no-tie : (t : ℕ) → t ≤ 240 → 0 < left t
 unfolding tieless growthNum growthDen expNum expDen
-no-tie t h = ltb→lt _ _ (at tieless places tt t (placed t h))
+no-tie t h = ltb→lt _ _ (every-at tieless places tt t (placed t h))
 
 -- k by the terms 0 to n
 abbrev kByTerms : ℕ → ℕ → ℕ
@@ -37,4 +37,4 @@ unchanged t x = eqb (kByTerms 13 t) (kAt t)
 
 pub later-terms-change-nothing : (t : ℕ) → t ≤ 240 → kByTerms 13 t ≡ kAt t
 unfolding unchanged kAt nearest growthNum growthDen expNum expDen
-later-terms-change-nothing t h = eqb→eq _ _ (at unchanged places tt t (placed t h))
+later-terms-change-nothing t h = eqb→eq _ _ (every-at unchanged places tt t (placed t h))

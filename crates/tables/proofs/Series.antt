@@ -5,7 +5,7 @@ use native.Mathlib.Nat.{pow-zero, pow-suc}
 use native.Mathlib.Omega.{arith}
 use lib.Dec.{lit<}
 use lib.IntN.{pos}
-use Rattle.cut.specs.Frac.{per, Same}
+use Rattle.cut_division.specs.Frac.{per, Same}
 use Rattle.tables.specs.Growth.{expNum, expDen, growthNum, growthDen}
 use Rattle.tables.specs.Series.{_!, growthOf}
 use Rattle.tables.proofs.Growth.{growthDen-above}

@@ -6,7 +6,7 @@ use native.Mathlib.Omega.{arith}
 use lib.Dec.{leb, leb→le, ltb}
 use lib.ListN.{length, List·getD-eq-default}
 use borrow.Author.Tests.{ltb-true, ltb-false}
-use Rattle.base.proofs.Table.{at}
+use Rattle.base.proofs.Table.{every-at}
 use Rattle.tables.specs.Standards.{_kg, standards, standardOf}
 
 pub past-last : (category : ℕ) → length standards ≤ category → 0 ≡ standardOf category
@@ -18,7 +18,7 @@ small category n = leb n (80 kg)
 
 known-or-not : (category : ℕ) (b : Bool) → ltb category (length standards) ≡ b → standardOf category ≤ 80 kg
 unfolding standardOf small
-known-or-not category true e = leb→le _ _ (at small standards tt category (ltb-true _ _ e))
+known-or-not category true e = leb→le _ _ (every-at small standards tt category (ltb-true _ _ e))
 known-or-not category false e = omega (arith, past-last category (ltb-false _ _ e))
 
 pub standard-most : (category : ℕ) → standardOf category ≤ 80 kg

@@ -3,8 +3,8 @@
 -- same number is `growth-series` of proofs/Series.
 use Prim.Native.Nat.{ℕ, zero, suc, _*_, _^_}
 use mathlib.Core.List.{List, [], _∷_}
-use Rattle.cut.specs.Frac.{Frac, per}
-use Rattle.cut.specs.Total.{exactTotal}
+use Rattle.cut_division.specs.Frac.{Frac, per}
+use Rattle.cut_division.specs.Total.{exactTotal}
 
 infix 75 _!
 unfoldable pub _! : ℕ → ℕ

@@ -93,7 +93,7 @@ fn marks(out: &[u8]) -> usize {
 fn is_13(written: Written) -> bool {
     match written {
         Written::Length(_) => false,
-        Written::Refused(fault, record) => fault_numbers::number_of(fault) == NUMBER_13
+        Written::Refused(refusal, record) => refusal_numbers::number_of(refusal) == NUMBER_13
             && record == 0,
     }
 }

@@ -1,9 +1,9 @@
 // What each command does: the file is read, the answer printed, and of a refusal it is said what there is to say.
 use console::Ended;
 use console::messages;
-use farm::Fault;
+use farm::Refusal;
 use gate::LogAnswer;
-use gate_days::LogFault;
+use gate_days::LogRefusal;
 use hints::Input;
 use printing::Printed;
 use printing::input;
@@ -25,22 +25,22 @@ fn refused(kind: Input, s: &[u8], name: usize, number: u64, record: usize) -> En
     Ended::Refused
 }
 
-fn farm_refused(s: &[u8], name: usize, fault: Fault, record: usize) -> Ended {
+fn farm_refused(s: &[u8], name: usize, refusal: Refusal, record: usize) -> Ended {
     refused(
         Input::Farm,
         s,
         name,
-        fault_numbers::number_of(fault),
+        refusal_numbers::number_of(refusal),
         record,
     )
 }
 
-fn log_refused(s: &[u8], name: usize, fault: LogFault, record: usize) -> Ended {
+fn log_refused(s: &[u8], name: usize, refusal: LogRefusal, record: usize) -> Ended {
     refused(
         Input::Log,
         s,
         name,
-        gate_days::faults::number_of(fault),
+        gate_days::faults::number_of(refusal),
         record,
     )
 }
@@ -48,7 +48,7 @@ fn log_refused(s: &[u8], name: usize, fault: LogFault, record: usize) -> Ended {
 fn answer_farm(view: View, s: &[u8], name: usize) -> Ended {
     match printing::print_view(view, s) {
         Printed::Listed => Ended::Printed,
-        Printed::Refused(fault, record) => farm_refused(s, name, fault, record),
+        Printed::Refused(refusal, record) => farm_refused(s, name, refusal, record),
         Printed::Broken => messages::unwritten(),
     }
 }
@@ -80,7 +80,7 @@ fn read_log(log: &mut [u8]) -> Outcome
 fn end_log(answer: LogAnswer, s: &[u8], name: usize) -> Ended {
     match answer {
         LogAnswer::Gives(_) => Ended::Printed,
-        LogAnswer::Refused(fault, record) => log_refused(s, name, fault, record),
+        LogAnswer::Refused(refusal, record) => log_refused(s, name, refusal, record),
     }
 }
 

@@ -9,8 +9,8 @@ use lib.Dec.{lit≤}
 use Rattle.numbers.specs.Reading.{numberOf}
 use Rattle.inputs.specs.declared.Form.{Form}
 use Rattle.inputs.specs.declared.Form.the-variants.{Number as ANumber, OrStandard, NoStandard, Signed as ASigned, OneOf}
-use Rattle.names.specs.declared.Names.{Names}
-use Rattle.names.specs.declared.Names.the-variants.{
+use Rattle.names.specs.declared.ValueList.{ValueList}
+use Rattle.names.specs.declared.ValueList.the-variants.{
   Categories,
   Yards,
   Floors,
@@ -39,7 +39,7 @@ module _ {x y : Found} (q : x ≡ y) where
   name-unfit e = simp (sym q ∙ e)
 
 -- no list has more names than a byte has values
-names-most : (names : Names) → sizeOf names ≤ 255
+names-most : (names : ValueList) → sizeOf names ≤ 255
 names-most Categories = lit≤ tt
 names-most Yards = lit≤ tt
 names-most Floors = lit≤ tt
@@ -48,7 +48,7 @@ names-most AirScrubbers = lit≤ tt
 names-most HousingFloors = lit≤ tt
 names-most HousingAirs = lit≤ tt
 
-pub name-small : (names : Names) (s : List ℕ) {x : Found} → x ≡ findName names s → {j : ℕ} → x ≡ At j → j < 256
+pub name-small : (names : ValueList) (s : List ℕ) {x : Found} → x ≡ findName names s → {j : ℕ} → x ≡ At j → j < 256
 unfolding findName
 name-small names s q {j} e = omega (arith, find-text-at (namesOf names) s j (sym q ∙ e) .inside, names-most names)
 
@@ -82,7 +82,7 @@ pub value-signed : {form : Form} (s : List ℕ) {r : ValueRead} {most : ℕ} →
 unfolding valueOf
 value-signed s e q = simp (e, valueOf) q
 
-pub value-name : {form : Form} (s : List ℕ) {r : ValueRead} {names : Names} → form ≡ OneOf names
+pub value-name : {form : Form} (s : List ℕ) {r : ValueRead} {names : ValueList} → form ≡ OneOf names
     → r ≡ nameRead (findName names s) → r ≡ valueOf form s
 unfolding valueOf
 value-name s e q = simp (e, valueOf) q

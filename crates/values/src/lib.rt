@@ -1,7 +1,7 @@
 // What a value's text says, by the form of its input.
 use farm::Given;
 use inputs::Form;
-use names::Names;
+use names::ValueList;
 use number_values::ValueRead;
 use words::Found;
 ghost use mathlib.Core.Path.{_≡_};
@@ -14,7 +14,7 @@ fn is_standard(s: &[u8]) -> bool
     base::same_letters(s, b"standard")
 }
 
-fn name_read(names: Names, s: &[u8]) -> ValueRead
+fn name_read(names: ValueList, s: &[u8]) -> ValueRead
     ensures { λ r. ⌜ r ≡ nameRead (findName names (now (s .entry))) ⌝ }
 {
     let Found::At(place) = names::find_name(names, s) else {

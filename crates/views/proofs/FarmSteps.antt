@@ -10,7 +10,7 @@ use lib.Seq.{getD-take}
 use Rattle.base.specs.Wrote.{Wrote}
 use Rattle.base.proofs.Clash.{clash}
 use Rattle.base.proofs.Each.{each-getD}
-use Rattle.base.proofs.Writes.{said}
+use Rattle.base.proofs.Writes.{wrote-as}
 use Rattle.base.proofs.ToCome.{ToCome, begun}
 use Rattle.farm.specs.Limits.{herdsMost}
 use Rattle.farm.specs.declared.Herd.{Herd}
@@ -21,7 +21,7 @@ use Rattle.checks.specs.Checks.{checkHerd, checkFarm, herdsOf}
 use Rattle.checks.proofs.Accepts.{farm-count, farm-each}
 use Rattle.line_parts.specs.Fields.{each}
 use Rattle.line_parts.proofs.OneByOne.{entry-put, all-entries-put}
-use Rattle.figure_lines.specs.Lines.{farmListing}
+use Rattle.lines_figures.specs.Lines.{farmListing}
 use Rattle.views.specs.declared.View.{View}
 use Rattle.views.specs.declared.View.the-variants.{Figures, Notes, Cuts, Reasons, Sentences}
 use Rattle.views.specs.Views.{herdText, viewed, isFigures}
@@ -91,9 +91,9 @@ by-figures Sentences f e = clash cc
 
 module _ (v : View) (f : Farm) (b : Bool) (q : b ≡ isFigures v) (old new : List ℕ) (r : ℕ) where
   pub as-figures : b ≡ true → Wrote old 0 (farmListing f) new r → Wrote old 0 (viewed v f) new r
-  as-figures t w = said (by-figures v f (sym q ∙ t)) w
+  as-figures t w = wrote-as (by-figures v f (sym q ∙ t)) w
 
   pub as-herds : b ≡ false → Wrote old 0 (each (herdText v) (herdsOf f)) new r → Wrote old 0 (viewed v f) new r
-  as-herds t w = said (by-herds v f (sym q ∙ t)) w
+  as-herds t w = wrote-as (by-herds v f (sym q ∙ t)) w
 
 pub ruleset view-steps = (as-figures, as-herds)

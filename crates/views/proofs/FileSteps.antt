@@ -3,14 +3,14 @@ use Prim.Native.Nat.{ℕ, _≤_}
 use mathlib.Core.Path.{_≡_, sym, ap, _∙_}
 use mathlib.Core.List.{List}
 use Rattle.base.specs.Wrote.{Wrote}
-use Rattle.base.proofs.Writes.{said}
-use Rattle.farm.specs.declared.Fault.{Fault}
+use Rattle.base.proofs.Writes.{wrote-as}
+use Rattle.farm.specs.declared.Refusal.{Refusal}
 use Rattle.farm.specs.declared.Checked.{Checked}
 use Rattle.farm.specs.declared.Checked.the-variants as checks
 use Rattle.checks.specs.Checks.{checkFarm}
 use Rattle.reader.specs.declared.FileAnswer.{FileAnswer}
 use Rattle.reader.specs.Files.{readOf, accepted}
-use Rattle.rules.proofs.Passing.{accepted-passes}
+use Rattle.rules_theorems.proofs.Passing.{accepted-passes}
 use Rattle.written.specs.declared.Written.the-variants.{Length, Refused}
 use Rattle.views.specs.declared.View.{View}
 use Rattle.views.specs.Views.{viewed}
@@ -27,10 +27,10 @@ module _ (s : List ℕ) (a : FileAnswer) (q : a ≡ readOf s) where
 
     pub is-listed : (v : View) (old new : List ℕ) (n : ℕ) → Wrote old 0 (viewed v (a .farm)) new n → n ≤ viewRoom
         → PutFile v s old new (Length n)
-    is-listed v old new n w h = listed (sym (ap (λ x. x .checked) q) ∙ e) (said (ap (λ x. viewed v (x .farm)) q) w) h
+    is-listed v old new n w h = listed (sym (ap (λ x. x .checked) q) ∙ e) (wrote-as (ap (λ x. viewed v (x .farm)) q) w) h
 
-  pub is-refused : (v : View) (fault : Fault) (n : ℕ) (old : List ℕ) → a .checked ≡ checks.Refused fault n
-      → PutFile v s old old (Refused fault n)
-  is-refused v fault n old e = refused (sym (ap (λ x. x .checked) q) ∙ e)
+  pub is-refused : (v : View) (refusal : Refusal) (n : ℕ) (old : List ℕ) → a .checked ≡ checks.Refused refusal n
+      → PutFile v s old old (Refused refusal n)
+  is-refused v refusal n old e = refused (sym (ap (λ x. x .checked) q) ∙ e)
 
 pub ruleset file-steps = (passes, is-listed, is-refused)

@@ -6,14 +6,14 @@ use mathlib.Core.List.{List}
 use Rattle.base.specs.Wrote.{Wrote}
 use Rattle.farm.specs.declared.Herd.{Herd}
 use Rattle.listing_room.specs.Bounds.{herdRoom}
-use Rattle.figure_lines.specs.Lines.{listingOf}
-use Rattle.noting.specs.Records.{herdNotes}
-use Rattle.noting.specs.Rooms.{longestRecord}
-use Rattle.cut_lines.specs.Lines.{herdCutLines}
-use Rattle.cut_lines.specs.Rooms.{longestCuts}
-use Rattle.why_lines.specs.declared.Wording.the-variants.{Record, Sentence}
-use Rattle.why_lines.specs.Lines.{herdWhy}
-use Rattle.why_lines.specs.Rooms.{longestLine}
+use Rattle.lines_figures.specs.Lines.{listingOf}
+use Rattle.lines_notes.specs.Records.{herdNotes}
+use Rattle.lines_notes.specs.Rooms.{longestRecord}
+use Rattle.lines_cuts.specs.Lines.{herdCutLines}
+use Rattle.lines_cuts.specs.Rooms.{longestCuts}
+use Rattle.lines_reasons.specs.declared.Wording.the-variants.{Record, Sentence}
+use Rattle.lines_reasons.specs.Lines.{herdWhy}
+use Rattle.lines_reasons.specs.Rooms.{longestLine}
 use Rattle.views.specs.declared.View.{View}
 use Rattle.views.specs.declared.View.the-variants.{Figures, Notes, Cuts, Reasons, Sentences}
 use Rattle.views.specs.Views.{herdText}

@@ -5,7 +5,7 @@ use mathlib.Core.List.{List}
 use native.Mathlib.Omega.{arith}
 use Rattle.base.specs.Wrote.{Wrote}
 use Rattle.base.proofs.Clash.{clash}
-use Rattle.farm.specs.declared.Fault.{Fault}
+use Rattle.farm.specs.declared.Refusal.{Refusal}
 use Rattle.farm.specs.Refusals.{number}
 use Rattle.refusal_line.specs.Lines.{refusalLine}
 use Rattle.refusal_line.specs.Rooms.{lineRoom}
@@ -20,16 +20,16 @@ unfolding outputOf
 prints-listed v s old mid (Length m) (listed k w h) n e =
     let d : m ≡ n = cc in
     record { bytes = rw (k, ← d) w; room = omega (arith, d); ended = rw k }
-prints-listed v s old mid (Refused fault m) (refused k) n e = clash cc
+prints-listed v s old mid (Refused refusal m) (refused k) n e = clash cc
 
-pub prints-refused : (v : View) (s old mid : List ℕ) (put : Written) → PutFile v s old mid put → (fault : Fault) (n : ℕ)
-    → put ≡ Refused fault n → (new : List ℕ) (k : ℕ)
-    → Wrote mid 0 (refusalLine (number fault) n) new k → k ≤ lineRoom
-    → PutOutput v s old new (record { ended = Refused fault n; length = k })
+pub prints-refused : (v : View) (s old mid : List ℕ) (put : Written) → PutFile v s old mid put → (refusal : Refusal) (n : ℕ)
+    → put ≡ Refused refusal n → (new : List ℕ) (k : ℕ)
+    → Wrote mid 0 (refusalLine (number refusal) n) new k → k ≤ lineRoom
+    → PutOutput v s old new (record { ended = Refused refusal n; length = k })
 unfolding outputOf
-prints-refused v s old mid (Length m) (listed r w h) fault n e new k w′ b = clash cc
-prints-refused v s old mid (Refused f m) (refused r) fault n e new k w′ b =
-    let c : f ≡ fault = cc in
+prints-refused v s old mid (Length m) (listed r w h) refusal n e new k w′ b = clash cc
+prints-refused v s old mid (Refused f m) (refused r) refusal n e new k w′ b =
+    let c : f ≡ refusal = cc in
     let d : m ≡ n = cc in
     record { bytes = rw (r, c, d) w′; room = omega (arith, b); ended = rw (r, c, d) }
 

@@ -7,7 +7,7 @@ use mathlib.Core.Path.{_≡_}
 use mathlib.Core.List.{List}
 use Rattle.base.specs.Wrote.{Wrote}
 use Rattle.farm.specs.declared.Farm.{Farm}
-use Rattle.farm.specs.declared.Fault.{Fault}
+use Rattle.farm.specs.declared.Refusal.{Refusal}
 use Rattle.farm.specs.declared.Checked.{Checked}
 use Rattle.farm.specs.declared.Checked.the-variants as checks
 use Rattle.farm.specs.Refusals.{number}
@@ -23,7 +23,7 @@ use Rattle.views.specs.Rooms.{viewRoom}
 
 abbrev pub printed : View → Checked → Farm → List ℕ
 printed view checks.Accepted f = viewed view f
-printed view (checks.Refused fault record′) f = refusalLine (number fault) record′
+printed view (checks.Refused refusal record′) f = refusalLine (number refusal) record′
 
 unfoldable pub outputOf : View → List ℕ → List ℕ
 outputOf view s = printed view (readOf s .checked) (readOf s .farm)
@@ -38,14 +38,14 @@ pub data PutFile (view : View) (s old : List ℕ) : List ℕ → Written → Typ
   listed : {new : List ℕ} {n : ℕ} → readOf s .checked ≡ checks.Accepted
       → Wrote old 0 (viewed view (readOf s .farm)) new n
       → n ≤ viewRoom → PutFile view s old new (Length n)
-  refused : {fault : Fault} {n : ℕ} → readOf s .checked ≡ checks.Refused fault n
-      → PutFile view s old old (Refused fault n)
+  refused : {refusal : Refusal} {n : ℕ} → readOf s .checked ≡ checks.Refused refusal n
+      → PutFile view s old old (Refused refusal n)
 
 -- ---- what the program prints was put from the front of the buffer on, and how reading ended is told
 
 abbrev pub endedOf : Checked → ℕ → Written
 endedOf checks.Accepted n = Length n
-endedOf (checks.Refused fault record′) n = Refused fault record′
+endedOf (checks.Refused refusal record′) n = Refused refusal record′
 
 pub record PutOutput (view : View) (s old new : List ℕ) (r : Output) : Type 0 where
   pub bytes : Wrote old 0 (outputOf view s) new (r .length)

@@ -8,11 +8,11 @@ use Rattle.farm.specs.declared.Herd.{Herd}
 use Rattle.farm.specs.declared.Farm.{Farm}
 use Rattle.checks.specs.Checks.{herdsOf}
 use Rattle.line_parts.specs.Fields.{each}
-use Rattle.figure_lines.specs.Lines.{listingOf, farmListing}
-use Rattle.noting.specs.Records.{herdNotes}
-use Rattle.cut_lines.specs.Lines.{herdCutLines}
-use Rattle.why_lines.specs.declared.Wording.the-variants.{Record, Sentence}
-use Rattle.why_lines.specs.Lines.{herdWhy}
+use Rattle.lines_figures.specs.Lines.{listingOf, farmListing}
+use Rattle.lines_notes.specs.Records.{herdNotes}
+use Rattle.lines_cuts.specs.Lines.{herdCutLines}
+use Rattle.lines_reasons.specs.declared.Wording.the-variants.{Record, Sentence}
+use Rattle.lines_reasons.specs.Lines.{herdWhy}
 use Rattle.views.specs.declared.View.{View}
 use Rattle.views.specs.declared.View.the-variants.{Figures, Notes, Cuts, Reasons, Sentences}
 

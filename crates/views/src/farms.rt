@@ -29,7 +29,7 @@ pub fn put_view(out: &mut [u8], farm: Farm, view: View) -> usize
     ensures { λ r. ⌜ Wrote (now (out .entry)) 0 (viewed view farm) (now (out .exit)) r × (r ≤ viewRoom) ⌝ }
 {
     if is_figures(view) {
-        return figure_lines::put_farm(out, farm);
+        return lines_figures::put_farm(out, farm);
     }
     herds::put_herds(out, farm, view)
 }

@@ -17,6 +17,6 @@ pub fn put_file(s: &[u8], out: &mut [u8], view: View) -> Written
     let checked = answer.checked;
     match checked {
         Checked::Accepted => Written::Length(farms::put_view(out, answer.farm, view)),
-        Checked::Refused(fault, record) => Written::Refused(fault, record),
+        Checked::Refused(refusal, record) => Written::Refused(refusal, record),
     }
 }

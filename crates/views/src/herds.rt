@@ -2,7 +2,7 @@
 use crate::View;
 use farm::Farm;
 use farm::Herd;
-use why_lines::Wording;
+use lines_reasons::Wording;
 ghost use mathlib.Core.Path.{_≡_};
 ghost use Prim.Native.Nat.{_+_, _*_, _≤_};
 ghost use lib.ListN.{length};
@@ -20,11 +20,11 @@ pub fn put_herd(out: &mut [u8], at: usize, h: Herd, view: View) -> usize
     ensures { λ r. ⌜ Wrote (now (out .entry)) at (herdText view h) (now (out .exit)) r × (r ≤ at + herdViewRoom) ⌝ }
 {
     match view {
-        View::Figures => figure_lines::put_herd(out, at, h),
-        View::Notes => noting::put_herd(out, at, h),
-        View::Cuts => cut_lines::put_herd(out, at, h),
-        View::Reasons => why_lines::put_herd(out, at, h, Wording::Record),
-        View::Sentences => why_lines::put_herd(out, at, h, Wording::Sentence),
+        View::Figures => lines_figures::put_herd(out, at, h),
+        View::Notes => lines_notes::put_herd(out, at, h),
+        View::Cuts => lines_cuts::put_herd(out, at, h),
+        View::Reasons => lines_reasons::put_herd(out, at, h, Wording::Record),
+        View::Sentences => lines_reasons::put_herd(out, at, h, Wording::Sentence),
     }
 }
 

@@ -18,9 +18,9 @@ pub fn put_output(s: &[u8], out: &mut [u8], view: View) -> Output
             ended: Written::Length(n),
             length: n,
         },
-        Written::Refused(fault, record) => Output {
-            ended: Written::Refused(fault, record),
-            length: fault_line::put_line(out, fault, record),
+        Written::Refused(refusal, record) => Output {
+            ended: Written::Refused(refusal, record),
+            length: file_refusal_line::put_line(out, refusal, record),
         },
     }
 }

@@ -21,7 +21,7 @@ use Rattle.farm.specs.declared.Given.{Given}
 use Rattle.farm.specs.declared.Given.the-variants.{Standard, Value, Signed}
 use Rattle.farm.specs.declared.Slot.{Slot}
 use Rattle.farm.specs.declared.Herd.{Herd}
-use Rattle.farm.specs.declared.Fault.the-variants.{
+use Rattle.farm.specs.declared.Refusal.the-variants.{
   FileTooLong,
   RecordBroken,
   NotFourFields,
@@ -44,8 +44,8 @@ use Rattle.number_values.specs.Numbers.{signedRead}
 use Rattle.values.specs.Values.{isStandard, valueOf}
 use Rattle.progress.specs.Herds.{withInput, newHerd}
 use Rattle.reader.specs.Files.{refused, accepted, closed, recordTests, taken, finished, readFrom, readOf}
-use Rattle.rules.specs.Rules.{farmOf, KeepsRules}
-use Rattle.rules.proofs.Accepts.{accepts-exactly}
+use Rattle.rules_theorems.specs.Rules.{farmOf, KeepsRules}
+use Rattle.rules_theorems.proofs.Accepts.{accepts-exactly}
 
 -- ---- files
 

@@ -7,8 +7,8 @@ use borrow.Author.Tests.{le-leb, lt-leb}
 use lib.ListN.{length}
 use Rattle.base.specs.Part.{part}
 use Rattle.base.specs.Wrote.{Wrote}
-use Rattle.base.proofs.Writes.{said, front, part-is}
-use Rattle.farm.specs.declared.Fault.the-variants.{BufferTooShort}
+use Rattle.base.proofs.Writes.{wrote-as, wrote-in-front, part-is}
+use Rattle.farm.specs.declared.Refusal.the-variants.{BufferTooShort}
 use Rattle.written.specs.declared.Written.{Written}
 use Rattle.written.specs.declared.Written.the-variants.{Length, Refused}
 use Rattle.written.specs.Answer.{leaves, answers, Answered}
@@ -26,11 +26,11 @@ module _ {p listing : List ℕ} (is : p ≡ listing) {old : List ℕ} where
     pub written : Answered listing old new (Length q)
     unfolding leaves answers
     written =
-        let s = said is w in
+        let s = wrote-as is w in
         let l : length listing ≤ length old = omega (arith, s .past) in
         let e = le-leb (length listing) (length old) l in
         let z : 0 + length listing ≡ length listing = omega arith in
-        record { buffer = rw e (front s l); answer = rw e (ap Length (s .past ∙ z)) }
+        record { buffer = rw e (wrote-in-front s l); answer = rw e (ap Length (s .past ∙ z)) }
 
     -- written elsewhere first, and that part handed over
     pub handed : {lent after : List ℕ} {r : Written} → Answered (part new 0 q) lent after r

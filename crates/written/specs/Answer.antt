@@ -8,7 +8,7 @@ use mathlib.Core.List.{List, _++_}
 use lib.Dec.{leb}
 use lib.ListN.{length, drop}
 use Rattle.base.specs.Pick.{pick}
-use Rattle.farm.specs.declared.Fault.the-variants.{BufferTooShort}
+use Rattle.farm.specs.declared.Refusal.the-variants.{BufferTooShort}
 use Rattle.farm.specs.Refusals.{number, Says, gives, refuses}
 use Rattle.written.specs.declared.Written.{Written}
 use Rattle.written.specs.declared.Written.the-variants.{Length, Refused}
@@ -32,4 +32,4 @@ pub record Answered (listing old new : List ℕ) (r : Written) : Type 0 where
 -- what it says in 01's numbers
 abbrev pub saysOf : Written → Says
 saysOf (Length n) = gives n
-saysOf (Refused fault at-record) = refuses (number fault) at-record
+saysOf (Refused refusal at-record) = refuses (number refusal) at-record

@@ -1,13 +1,13 @@
 // What a writing call says: the length of what it wrote, or a refusal; and what was put together elsewhere handed over,
 // or refusal 13 where the lent buffer is too short for it (01, Refusal numbers).
-use farm::Fault;
+use farm::Refusal;
 ghost use Rattle.base.specs.Part.{part};
 ghost use Rattle.written.specs.Answer.{Answered};
 
 // The length of what was written, or a fault and a record's number.
 pub enum Written {
     Length(usize),
-    Refused(Fault, usize),
+    Refused(Refusal, usize),
 }
 
 // The first n bytes of `put` as the listing: into the buffer, or refusal 13 where it is too short.
@@ -16,7 +16,7 @@ pub fn hand_over(out: &mut [u8], put: &[u8], n: usize) -> Written
 {
     let listing = base::part_of(put, 0, n);
     if out.len() < listing.len() {
-        return Written::Refused(Fault::BufferTooShort, 0);
+        return Written::Refused(Refusal::BufferTooShort, 0);
     }
     Written::Length(base::put(out, 0, listing))
 }

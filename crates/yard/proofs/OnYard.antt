@@ -7,15 +7,15 @@ use native.Mathlib.Omega.{arith}
 use borrow.Author.Tests.{lt-ltb, le-ltb}
 use mir.Syntax.{w64}
 use mir.Val.{Fits}
-use Rattle.cut.specs.declared.Quotient.{Quotient}
-use Rattle.cut.specs.Cut.{undivided}
-use Rattle.cut.proofs.Products.{mul-fits}
-use Rattle.cut.proofs.Shares.{part-le, least-most}
+use Rattle.cut_division.specs.declared.Quotient.{Quotient}
+use Rattle.cut_division.specs.Cut.{undivided}
+use Rattle.cut_division.proofs.Products.{mul-fits}
+use Rattle.cut_division.proofs.Shares.{part-le, least-most}
 use Rattle.amounts.specs.declared.Parts.{Parts}
 use Rattle.amounts.specs.Units.{tenths, percent, tenThousandths, year}
 use Rattle.amounts.specs.Arithmetic.{cutting}
 use Rattle.amounts.specs.Dividing.{dividing, uncut}
-use Rattle.amounts.specs.Bounds.{Modest, PortionOf, PortionsOf, UpTo}
+use Rattle.amounts.specs.Bounds.{WithinMostN, PortionOf, PortionsOf, UpTo}
 use Rattle.amounts.proofs.Amounts.{modest-share}
 use Rattle.kinds.specs.declared.Outdoor.{Outdoor}
 use Rattle.kinds.specs.Free.{«c_free_factor»}
@@ -65,7 +65,7 @@ module _ (o : Outdoor) (s : SoundOutdoor o) where
           most = le-refl (tenThousandths * percent * percent);
         }
 
-  pub yard-modest : (n tan : ℕ) → Modest n tan → Modest (intoYard cutting o n) (intoYard cutting o tan)
+  pub yard-modest : (n tan : ℕ) → WithinMostN n tan → WithinMostN (intoYard cutting o n) (intoYard cutting o tan)
   yard-modest n tan m = modest-share n tan (yardTime o) (tenths * year) m (yard-time-le o s)
 
   pub nh3-on-yard-le : (tan : ℕ) → nh3OnYard cutting o tan ≤ tan
@@ -74,7 +74,7 @@ module _ (o : Outdoor) (s : SoundOutdoor o) where
   -- ---- conservation: what comes onto the yard is emitted there or leaves it
 
   module _ (n tan : ℕ) where
-    pub yard-keeps-n : Modest n tan
+    pub yard-keeps-n : WithinMostN n tan
         → let y = onYard cutting o n tan in y .«n_into_yard» ≡ y .«nh3_nyard» + y .«n_outyard_liquid»
     yard-keeps-n m = omega (arith, yard-modest n tan m .tan-most, nh3-on-yard-le (intoYard cutting o tan))
 

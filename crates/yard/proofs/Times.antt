@@ -24,16 +24,16 @@ use Rattle.yard.specs.Yard.{
   «share_excretion_with_grazing»,
   yardTime,
 }
-use Rattle.yard.specs.Bounds.{Both}
+use Rattle.yard.specs.Bounds.{DaysWithBoth}
 
 -- ---- days with both
 
-pub is-both : (o : Outdoor) → SoundOutdoor o → (r : ℕ) → r ≡ «days_with_grazing_and_yard» o → Both o r
+pub is-both : (o : Outdoor) → SoundOutdoor o → (r : ℕ) → r ≡ «days_with_grazing_and_yard» o → DaysWithBoth o r
 unfolding «days_with_grazing_and_yard»
 is-both o s r e = go (ltb year (o .«grazing_days» + o .«yard_days»)) refl e
   where
     go : (t : Bool) → ltb year (o .«grazing_days» + o .«yard_days») ≡ t
-        → r ≡ pick t (o .«grazing_days» + o .«yard_days» - year) 0 → Both o r
+        → r ≡ pick t (o .«grazing_days» + o .«yard_days» - year) 0 → DaysWithBoth o r
     go true h q =
         let k = ltb-true year (o .«grazing_days» + o .«yard_days») h in
         record { is = e; in-grazing = omega arith; in-yard = omega arith; in-year = omega arith }
@@ -61,7 +61,7 @@ shared-le o = go (shareLowered o)
     go false = share-le (o .«exercise_yard»)
 
 -- the tests of the code
-module _ (o : Outdoor) (both share : ℕ) (eb : Both o both) where
+module _ (o : Outdoor) (both share : ℕ) (eb : DaysWithBoth o both) where
   pub none-lowered : both ≡ 0 → false ≡ shareLowered o
   unfolding shareLowered
   none-lowered e = rw (← eb .is, e)
@@ -85,7 +85,7 @@ pub ruleset share-steps = (none-lowered, some-lowered, is-lowered, is-chosen)
 
 -- ---- the time on the yard
 
-module _ (o : Outdoor) (s : SoundOutdoor o) (both share shared : ℕ) (eb : Both o both) (hs : share ≤ tenths)
+module _ (o : Outdoor) (s : SoundOutdoor o) (both share shared : ℕ) (eb : DaysWithBoth o both) (hs : share ≤ tenths)
     (ht : shared ≤ tenths) where
   yard-le : share * (o .«yard_days» - both) + shared * both ≤ tenths * year
   yard-le = omega (arith, mul-le-mul-right (o .«yard_days» - both) hs, mul-le-mul-right both ht, eb .in-yard, s .yard)

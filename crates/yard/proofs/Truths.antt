@@ -8,7 +8,7 @@ use native.Mathlib.Omega.{arith}
 use borrow.Author.Tests.{ltb-false}
 use lib.Dec.{ltb}
 use Rattle.base.specs.Pick.{pick}
-use Rattle.cut.proofs.Shares.{part-mono}
+use Rattle.cut_division.proofs.Shares.{part-mono}
 use Rattle.amounts.specs.Units.{tenths, year}
 use Rattle.amounts.specs.Arithmetic.{cutting}
 use Rattle.kinds.specs.declared.ExerciseYard.the-variants.{NotAvailable}

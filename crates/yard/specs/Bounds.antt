@@ -7,7 +7,7 @@ use Rattle.kinds.specs.declared.Outdoor.{Outdoor}
 use Rattle.yard.specs.Yard.{«days_with_grazing_and_yard»}
 
 -- the days with both are grazing days, and yard days, and the other days of each do not pass the year
-pub record Both (o : Outdoor) (r : ℕ) : Type 0 where
+pub record DaysWithBoth (o : Outdoor) (r : ℕ) : Type 0 where
   pub is : r ≡ «days_with_grazing_and_yard» o
   pub in-grazing : r ≤ o .«grazing_days»
   pub in-yard : r ≤ o .«yard_days»

@@ -1,5 +1,5 @@
 -- 2.33 and 2.34: days with both, the yard's share of what is excreted, and what happens on the yard. So it is of dairy
--- cows too: 2.18 and 2.19 print the same formulas and the same numbers (crate `page`).
+-- cows too: 2.18 and 2.19 print the same formulas and the same numbers (crate `printed_numbers`).
 --
 -- The trap of these pages: grazing days and yard days may overlap. Both counts stay as they are; a day on which the
 -- herd has both is a day with a share of its own. Neither count is cut at what the other leaves of the year, and on the
@@ -9,7 +9,7 @@ use mathlib.Core.Bool.{Bool, _&&_}
 use lib.Dec.{ltb}
 use lib.IntN.{ℤ}
 use Rattle.base.specs.Pick.{pick}
-use Rattle.cut.specs.Cut.{least}
+use Rattle.cut_division.specs.Cut.{least}
 use Rattle.amounts.specs.Units.{tenths, percent, tenThousandths, year}
 use Rattle.amounts.specs.Arithmetic.{Arithmetic}
 use Rattle.amounts.specs.Dividing.{dividing, handed, worth}

@@ -10,7 +10,7 @@ use amounts::Parts;
 use amounts::TEN_THOUSANDTHS;
 use amounts::TENTHS;
 use amounts::YEAR;
-use cut::Quotient;
+use cut_division::Quotient;
 use kinds::ExerciseYard;
 use kinds::Floor;
 use kinds::Outdoor;
@@ -18,12 +18,12 @@ ghost use mathlib.Core.Path.{_≡_};
 ghost use Prim.Native.Nat.{_*_, _<_, _^_};
 ghost use Rattle.amounts.specs.Units.{tenths, percent, tenThousandths, year};
 ghost use Rattle.amounts.specs.Dividing.{dividing, uncut};
-ghost use Rattle.amounts.specs.Bounds.{Modest, PortionOf, PortionsOf, UpTo};
+ghost use Rattle.amounts.specs.Bounds.{WithinMostN, PortionOf, PortionsOf, UpTo};
 ghost use Rattle.kinds.specs.Sound.{SoundOutdoor};
 ghost use Rattle.yard.specs.Yard.{«share_excretion», shareLowered, «share_excretion_with_grazing»};
 ghost use Rattle.yard.specs.Yard.{«red_floor_properties», «c_floor_properties_exercise_yard», «ef_nh3_nyard»};
 ghost use Rattle.yard.specs.Yard.{yardTime, onYard, noYard, handedYard};
-ghost use Rattle.yard.specs.Bounds.{Both};
+ghost use Rattle.yard.specs.Bounds.{DaysWithBoth};
 
 pub struct Yard {
     pub into: Parts,
@@ -58,7 +58,7 @@ const RATE_FLOOR_FREE: u64 = TEN_THOUSANDTHS * PERCENT * PERCENT;
 
 pub fn days_with_grazing_and_yard(o: Outdoor) -> u64
     requires { ⌜ SoundOutdoor o ⌝ }
-    ensures { λ r. ⌜ Both o r ⌝ }
+    ensures { λ r. ⌜ DaysWithBoth o r ⌝ }
 {
     if YEAR < o.grazing_days + o.yard_days {
         return o.grazing_days + o.yard_days - YEAR;
@@ -150,7 +150,7 @@ fn ef_nh3_nyard(o: Outdoor) -> u64
 
 // What comes onto the yard, of so much N and TAN.
 fn into_yard(o: Outdoor, n: u64, tan: u64) -> Parts
-    requires { ⌜ SoundOutdoor o × Modest n tan ⌝ }
+    requires { ⌜ SoundOutdoor o × WithinMostN n tan ⌝ }
     ensures { λ r. ⌜ PortionsOf n tan (yardTime o) (tenths * year) r ⌝ }
 {
     amounts::portions(n, tan, yard_time(o), YEAR_IN_TENTHS)
@@ -166,7 +166,7 @@ fn nh3_on_yard(o: Outdoor, tan: u64) -> Quotient
 
 // The yard of a herd that excretes so much N and TAN.
 pub fn on_yard(o: Outdoor, n: u64, tan: u64) -> Yard
-    requires { ⌜ SoundOutdoor o × Modest n tan ⌝ }
+    requires { ⌜ SoundOutdoor o × WithinMostN n tan ⌝ }
     ensures { λ r. ⌜ r ≡ handedYard (onYard dividing o (uncut n) (uncut tan)) ⌝ }
 {
     let into = into_yard(o, n, tan);
@@ -183,7 +183,7 @@ pub fn on_yard(o: Outdoor, n: u64, tan: u64) -> Yard
 pub fn no_yard() -> Yard
     ensures { λ r. ⌜ r ≡ handedYard (noYard dividing) ⌝ }
 {
-    let none = cut::undivided(0);
+    let none = cut_division::undivided(0);
     Yard {
         into: Parts { n: none, tan: none },
         nh3_nyard: none,

@@ -20,8 +20,8 @@ totals-from-requires c κs = search (needs, farm-answers)
 total-kilograms-of-requires : tie.Need-total-kilograms-of-requires
 total-kilograms-of-requires c κs = search (needs, farm-answers)
 
-enum-known-fault : tie.Need-enum-known-fault
-enum-known-fault c = search needs
+enum-known-refusal : tie.Need-enum-known-refusal
+enum-known-refusal c = search needs
 
 no-figures-requires : tie.Need-no-figures-requires
 no-figures-requires c κs = search needs
@@ -47,7 +47,7 @@ farm-answer-spec =
     sum-of-requires
     totals-from-requires
     total-kilograms-of-requires
-    enum-known-fault
+    enum-known-refusal
     no-figures-requires
     totals-from-requires-2
     total-kilograms-of-requires-2

@@ -26,8 +26,8 @@ notes-of-requires c κs = search (needs, herd-answers)
 cuts-of-requires : tie.Need-cuts-of-requires
 cuts-of-requires c κs = search (needs, herd-answers)
 
-enum-known-fault : tie.Need-enum-known-fault
-enum-known-fault c = search needs
+enum-known-refusal : tie.Need-enum-known-refusal
+enum-known-refusal c = search needs
 
 no-figures-requires : tie.Need-no-figures-requires
 no-figures-requires c κs = search needs
@@ -58,7 +58,7 @@ herd-answer-spec =
     kilograms-of-requires
     notes-of-requires
     cuts-of-requires
-    enum-known-fault
+    enum-known-refusal
     no-figures-requires
     kilograms-of-requires-2
     no-notes-requires

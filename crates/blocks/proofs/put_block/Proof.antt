@@ -1,5 +1,5 @@
 -- `blocks::put_block` meets its contract: a block is the bytes that stand at its place. Assumes nothing.
-use Rattle.base.proofs.Writes.{said}
+use Rattle.base.proofs.Writes.{wrote-as}
 use Rattle.blocks.proofs.Overlaps.{block-is}
 use borrow.Author.Needs.{needs}
 use Rattle.blocks.proofs.put_block.Statement.{statement}
@@ -39,7 +39,7 @@ returns : tie.Need-returns
 returns c =
     let d = c .before .before in
     let a = d .before .before .before .before in
-    said (block-is _ _ (a .put .ensures) (search needs) (search needs)) (d .put2 .ensures)
+    wrote-as (block-is _ _ (a .put .ensures) (search needs) (search needs)) (d .put2 .ensures)
 
 pub put-block-spec : {M : Type 1} → statement M
 put-block-spec =

@@ -31,8 +31,8 @@ slice-aggregate-hand-over c = search needs
 hand-over-requires : tie.Need-hand-over-requires
 hand-over-requires c κs = search needs
 
-enum-known-fault : tie.Need-enum-known-fault
-enum-known-fault c = search needs
+enum-known-refusal : tie.Need-enum-known-refusal
+enum-known-refusal c = search needs
 
 same-length-2 : tie.Need-same-length-2
 same-length-2 c = search needs
@@ -48,7 +48,7 @@ returns-2 c =
 returns-3 : tie.Need-returns-3
 returns-3 c =
     let p = c .before .before .before .before in
-    whole-refused _ _ _ _ _ (search needs) (p .put-file2 .ensures) _ _ (search (needs, c .before .fault .given)) _
+    whole-refused _ _ _ _ _ (search needs) (p .put-file2 .ensures) _ _ (search (needs, c .before .refusal .given)) _
 
 pub file-view-spec : {M : Type 1} → statement M
 file-view-spec =
@@ -63,7 +63,7 @@ file-view-spec =
     enum-known-n
     slice-aggregate-hand-over
     hand-over-requires
-    enum-known-fault
+    enum-known-refusal
     same-length-2
     returns-2
     returns-3)

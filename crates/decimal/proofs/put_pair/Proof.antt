@@ -2,7 +2,7 @@
 use Prim.Native.Nat.{_≤_}
 use native.Mathlib.Omega.{arith}
 use lib.ListN.{length}
-use Rattle.base.proofs.Writes.{joined}
+use Rattle.base.proofs.Writes.{wrote-append}
 use Rattle.decimal.specs.Writing.{wholeOf}
 use Rattle.decimal.specs.Rooms.{digitsMost}
 use Rattle.decimal.proofs.Widths.{whole-text}
@@ -48,7 +48,7 @@ returns c =
     let b = d .before .before .before .before in
     let a = b .before .before .before .before in
     let s = begin a in (
-      joined (joined (joined (a .put-whole .ensures) (b .put-byte .ensures)) (d .put-whole2 .ensures))
+      wrote-append (wrote-append (wrote-append (a .put-whole .ensures) (b .put-byte .ensures)) (d .put-whole2 .ensures))
           (e .put .ensures),
       omega (arith, first s, second s),
     )

@@ -1,5 +1,5 @@
 -- `decimal::put_three` meets its contract: the three digits, one after the other. Assumes nothing.
-use Rattle.base.proofs.Writes.{said, joined}
+use Rattle.base.proofs.Writes.{wrote-as, wrote-append}
 use Rattle.decimal.proofs.Widths.{three-are}
 use borrow.Author.Needs.{needs}
 use Rattle.decimal.proofs.put_three.Statement.{statement}
@@ -41,8 +41,8 @@ returns c =
     let c2 = c3 .before .before .before .before in
     let c1 = c2 .before .before .before .before in
     let s = c1 .before .before .before in
-    said (three-are (s .args .n) (s .pre .0))
-    (joined (joined (c1 .put-byte .ensures) (c2 .put-byte2 .ensures)) (c3 .put-byte3 .ensures))
+    wrote-as (three-are (s .args .n) (s .pre .0))
+    (wrote-append (wrote-append (c1 .put-byte .ensures) (c2 .put-byte2 .ensures)) (c3 .put-byte3 .ensures))
 
 pub put-three-spec : {M : Type 1} → statement M
 put-three-spec =

@@ -1,5 +1,5 @@
 -- Each figure is small enough that its cast keeps it: a line a name. Assumes nothing.
-use Rattle.outputs.proofs.Signed.{fits, kept}
+use Rattle.outputs.proofs.Signed.{fits, grams-back}
 use Rattle.figure_numbers.proofs.by_number.Statement.{statement}
 use Rattle.figure_numbers.proofs.by_number.Tie as tie
 
@@ -62,6 +62,6 @@ by-number-spec =
     (λ c. fits (c .before .before .before .before .before .before .before .before .before .before .before .before
     .before .before .before .before .before .before .before .before .before .before .before .before .before .before
     .before .before .before .before .pre) 30)
-    (λ c. kept _ (c .before .before .before .before .before .before .before .before .before .before .before .before
+    (λ c. grams-back _ (c .before .before .before .before .before .before .before .before .before .before .before .before
     .before .before .before .before .before .before .before .before .before .before .before .before .before .before
     .before .before .before .before .before .pre)))

@@ -4,8 +4,8 @@ use borrow.Author.Needs.{needs}
 use mir.Syntax.{w64}
 use mir.Val.{SFits}
 use mir.Facts.{toZ-ofZ}
-use Rattle.cut.proofs.Signs.{back}
-use Rattle.typed.proofs.Fields.{is-pigs}
+use Rattle.cut_division.proofs.Signs.{back}
+use Rattle.typed_inputs.proofs.Fields.{is-pigs}
 use Rattle.herd_inputs.proofs.pigs_of.Statement.{statement}
 use Rattle.herd_inputs.proofs.pigs_of.Tie as tie
 

@@ -1,6 +1,6 @@
 -- `herd_inputs::tan_of` meets its contract, by the kind of cattle. Assumes nothing.
 use borrow.Author.Needs.{needs}
-use Rattle.typed.proofs.Fields.{tans}
+use Rattle.typed_inputs.proofs.Fields.{tans}
 use Rattle.herd_inputs.proofs.tan_of.Statement.{statement}
 use Rattle.herd_inputs.proofs.tan_of.Tie as tie
 

@@ -1,6 +1,6 @@
 -- `herd_inputs::typed_of` meets its contract, by the kind.
 -- Assumes nothing.
-use Rattle.typed.specs.Typed.{typedOf}
+use Rattle.typed_inputs.specs.Typed.{typedOf}
 use borrow.Author.Needs.{needs}
 use Rattle.herd_inputs.proofs.typed_of.Statement.{statement}
 use Rattle.herd_inputs.proofs.typed_of.Tie as tie

@@ -10,8 +10,8 @@ read-requires c κs = search needs
 enum-told : tie.Need-enum-told
 enum-told c = search needs
 
-enum-known-fault : tie.Need-enum-known-fault
-enum-known-fault c = search needs
+enum-known-refusal : tie.Need-enum-known-refusal
+enum-known-refusal c = search needs
 
 number-of-requires : tie.Need-number-of-requires
 number-of-requires c κs = search needs
@@ -31,7 +31,7 @@ log-reach-spec =
     (tie.spec
     read-requires
     enum-told
-    enum-known-fault
+    enum-known-refusal
     number-of-requires
     reach-of-requires
     returns

@@ -1,7 +1,7 @@
 -- `housing::c_grazing` meets its contract: the mean of 1 and k, over the hours in housing. Assumes nothing.
 use borrow.Author.Needs.{needs}
 use native.Mathlib.Omega.{arith}
-use Rattle.cut.proofs.Products.{mul-fits}
+use Rattle.cut_division.proofs.Products.{mul-fits}
 use Rattle.amounts.specs.Units.{year, day}
 use Rattle.housing.proofs.InHousing.{growth-steps}
 use Rattle.housing.proofs.c_grazing.Statement.{statement}

@@ -5,7 +5,7 @@ use native.Mathlib.Omega.{arith}
 use lib.ListN.{length}
 use lib.IntN.{natAbs}
 use mir.Facts.{toZ-ofZ}
-use Rattle.base.proofs.Writes.{said, joined}
+use Rattle.base.proofs.Writes.{wrote-as, wrote-append}
 use Rattle.kilogram_text.specs.Kilograms.{sign, thousandthsOf}
 use Rattle.kilogram_text.proofs.Lengths.{kilograms-is, kilograms-length}
 use borrow.Author.Needs.{needs}
@@ -44,8 +44,8 @@ returns c =
     let m = c .before .before .before in
     let p = m .before .before .before .before in
     let s = p .before .before .before in
-    said (kilograms-is (s .args .g) (m .magnitude .result) (m-is m))
-    (joined (said (ap sign (toZ-ofZ (s .fits .g))) (p .put-sign .ensures))
+    wrote-as (kilograms-is (s .args .g) (m .magnitude .result) (m-is m))
+    (wrote-append (wrote-as (ap sign (toZ-ofZ (s .fits .g))) (p .put-sign .ensures))
     (c .before .before .put-thousandths .ensures))
 
 pub put-kilograms-spec : {M : Type 1} → statement M

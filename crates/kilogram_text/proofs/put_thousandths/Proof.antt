@@ -1,7 +1,7 @@
 -- `kilogram_text::put_thousandths` meets its contract, by its three calls, one after the other.
 -- Assumes nothing.
 use native.Mathlib.Omega.{arith}
-use Rattle.base.proofs.Writes.{said, joined}
+use Rattle.base.proofs.Writes.{wrote-as, wrote-append}
 use Rattle.kilogram_text.proofs.Lengths.{thousandths-is, thousandths-length}
 use borrow.Author.Needs.{needs}
 use Rattle.kilogram_text.proofs.put_thousandths.Statement.{statement}
@@ -29,8 +29,8 @@ returns c =
     let c3 = c .before .before in
     let c2 = c3 .before .before .before .before in
     let c1 = c2 .before .before .before .before in
-    said (thousandths-is (c1 .before .before .before .args .n))
-    (joined (joined (c1 .put-whole .ensures) (c2 .put-byte .ensures)) (c3 .put-lowest .ensures))
+    wrote-as (thousandths-is (c1 .before .before .before .args .n))
+    (wrote-append (wrote-append (c1 .put-whole .ensures) (c2 .put-byte .ensures)) (c3 .put-lowest .ensures))
 
 pub put-thousandths-spec : {M : Type 1} → statement M
 put-thousandths-spec =

@@ -9,7 +9,7 @@ use lib.ListN.{length, getD}
 use Rattle.base.specs.Runs.{joined, starts}
 use Rattle.base.specs.Text.{bytes}
 use Rattle.base.proofs.Runs.{Run}
-use Rattle.base.proofs.Writes.{said, part-is}
+use Rattle.base.proofs.Writes.{wrote-as, part-is}
 use Rattle.inputs.specs.declared.Kind.{Kind}
 use Rattle.farm.specs.Labels.{text}
 use Rattle.outputs.specs.Names.{rows, number}
@@ -118,7 +118,7 @@ returns c =
     let d = c .before .before in
     let n = d .before .before .before .before .before .before .before .before in
     let a = begin (n .before) .args in
-    said (herd-is (a .label) (a .kind) (a .f) (owner-is (n .before)) (run n .part-is)) (d .put-lines .ensures)
+    wrote-as (herd-is (a .label) (a .kind) (a .f) (owner-is (n .before)) (run n .part-is)) (d .put-lines .ensures)
 
 pub put-herd-lines-spec : {M : Type 1} → statement M
 put-herd-lines-spec =

@@ -1,6 +1,6 @@
 -- `listing::put_total_lines` meets its contract: what is lent is the table of the totals' middles and their lines.
 -- Assumes nothing.
-use Rattle.base.proofs.Writes.{said}
+use Rattle.base.proofs.Writes.{wrote-as}
 use Rattle.listing.proofs.AsListed.{totals-known, totals-are}
 use borrow.Author.Needs.{needs}
 use Rattle.listing.proofs.put_total_lines.Statement.{statement}
@@ -28,7 +28,7 @@ same-length : tie.Need-same-length
 same-length c = search needs
 
 returns : tie.Need-returns
-returns c = said (totals-are _) (c .before .before .put-lines .ensures)
+returns c = wrote-as (totals-are _) (c .before .before .put-lines .ensures)
 
 pub put-total-lines-spec : {M : Type 1} → statement M
 put-total-lines-spec =

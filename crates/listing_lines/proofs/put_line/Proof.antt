@@ -8,7 +8,7 @@ use lib.ListN.{length}
 use mir.Syntax.{w64}
 use mir.Val.{toZ, ofZ}
 use mir.Facts.{toZ-ofZ}
-use Rattle.base.proofs.Writes.{said, joined}
+use Rattle.base.proofs.Writes.{wrote-as, wrote-append}
 use Rattle.kilogram_text.specs.Kilograms.{kilogramsOf}
 use Rattle.listing_lines.specs.Numbered.{putTogether}
 use Rattle.listing_lines.proofs.LineByLine.{line-is, together-length}
@@ -58,9 +58,9 @@ returns c =
     let b = d .before .before .before .before in
     let a = owner-put b in
     let s = begin a in
-    let k = said (ap kilogramsOf (toZ-ofZ (s .fits .grams))) (d .put-kilograms .ensures) in
-    said (line-is _ _ (s .args .grams))
-    (joined (joined (joined (a .put-text .ensures) (b .put-text2 .ensures)) k) (e .put .ensures))
+    let k = wrote-as (ap kilogramsOf (toZ-ofZ (s .fits .grams))) (d .put-kilograms .ensures) in
+    wrote-as (line-is _ _ (s .args .grams))
+    (wrote-append (wrote-append (wrote-append (a .put-text .ensures) (b .put-text2 .ensures)) k) (e .put .ensures))
 
 pub put-line-spec : {M : Type 1} → statement M
 put-line-spec =

@@ -27,8 +27,8 @@ bare-requires c κs = search needs
 put-change-requires : tie.Need-put-change-requires Inv-loop μ-loop
 put-change-requires c κs = search (needs, list-steps)
 
-and-requires : tie.Need-and-requires Inv-loop μ-loop
-and-requires c κs = search needs
+with-byte-requires : tie.Need-with-byte-requires Inv-loop μ-loop
+with-byte-requires c κs = search needs
 
 add-i : tie.Need-add-i Inv-loop μ-loop
 add-i c = search needs
@@ -56,7 +56,7 @@ put-changes-spec =
     shared-slice-read-b
     bare-requires
     put-change-requires
-    and-requires
+    with-byte-requires
     add-i
     loop-less
     loop-again

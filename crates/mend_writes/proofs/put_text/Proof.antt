@@ -28,8 +28,8 @@ bare-requires c κs = search needs
 put-mended-requires : tie.Need-put-mended-requires Inv-loop μ-loop
 put-mended-requires c κs = search (needs, text-steps)
 
-and-requires : tie.Need-and-requires Inv-loop μ-loop
-and-requires c κs = search needs
+with-byte-requires : tie.Need-with-byte-requires Inv-loop μ-loop
+with-byte-requires c κs = search needs
 
 add-i : tie.Need-add-i Inv-loop μ-loop
 add-i c = search needs
@@ -57,7 +57,7 @@ put-text-spec =
     shared-slice-read-b
     bare-requires
     put-mended-requires
-    and-requires
+    with-byte-requires
     add-i
     loop-less
     loop-again

@@ -2,7 +2,7 @@
 -- Assumes nothing.
 use native.Mathlib.Omega.{arith}
 use borrow.Author.Needs.{needs}
-use Rattle.cut.proofs.Products.{mul-fits}
+use Rattle.cut_division.proofs.Products.{mul-fits}
 use Rattle.amounts.specs.Units.{year, day}
 use Rattle.pasture.proofs.Into.{roughage-steps}
 use Rattle.pasture.proofs.roughage_into_grazing.Statement.{statement}

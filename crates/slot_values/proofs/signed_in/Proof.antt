@@ -1,6 +1,6 @@
 -- `slot_values::signed_in` meets its contract, by the variants. Assumes nothing.
 use borrow.Author.Needs.{needs}
-use Rattle.typed.proofs.Fields.{signed-steps}
+use Rattle.typed_inputs.proofs.Fields.{signed-steps}
 use Rattle.slot_values.proofs.signed_in.Statement.{statement}
 use Rattle.slot_values.proofs.signed_in.Tie as tie
 

@@ -31,8 +31,8 @@ as-count-requires c κs = search needs
 add-n : tie.Need-add-n Inv-loop μ-loop
 add-n c = search needs
 
-and-requires : tie.Need-and-requires Inv-loop μ-loop
-and-requires c κs = search needs
+with-byte-requires : tie.Need-with-byte-requires Inv-loop μ-loop
+with-byte-requires c κs = search needs
 
 add-i : tie.Need-add-i Inv-loop μ-loop
 add-i c = search needs
@@ -58,7 +58,7 @@ bare-count-spec =
     bare-requires
     as-count-requires
     add-n
-    and-requires
+    with-byte-requires
     add-i
     loop-less
     loop-again

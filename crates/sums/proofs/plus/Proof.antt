@@ -5,7 +5,7 @@ use mathlib.Core.Path.{_≡_}
 use lib.ListN.{length}
 use lib.IntN.{_+ℤ_}
 use Rattle.outputs.specs.Names.{rows}
-use Rattle.outputs.specs.Grams.{at}
+use Rattle.outputs.specs.Grams.{gramsAt}
 use Rattle.outputs.proofs.Signed.{plus-fits, plus-is}
 use Rattle.outputs.proofs.ByNumber.{Filled, fill-none, fill-one, fill-all}
 use Rattle.sums.proofs.plus.Statement.{statement}
@@ -14,7 +14,7 @@ use Rattle.sums.proofs.plus.Tie as tie
 abbrev Inv-loop : tie.InvT-loop
 Inv-loop a b sum₀ i₀ sum i =
     (i ≤ length rows) × (length (sum .grams) ≡ length rows)
-    × Filled (λ n. at (a .grams) n +ℤ at (b .grams) n) i (sum .grams)
+    × Filled (λ n. gramsAt (a .grams) n +ℤ gramsAt (b .grams) n) i (sum .grams)
 
 abbrev μ-loop : tie.MeasureT-loop
 μ-loop a b sum₀ i₀ sum i = length rows - i

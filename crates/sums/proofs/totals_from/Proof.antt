@@ -2,7 +2,7 @@
 use Prim.Native.Nat.{_-_, _≤_}
 use mathlib.Core.Path.{_≡_, _∙_}
 use lib.ListN.{length}
-use Rattle.cut.proofs.Signed.{kept}
+use Rattle.cut_division.proofs.Signed.{back-mag}
 use Rattle.outputs.specs.Names.{totals}
 use Rattle.outputs.specs.Grams.{totalAt}
 use Rattle.outputs.proofs.ByNumber.{Filled, fill-none, fill-one, fill-all}
@@ -40,7 +40,7 @@ loop-again c =
     let l = c .before .before .loop in (
       search needs,
       search needs,
-      fill-one _ (l .inv .2) (search needs) (kept (c .total .result) (c .total .ok) ∙ c .total .ensures),
+      fill-one _ (l .inv .2) (search needs) (back-mag (c .total .result) (c .total .ok) ∙ c .total .ensures),
     )
 
 returns : tie.Need-returns Inv-loop μ-loop

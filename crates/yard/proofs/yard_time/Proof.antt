@@ -2,7 +2,7 @@
 -- Assumes nothing.
 use native.Mathlib.Omega.{arith}
 use borrow.Author.Needs.{needs}
-use Rattle.cut.proofs.Products.{mul-fits}
+use Rattle.cut_division.proofs.Products.{mul-fits}
 use Rattle.amounts.specs.Units.{tenths, year}
 use Rattle.yard.proofs.Times.{yard-time-steps}
 use Rattle.yard.proofs.yard_time.Statement.{statement}

@@ -18,8 +18,8 @@ abbrev μ-loop : tie.MeasureT-loop
 returns : tie.Need-returns Inv-loop μ-loop
 returns c = search (needs, row-steps)
 
-none-requires : tie.Need-none-requires Inv-loop μ-loop
-none-requires c κs = search needs
+no-fields-requires : tie.Need-no-fields-requires Inv-loop μ-loop
+no-fields-requires c κs = search needs
 
 loop-holds : tie.Need-loop-holds Inv-loop μ-loop
 loop-holds c = search (needs, row-steps)
@@ -30,8 +30,8 @@ field-end-requires c κs = search needs
 enum-known-p : tie.Need-enum-known-p Inv-loop μ-loop
 enum-known-p c = search needs
 
-and-requires : tie.Need-and-requires Inv-loop μ-loop
-and-requires c κs = search needs
+with-field-requires : tie.Need-with-field-requires Inv-loop μ-loop
+with-field-requires c κs = search needs
 
 loop-less : tie.Need-loop-less Inv-loop μ-loop
 loop-less c = search (needs, row-steps)
@@ -42,8 +42,8 @@ loop-again c = search (needs, row-steps)
 enum-known-p-2 : tie.Need-enum-known-p-2 Inv-loop μ-loop
 enum-known-p-2 c = search needs
 
-and-requires-2 : tie.Need-and-requires-2 Inv-loop μ-loop
-and-requires-2 c κs = search needs
+with-field-requires-2 : tie.Need-with-field-requires-2 Inv-loop μ-loop
+with-field-requires-2 c κs = search needs
 
 returns-2 : tie.Need-returns-2 Inv-loop μ-loop
 returns-2 c = search (needs, row-steps)
@@ -51,8 +51,8 @@ returns-2 c = search (needs, row-steps)
 enum-known-p-3 : tie.Need-enum-known-p-3 Inv-loop μ-loop
 enum-known-p-3 c = search needs
 
-and-requires-3 : tie.Need-and-requires-3 Inv-loop μ-loop
-and-requires-3 c κs = search needs
+with-field-requires-3 : tie.Need-with-field-requires-3 Inv-loop μ-loop
+with-field-requires-3 c κs = search needs
 
 returns-3 : tie.Need-returns-3 Inv-loop μ-loop
 returns-3 c = search (needs, row-steps)
@@ -70,18 +70,18 @@ next-spec =
     Inv-loop
     μ-loop
     returns
-    none-requires
+    no-fields-requires
     loop-holds
     field-end-requires
     enum-known-p
-    and-requires
+    with-field-requires
     loop-less
     loop-again
     enum-known-p-2
-    and-requires-2
+    with-field-requires-2
     returns-2
     enum-known-p-3
-    and-requires-3
+    with-field-requires-3
     returns-3
     enum-told
     returns-4)

@@ -19,8 +19,8 @@ told-of-requires c κs = search (needs, answer-steps)
 told-answer-requires : tie.Need-told-answer-requires
 told-answer-requires c κs = search needs
 
-enum-known-fault : tie.Need-enum-known-fault
-enum-known-fault c = search needs
+enum-known-refusal : tie.Need-enum-known-refusal
+enum-known-refusal c = search needs
 
 returns : tie.Need-returns
 returns c = search (needs, answer-steps)
@@ -37,6 +37,6 @@ herd-reason-spec =
     typed-of-requires
     told-of-requires
     told-answer-requires
-    enum-known-fault
+    enum-known-refusal
     returns
     returns-2)

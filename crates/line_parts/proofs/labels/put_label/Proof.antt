@@ -5,7 +5,7 @@ use mathlib.Core.Path.{_≡_, ap, _∙_}
 use native.Mathlib.Omega.{arith}
 use denote.Ref.{now}
 use lib.ListN.{length}
-use Rattle.base.proofs.Writes.{said, joined}
+use Rattle.base.proofs.Writes.{wrote-as, wrote-append}
 use Rattle.farm.specs.Labels.{text}
 use Rattle.line_parts.specs.Bounds.{longestLabel}
 use Rattle.line_parts.specs.Fields.{labelField}
@@ -55,8 +55,8 @@ returns c =
     let a = b .before .before .before .before in
     let t = a .before .before in
     let p = t .before .before in (
-      said (quoted _ _ (t .before .has-comma .ensures) (t .if1 .taken) ∙ ap labelField (lent p))
-          (joined (joined (a .put-byte .ensures) (b .put .ensures)) (d .put-byte2 .ensures)),
+      wrote-as (quoted _ _ (t .before .has-comma .ensures) (t .if1 .taken) ∙ ap labelField (lent p))
+          (wrote-append (wrote-append (a .put-byte .ensures) (b .put .ensures)) (d .put-byte2 .ensures)),
       omega (arith, short p, d .put-byte2 .ensures .past, b .put .ensures .past, a .put-byte .ensures .past),
     )
 
@@ -71,7 +71,7 @@ returns-2 c =
     let d = c .before .before in
     let t = d .before .before in
     let p = t .before .before in (
-      said (bare _ _ (t .before .has-comma .ensures) (t .if1 .left) ∙ ap labelField (lent p)) (d .put2 .ensures),
+      wrote-as (bare _ _ (t .before .has-comma .ensures) (t .if1 .left) ∙ ap labelField (lent p)) (d .put2 .ensures),
       omega (arith, short p, d .put2 .ensures .past),
     )
 

@@ -7,7 +7,7 @@ use denote.Ref.{now}
 use lib.ListN.{length}
 use Rattle.base.specs.Part.{part}
 use Rattle.base.specs.Text.{bytes}
-use Rattle.base.proofs.Writes.{said, joined}
+use Rattle.base.proofs.Writes.{wrote-as, wrote-append}
 use Rattle.inputs.specs.declared.Kind.{Kind}
 use Rattle.line_parts.specs.Paths.{pathOf}
 use Rattle.line_parts.specs.Owners.{kinds}
@@ -75,8 +75,8 @@ returns c =
     let p = d .before in
     let n = p .before .before .before in
     let a = label-put n in (
-      said (owner-is _ _ (path-lent p))
-          (joined (joined (a .put-label .ensures .0) (n .before .before .before .put-byte .ensures)) (d .put .ensures)),
+      wrote-as (owner-is _ _ (path-lent p))
+          (wrote-append (wrote-append (a .put-label .ensures .0) (n .before .before .before .put-byte .ensures)) (d .put .ensures)),
       omega (arith, ap length (path-lent p), path-short (kind-of n), d .put .ensures .past),
     )
 

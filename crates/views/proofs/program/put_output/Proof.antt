@@ -10,8 +10,8 @@ put-file-requires c κs = search needs
 enum-known-n : tie.Need-enum-known-n
 enum-known-n c = search needs
 
-enum-known-fault : tie.Need-enum-known-fault
-enum-known-fault c = search needs
+enum-known-refusal : tie.Need-enum-known-refusal
+enum-known-refusal c = search needs
 
 put-line-requires : tie.Need-put-line-requires
 put-line-requires c κs = search needs
@@ -34,7 +34,7 @@ put-output-spec =
     (tie.spec
     put-file-requires
     enum-known-n
-    enum-known-fault
+    enum-known-refusal
     put-line-requires
     same-length
     returns
