@@ -1,5 +1,4 @@
--- The cuts of cattle as they are printed, computed from the definitions: the ten names of the kind, what was cut off
--- under each, and its divisor. Assumes nothing.
+-- Cuts as they are printed, computed from the definitions: those of cattle, and one under every name. Assumes nothing.
 use Prim.Native.Nat.{ℕ}
 use Prim.Native.String.{String}
 use mathlib.Core.Path.{_≡_, refl}
@@ -8,10 +7,10 @@ use lib.Text.{eqt}
 use Rattle.base.specs.Pick.{pick}
 use Rattle.base.specs.Text.{bytes}
 use Rattle.decimal.specs.Writing.{width, wholeOf}
-use Rattle.inputs.specs.declared.Kind.the-variants.{Cattle}
+use Rattle.inputs.specs.declared.Kind.the-variants.{Cattle, Pigs}
 use Rattle.line_parts.specs.Fields.{hasComma, labelField, each}
 use Rattle.cuts.specs.declared.Cuts.{Cuts}
-use Rattle.cuts.specs.Names.{texts}
+use Rattle.cuts.specs.Names.{texts, cutNumber}
 use Rattle.lines_cuts.specs.Lines.{numbersOf, cutLine, cutLines}
 
 -- a cut: its name, what was cut off, its divisor
@@ -66,3 +65,43 @@ heifersLines =
 pub heifers-cut : cutLines (bytes "Heifers") Cattle heifers ≡ each bytes heifersLines
 unfolding cutLines cutLine numbersOf labelField hasComma wholeOf width
 heifers-cut = refl
+
+-- a cut under every name there is, its number cut off
+abbrev everyName : Cuts
+everyName = record { «cut_off» = map cutNumber texts; divisor = map (λ (t : String). 10000) texts }
+
+abbrev everyLine : List String
+everyLine =
+    "P1,Livestock::FatteningPigs::Excretion,tan_excretion,0,10000\r\n"
+    ∷ "P1,Livestock::FatteningPigs::Yard,n_into_yard,1,10000\r\n"
+    ∷ "P1,Livestock::FatteningPigs::Yard,tan_into_yard,2,10000\r\n"
+    ∷ "P1,Livestock::FatteningPigs::Yard,nh3_nyard,3,10000\r\n"
+    ∷ "P1,Livestock::FatteningPigs::Grazing,n_into_grazing,4,10000\r\n"
+    ∷ "P1,Livestock::FatteningPigs::Grazing,tan_into_grazing,5,10000\r\n"
+    ∷ "P1,Livestock::FatteningPigs::Grazing,nh3_ngrazing,6,10000\r\n"
+    ∷ "P1,Livestock::FatteningPigs::Grazing,n2_ngrazing,7,10000\r\n"
+    ∷ "P1,Livestock::FatteningPigs::Grazing,no_ngrazing,8,10000\r\n"
+    ∷ "P1,Livestock::FatteningPigs::Grazing,n2o_ngrazing,9,10000\r\n"
+    ∷ "P1,Livestock::FatteningPigs::Housing,c_grazing,10,10000\r\n"
+    ∷ "P1,Livestock::FatteningPigs::Housing,ef_nh3_nhousing:er_housing,11,10000\r\n"
+    ∷ "P1,Livestock::FatteningPigs::Housing,ef_nh3_nhousing:c_free_factor_housing,12,10000\r\n"
+    ∷ "P1,Livestock::FatteningPigs::Housing,ef_housing_indoor_before_air_scrubber:c_free_factor_housing,13,10000\r\n"
+    ∷ "P1,Livestock::FatteningPigs::Housing,ef_housing_indoor_before_air_scrubber:red_housing_air,14,10000\r\n"
+    ∷ "P1,Livestock::FatteningPigs::Housing,ef_housing_indoor,15,10000\r\n"
+    ∷ "P1,Livestock::FatteningPigs::Housing,ef_housing_grazing:c_free_factor_housing,16,10000\r\n"
+    ∷ "P1,Livestock::FatteningPigs::Housing,ef_nh3_nhousing:ef_housing_indoor,17,10000\r\n"
+    ∷ "P1,Livestock::FatteningPigs::Housing,ef_nh3_nhousing:ef_housing_grazing,18,10000\r\n"
+    ∷ "P1,Livestock::FatteningPigs::Housing,nh3_nhousing,19,10000\r\n"
+    ∷ "P1,Livestock::FatteningPigs::Housing,tan_air_scrubber:tan_excretion,20,10000\r\n"
+    ∷ "P1,Livestock::FatteningPigs::Housing,tan_air_scrubber:ef_housing_indoor_before_air_scrubber,21,10000\r\n"
+    ∷ "P1,Livestock::FatteningPigs::NxOx,n2_nsolid,22,10000\r\n"
+    ∷ "P1,Livestock::FatteningPigs::NxOx,no_nsolid,23,10000\r\n"
+    ∷ "P1,Livestock::FatteningPigs::NxOx,n2o_nsolid,24,10000\r\n"
+    ∷ "P1,Livestock::FatteningPigs::NxOx,n2_nliquid,25,10000\r\n"
+    ∷ "P1,Livestock::FatteningPigs::NxOx,no_nliquid,26,10000\r\n"
+    ∷ "P1,Livestock::FatteningPigs::NxOx,n2o_nliquid,27,10000\r\n"
+    ∷ []
+
+pub every-name-listed : cutLines (bytes "P1") Pigs everyName ≡ each bytes everyLine
+unfolding cutLines cutLine numbersOf labelField hasComma wholeOf width
+every-name-listed = refl

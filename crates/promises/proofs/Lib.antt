@@ -2,7 +2,7 @@ pub mod Demand1
 pub mod Demand2
 pub mod Demand3
 pub mod Examples
-pub mod WholeFarm
+pub mod Printed
 pub mod Commands
 pub mod Cuts
 pub mod Growing

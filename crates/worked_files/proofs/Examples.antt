@@ -5,7 +5,7 @@ use Prim.Native.String.{String}
 use mathlib.Core.Path.{_≡_, refl, ap}
 use mathlib.Core.List.{List, [], _∷_, _++_, map}
 use lib.IntN.{ℤ, pos, negsuc}
-use lib.ListN.{getD, replicate}
+use lib.ListN.{length, getD, take, replicate}
 use Rattle.base.specs.Text.{bytes}
 use Rattle.base.specs.Part.{part, sameBytes, lower, lowered}
 use Rattle.grammar.specs.Reading.{atStart, inPlain, inQuotes, pastQuote, pastCR, readingFrom, readingOf}
@@ -264,12 +264,27 @@ infix 4 _gives_
 abbrev _gives_ : List ℕ → FileAnswer → Example
 f gives a = record { file = f; answer = a }
 
-abbrev pub examples : List Example
-examples =
-    ([] gives accepted (farmOf []))
-    -- LF and nothing else
+-- a file for each refusal of reading, in the order of their numbers. Those of 1 and 2, of LFs alone, and those of 9 and
+-- 12 stand on both sides of the limits of 01's row 10
+abbrev pub refusals : List Example
+refusals =
+    (replicate 65537 10 gives refused 0 FileTooLong)
     ∷ (replicate 65536 10 gives refused 1 RecordBroken)
-    ∷ (replicate 65537 10 gives refused 0 FileTooLong)
+    ∷ (bytes "\r\n" gives refused 1 NotFourFields)
+    ∷ (pig "" "animals" "10" gives refused 1 BadLabel)
+    ∷ (pig "P1" "Animals" "10" gives refused 1 NotInTheList)
+    ∷ (pig "P1" "tan_fraction" "standard" gives refused 1 StandardForbidden)
+    ∷ (pig "P1" "animals" "10001" gives refused 1 BadValue)
+    ∷ (pigs ++ pig "P2" "animals" "1" ++ pig "P1" "animals" "1" gives refused 10 EarlierLabel)
+    ∷ (herdsFrom 10 65 gives refused 65 NoRoomForHerd)
+    ∷ (deer "animals" "1" ++ pig "D" "animals" "1" gives refused 2 OtherKind)
+    ∷ (deer "animals" "1" ++ deer "animals" "1" gives refused 2 GivenAlready)
+    ∷ (herdsFrom 10 64 gives refused 1 InputMissing)
+    ∷ []
+
+abbrev others : List Example
+others =
+    ([] gives accepted (farmOf []))
     ∷ (pigs gives accepted (farmOf (pigHerd ∷ [])))
     ∷ (pigsAgain gives accepted (farmOf (pigHerd ∷ [])))
     ∷ (pigsMitigated "100" gives accepted (farmOf (pigsHoused 2 1 0 0 (pos 100) ∷ [])))
@@ -284,19 +299,14 @@ examples =
     ∷ (bytes "a,b,c,d,e,f\"" gives refused 1 RecordBroken)
     ∷ (pigs ++ bytes "\r" gives refused 9 RecordBroken)
     ∷ (bytes "\"P1\"x" gives refused 1 RecordBroken)
-    ∷ (bytes "\r\n" gives refused 1 NotFourFields)
     ∷ (pigs ++ bytes "\r\n" gives refused 9 NotFourFields)
-    ∷ (pig "" "animals" "10" gives refused 1 BadLabel)
     ∷ (pig "seventeen letters" "animals" "10" gives refused 1 BadLabel)
     ∷ (pig "\"P\"\"1\"" "animals" "10" gives refused 1 BadLabel)
     ∷ (pig "\"P,1\"" "animals" "10" gives refused 1 InputMissing)
-    ∷ (pig "P1" "Animals" "10" gives refused 1 NotInTheList)
     -- `standard` where it may not stand is 6, and 7 where it is no word of the input at all
     ∷ (pig "P1" "inp_n_excretion" "standard" gives refused 1 StandardForbidden)
-    ∷ (pig "P1" "tan_fraction" "standard" gives refused 1 StandardForbidden)
     ∷ (heifers "inp_n_excretion" "standard" gives refused 1 StandardForbidden)
     ∷ (heifers "tan_fraction" "Standard" gives refused 1 StandardForbidden)
-    ∷ (pig "P1" "animals" "10001" gives refused 1 BadValue)
     ∷ (pig "P1" "animals" "standard" gives refused 1 BadValue)
     ∷ (pig "P1" "animals" "1.0" gives refused 1 BadValue)
     ∷ (pig "P1" "inp_n_excretion" "1.0000" gives refused 1 BadValue)
@@ -325,15 +335,13 @@ examples =
     ∷ (cows "tan_fraction" "Standard" gives refused 1 InputMissing)
     ∷ (cows "yard_days" "1" gives refused 1 NotInTheList)
     ∷ (cows "animals" "1" ++ heifers "tan_fraction" "55" gives refused 2 OtherKind)
-    ∷ (pigs ++ pig "P2" "animals" "1" ++ pig "P1" "animals" "1" gives refused 10 EarlierLabel)
-    ∷ (herdsFrom 10 64 gives refused 1 InputMissing)
-    ∷ (herdsFrom 10 65 gives refused 65 NoRoomForHerd)
-    ∷ (deer "animals" "1" ++ pig "D" "animals" "1" gives refused 2 OtherKind)
-    ∷ (deer "animals" "1" ++ deer "animals" "1" gives refused 2 GivenAlready)
     -- pigs without their house
     ∷ (excreting ++ housed "P1" "Outdoor" gives refused 1 InputMissing)
     ∷ (pigs ++ pig "P2" "animals" "1" ++ pig "P3" "animals" "1" gives refused 9 InputMissing)
     ∷ []
+
+abbrev pub examples : List Example
+examples = refusals ++ others
 
 pub worked : map (λ (e : Example). readOf (e .file)) examples ≡ map (λ (e : Example). e .answer) examples
 unfolding readOf readFrom recordTests taken closed finished readingOf readingFrom atStart inPlain inQuotes pastQuote
@@ -342,11 +350,14 @@ unfolding readOf readFrom recordTests taken closed finished readingOf readingFro
     withInput lacks earlierLabel signedRead part
 worked = refl
 
+pub refusals-worked : map (λ (e : Example). readOf (e .file)) refusals ≡ map (λ (e : Example). e .answer) refusals
+refusals-worked = ap (take (length refusals)) worked
+
 -- the pigs of 01 keep the rules
 pub pigs-keep : KeepsRules pigs (farmOf (pigHerd ∷ []))
 pigs-keep = accepts-exactly pigs (farmOf (pigHerd ∷ [])) .0
-    (ap (λ (l : List FileAnswer). getD l 3 (accepted (farmOf []))) worked)
+    (ap (λ (l : List FileAnswer). getD l 13 (accepted (farmOf []))) worked)
 
 -- the herds of each kind are read
 pub four-kinds-read : readOf fourKinds ≡ accepted (farmOf fourHerds)
-four-kinds-read = ap (λ (l : List FileAnswer). getD l 9 (accepted (farmOf []))) worked
+four-kinds-read = ap (λ (l : List FileAnswer). getD l 19 (accepted (farmOf []))) worked

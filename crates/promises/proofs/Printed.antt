@@ -1,5 +1,5 @@
--- A farm of a herd of each kind, from the bytes of its file to the bytes of all that is printed of it: the pigs of 01,
--- the cattle of its row 1, dairy cows (02, W9) and fallow deer, in every view. Assumes nothing.
+-- From the bytes of a file to the bytes that are printed for it, computed from the definitions: a farm of a herd of each
+-- kind, in every view; and a file for each refusal of reading. Assumes nothing.
 use Prim.Native.String.{String}
 use mathlib.Core.Path.{_≡_, refl, ap, _∙_}
 use mathlib.Core.List.{List, [], _∷_, _++_, map}
@@ -7,9 +7,10 @@ use Rattle.base.specs.Text.{bytes}
 use Rattle.decimal.specs.Writing.{width, wholeOf}
 use Rattle.kilogram_text.specs.Kilograms.{thousandthsOf, sign, kilogramsOf}
 use Rattle.farm.specs.Labels.{labelOf}
+use Rattle.reader.specs.declared.FileAnswer.{FileAnswer}
 use Rattle.rules_theorems.specs.Rules.{farmOf}
 use Rattle.rules_theorems.proofs.Passing.{accepted-passes}
-use Rattle.worked_files.proofs.Examples.{fourKinds, fourHerds, four-kinds-read}
+use Rattle.worked_files.proofs.Examples.{fourKinds, fourHerds, four-kinds-read, Example, refusals, refusals-worked}
 use Rattle.tables.specs.Standards.{standardOf}
 use Rattle.tables.specs.Growth.{kOf, withinDay, kAt, nearest, growthNum, growthDen, expNum, expDen}
 use Rattle.kinds.specs.Choices.{yardAt, floorAt, housingAt, scrubberAt, housingFloorAt, housingAirAt}
@@ -22,6 +23,7 @@ use Rattle.herd.specs.Herd.{figuresOf}
 use Rattle.cuts.specs.Herd.{cutsOf}
 use Rattle.reasons.specs.Reasons.{reasonOf, toldOf}
 use Rattle.model.specs.Answers.{herdFigures, farmAnswer}
+use Rattle.refusal_line.specs.Lines.{refusalLine}
 use Rattle.line_parts.specs.Fields.{hasComma, labelField, each}
 use Rattle.listing.specs.Listing.{lineOf, herdLines, totalsListing}
 use Rattle.listing.proofs.Examples.{pigLines, cattleLines, dairyLines, deerLines, totalLines}
@@ -32,10 +34,10 @@ use Rattle.lines_reasons.specs.Lines.{tenthsOf, numbersOf as whyNumbers, whyRec
 use Rattle.views.specs.declared.View.{View}
 use Rattle.views.specs.declared.View.the-variants.{Figures, Notes, Cuts, Reasons, Sentences}
 use Rattle.views.specs.Views.{herdText, viewed}
-use Rattle.views.specs.Program.{outputOf}
+use Rattle.views.specs.Program.{printed, outputOf}
 use Rattle.contracts.proofs.RecordSteps.{farm-figured}
 
--- ---- what is printed
+-- ---- a herd of each kind: the pigs of 01, the cattle of its row 1, dairy cows (02, W9) and fallow deer
 
 abbrev noteLines : List String
 noteLines =
@@ -139,3 +141,26 @@ viewed-whole Sentences = refl
 pub farm-printed : (v : View) → outputOf v fourKinds ≡ each bytes (linesOf v)
 unfolding outputOf
 farm-printed v = rw four-kinds-read (viewed-whole v)
+
+-- ---- a file for each refusal, in the order of their numbers: "`refused,NUMBER,RECORD` and CRLF"
+
+abbrev refusedLines : List String
+refusedLines =
+    "refused,1,0\r\n"
+    ∷ "refused,2,1\r\n"
+    ∷ "refused,3,1\r\n"
+    ∷ "refused,4,1\r\n"
+    ∷ "refused,5,1\r\n"
+    ∷ "refused,6,1\r\n"
+    ∷ "refused,7,1\r\n"
+    ∷ "refused,8,10\r\n"
+    ∷ "refused,9,65\r\n"
+    ∷ "refused,10,2\r\n"
+    ∷ "refused,11,2\r\n"
+    ∷ "refused,12,1\r\n"
+    ∷ []
+
+pub refusals-printed : (v : View)
+    → map (λ (e : Example). outputOf v (e .file)) refusals ≡ map bytes refusedLines
+unfolding outputOf refusalLine wholeOf width
+refusals-printed v = ap (map (λ (a : FileAnswer). printed v (a .checked) (a .farm))) refusals-worked
