@@ -14,7 +14,15 @@ use Rattle.amounts.specs.Units.{billionths}
 use Rattle.amounts.specs.Arithmetic.{cutting}
 use Rattle.amounts.specs.Portion.{portion}
 use Rattle.amounts.specs.declared.Parts.{Parts}
-use Rattle.amounts.specs.Bounds.{FitsPortion, PortionOf, FitsPortionTwice, PortionToTwice, PortionsOf, WithinMostN, UpTo}
+use Rattle.amounts.specs.Bounds.{
+  FitsPortion,
+  PortionOf,
+  FitsPortionTwice,
+  PortionToTwice,
+  PortionsOf,
+  WithinMostN,
+  UpTo,
+}
 
 -- ---- the code's step
 

@@ -1,8 +1,8 @@
 -- The formulas of the model are written once, over an arithmetic that says what an amount is and what dividing one
 -- does. Four are used: `cutting`, on whole grams with every division rounded down, which the code computes; `exact` of
--- crate `nearness_theorems`, on fractions with nothing cut off, which says what the exact value of a figure is (01, Steps and
--- cuts; demand 3); and two beside this page that tell of divisions (02, W7): `dividing`, by which one an amount was
--- made, and `collecting`, all that were made on the way to it.
+-- crate `nearness_theorems`, on fractions with nothing cut off, which says what the exact value of a figure is (01,
+-- Steps and cuts; demand 3); and two beside this page that tell of divisions (02, W7): `dividing`, by which one an
+-- amount was made, and `collecting`, all that were made on the way to it.
 use Prim.Native.Nat.{ℕ, _+_, _-_, _*_}
 use lib.IntN.{ℤ, pos, _-ℤ_}
 use Rattle.cut_division.specs.Cut.{_cutBy_, least}

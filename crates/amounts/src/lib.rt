@@ -1,7 +1,8 @@
-// The units of the formulas, and a portion of an amount with one cut. Every division that a herd's formulas make is that
-// of `portion` or of `portion_to_twice`, but for c_grazing, which cuts a sum (crate `housing`).
+// The units of the formulas, and a portion of an amount with one cut. Every division that a herd's formulas make is
+// that of `portion` or of `portion_to_twice`, but for c_grazing, which cuts a sum (crate `housing`).
 use cut_division::Quotient;
-ghost use Rattle.amounts.specs.Bounds.{WithinMostN, FitsPortion, PortionOf, FitsPortionTwice, PortionToTwice, PortionsOf};
+ghost use Rattle.amounts.specs.Bounds.{WithinMostN, FitsPortion, PortionOf};
+ghost use Rattle.amounts.specs.Bounds.{FitsPortionTwice, PortionToTwice, PortionsOf};
 
 // Days of a year; a day, in tenths of an hour; a year of such days.
 pub const YEAR: u64 = 365;

@@ -80,7 +80,8 @@ module _ (f : Farm) where
           let q = accepted-quiet (herd-refusing (take i ls) (getD (f .herds) i d)) (sym compared ∙ t) in
           rw (taken-stored ls i (getD (f .herds) i d .label) j) (sym (quiet-passes q after) ∙ next-herd)
 
-      pub herd-refused : {refusal : Refusal} {place : ℕ} → r ≡ Refused refusal place → Refused refusal place ≡ checkFarm f
+      pub herd-refused : {refusal : Refusal} {place : ℕ} → r ≡ Refused refusal place
+          → Refused refusal place ≡ checkFarm f
       herd-refused t = sym (refused-first (herd-refusing (take i ls) (getD (f .herds) i d)) (sym compared ∙ t) after)
           ∙ next-herd
 

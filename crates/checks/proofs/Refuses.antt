@@ -43,7 +43,15 @@ use Rattle.checks.specs.Refusals.{
   of-herd,
   Turn,
 }
-use Rattle.checks.specs.Refusals.{Sooner, herd-by-herd, in-that-order, FirstOfRecord, RecordGets, fine, gets-refusal}
+use Rattle.checks.specs.Refusals.{
+  Sooner,
+  herd-by-herd,
+  in-that-order,
+  FirstOfRecord,
+  RecordGets,
+  fine,
+  gets-refusal,
+}
 use Rattle.checks.proofs.Places.{
   missing-found,
   none-missing,
@@ -263,7 +271,8 @@ in-order m n {f} {g} a b =
 
 pub one-first : {x : Handed} {f g : Refusal} → FirstOfRecord x f → FirstOfRecord x g → f ≡ g
 one-first a b =
-    one-of-first (λ p q. in-order (a .place) (b .place) (turned-at p) (turned-at q)) (a .is-first) (b .is-first) .refusal
+    one-of-first (λ p q. in-order (a .place) (b .place) (turned-at p) (turned-at q)) (a .is-first) (b .is-first)
+    .refusal
 
 -- ---- the theorems
 

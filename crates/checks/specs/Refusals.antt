@@ -67,7 +67,8 @@ pub data Turn : Refusal → ℕ → Type 0 where
 
 pub data Sooner : ℕ → Refusal → ℕ → Refusal → Type 0 where
   herd-by-herd : {m n : ℕ} {refusal other : Refusal} → m < n → Sooner m refusal n other
-  in-that-order : {n s t : ℕ} {refusal other : Refusal} → Turn refusal s → Turn other t → s < t → Sooner n refusal n other
+  in-that-order : {n s t : ℕ} {refusal other : Refusal} → Turn refusal s → Turn other t → s < t
+      → Sooner n refusal n other
 
 -- the first refusal: it applies, and none that applies is sooner
 pub record FirstOfRecord (x : Handed) (refusal : Refusal) : Type 0 where

@@ -84,7 +84,8 @@ module _ (f : Farm) (a : FarmAnswer) (q : a ≡ farmAnswer f) where
       let w′ : Answered (totalsListing (farmAnswer f .totals)) old new r = rw q at w in
       record { buffer = rw p (w′ .buffer); answer = rw p (w′ .answer) }
 
-  pub is-totals-refused : (old : List ℕ) (refusal : Refusal) (at-record : ℕ) → a .checked ≡ checks.Refused refusal at-record
+  pub is-totals-refused : (old : List ℕ) (refusal : Refusal) (at-record : ℕ)
+      → a .checked ≡ checks.Refused refusal at-record
       → Called (totalsCall f) old old (Refused refusal at-record)
   unfolding totalsCall
   is-totals-refused old refusal at-record e = let p = checked (checks.Refused refusal at-record) e in

@@ -1,6 +1,6 @@
 -- What the calls that write what a file's farm has are to do, said by the rules that the file keeps or breaks (crate
--- `rules_theorems`) and not by how it is read: the first refusal, or what the view lists of the herds that its records say, or
--- their totals. proofs/Files.antt shows that the calls do exactly that. To be believed.
+-- `rules_theorems`) and not by how it is read: the first refusal, or what the view lists of the herds that its records
+-- say, or their totals. proofs/Files.antt shows that the calls do exactly that. To be believed.
 use Prim.Native.Nat.{ℕ, suc, _≤_, _<_}
 use mathlib.Core.Path.{_≡_}
 use mathlib.Core.List.{List, [], _∷_, _++_, map}
@@ -74,6 +74,7 @@ pub record ByTheRules (s : List ℕ) (c : FileCall) (old new : List ℕ) (r : Wr
 -- ---- what a command that asks for this view prints for a file, and how the run ended
 
 pub data Prints (s : List ℕ) (v : View) : List ℕ → Written → Type 0 where
-  the-refusal : {n : ℕ} {refusal : Refusal} → First s n refusal → Prints s v (refusalLine (number refusal) n) (Refused refusal n)
+  the-refusal : {n : ℕ} {refusal : Refusal} → First s n refusal
+      → Prints s v (refusalLine (number refusal) n) (Refused refusal n)
   the-view : {f : Farm} (k : KeepsRules s f)
       → Prints s v (viewText v (k .says .herds)) (Length (length (viewText v (k .says .herds))))

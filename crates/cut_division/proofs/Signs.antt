@@ -75,7 +75,8 @@ mirror (negsuc n) f t =
       same = omega (arith, ap natAbs eb);
     }
 
-pub not-below-fits : (g : ℤ) → SFits w64 g → leZ (pos 0) (back g) ≡ true → T (nonNeg (back g)) × Fits w64 (natAbs (back g))
+pub not-below-fits : (g : ℤ) → SFits w64 g → leZ (pos 0) (back g) ≡ true
+    → T (nonNeg (back g)) × Fits w64 (natAbs (back g))
 not-below-fits (pos n) f t =
     let e : back (pos n) ≡ pos n = toZ-ofZ f in
     let small : n < 2 ^ 63 = f .sfits in

@@ -58,7 +58,8 @@ module _ (names : List String) (h : FiguresIn dividing) where
 -- every cut that a herd has adds up
 pub cuts-add-up : (i : Inputs) (t : String) → 0 < divisorOf t (cutsOf i) → AddsUp i (cutsOf i) t
 unfolding cutsOf
-cuts-add-up i t p = let d = any (namesOf i) (figuresIn dividing i) rows (cutNumber t) p in record { back = d .back; less = d .less }
+cuts-add-up i t p = let d = any (namesOf i) (figuresIn dividing i) rows (cutNumber t) p in
+    record { back = d .back; less = d .less }
 
 -- ---- the names
 

@@ -44,7 +44,8 @@ abbrev lefts : List Left → List ℤ
 lefts l = map (λ (x : Left). x .left) l
 
 -- all or nothing is the same on either arithmetic, and so is what a scrubber keeps
-pub shared-whole : (share : ℕ) (d : Divided) → worth (allOrNothing dividing share d) ≡ allOrNothing cutting share (worth d)
+pub shared-whole : (share : ℕ) (d : Divided)
+    → worth (allOrNothing dividing share d) ≡ allOrNothing cutting share (worth d)
 shared-whole zero d = refl
 shared-whole (suc share) d = refl
 

@@ -159,7 +159,8 @@ module _ (i : Inputs) where
       ("tan_excretion" cuts n * p .«tan_fraction» by 10_000 ∷ gases pigsRates)
       ++ factors p
       ++ ("nh3_nhousing" cuts tanHoused * ef by 1_000_000_000 ∷ keptBack (p .«air_scrubber») p)
-      ++ nxOx (allOrNothing cutting (1 - share) housed) (allOrNothing cutting share housed) (ratesOf (p .«housing_type»))
+      ++ nxOx (allOrNothing cutting (1 - share) housed) (allOrNothing cutting share housed)
+      (ratesOf (p .«housing_type»))
 
 abbrev pub cutsInUnits : Inputs → List Named
 cutsInUnits (kinds.Roughage r) = ofRoughage (kinds.Roughage r) r

@@ -189,6 +189,7 @@ module _ (s : List ℕ) (place : ReaderPlace) (p : Progress) (n : ℕ) (x : Reac
 
           go : (u : DayRead) → y ≡ u → Reached s next q (n + 1)
           go (reads.Says d) h = due d (isDue (p .due) (d .date)) h (ap (takenBy p) (sym h) ∙ sym qt ∙ e)
-          go (reads.Wrong refusal) h = let k : Wrong refusal ≡ Further q = ap (takenBy p) (sym h) ∙ sym qt ∙ e in clash cc
+          go (reads.Wrong refusal) h = let k : Wrong refusal ≡ Further q = ap (takenBy p) (sym h) ∙ sym qt ∙ e in
+              clash cc
 
 pub ruleset log-steps = (reached-front, reached-roomy, log-ends, log-broken, record-less, log-wrong, log-further)

@@ -32,7 +32,17 @@ use Rattle.outdoors.proofs.Tallied.{tallyOf, tally-last, tally-outdoors}
 use Rattle.gate_rules_theorems.specs.Rules.{RecordSays, datesOf, logMost, KeepsLog}
 use Rattle.gate_rules_theorems.proofs.Days.{says-read}
 use Rattle.gate_rules_theorems.proofs.Steps.{one-same, dateAt, after-next, due-next, due-end}
-use Rattle.gate_rules_theorems.proofs.Answers.{Ran, accepts, breaks, wrong, ends, Answered, too-long, read, answered}
+use Rattle.gate_rules_theorems.proofs.Answers.{
+  Ran,
+  accepts,
+  breaks,
+  wrong,
+  ends,
+  Answered,
+  too-long,
+  read,
+  answered,
+}
 
 -- what is accepted keeps the rules
 keeps : {s : List ℕ} {x : LogAnswer} {o : Outdoors} → Answered s x → x ≡ Gives o → KeepsLog s o

@@ -29,7 +29,17 @@ use Rattle.outdoors.specs.Outdoors.{outdoorsOf}
 use Rattle.gate.specs.Logs.{nothingRead, readFrom, readLog}
 use Rattle.gate_rules_theorems.specs.Rules.{dateText, LogOf, logMost}
 use Rattle.gate_rules_theorems.specs.Refusals.{Applies}
-use Rattle.gate_rules_theorems.proofs.Steps.{Inv, start, NoneBelow, Verdict, refuses, goes-on, verdict, OnEve, Ended}
+use Rattle.gate_rules_theorems.proofs.Steps.{
+  Inv,
+  start,
+  NoneBelow,
+  Verdict,
+  refuses,
+  goes-on,
+  verdict,
+  OnEve,
+  Ended,
+}
 use Rattle.gate_rules_theorems.proofs.Steps.{whole, early, finish}
 
 -- ---- records for which none of 3, 7 and 14 applies

@@ -69,8 +69,10 @@ modulesWith t = map (λ (i : Input). rowAt (i .kind) (i .slot) .path) (inputsNam
 
 pub taken-by :
     map modulesWith ("grazing_days" ∷ "yard_days" ∷ "grazing_hours" ∷ [])
-    ≡ ("Livestock::RoughageConsuming::Grazing" ∷ "Livestock::OtherCattle::Outdoor" ∷ "Livestock::DairyCow::Outdoor" ∷ [])
+    ≡ ("Livestock::RoughageConsuming::Grazing" ∷ "Livestock::OtherCattle::Outdoor" ∷ "Livestock::DairyCow::Outdoor" ∷
+    [])
     ∷ ("Livestock::OtherCattle::Outdoor" ∷ "Livestock::DairyCow::Outdoor" ∷ [])
-    ∷ ("Livestock::RoughageConsuming::Grazing" ∷ "Livestock::OtherCattle::Outdoor" ∷ "Livestock::DairyCow::Outdoor" ∷ [])
+    ∷ ("Livestock::RoughageConsuming::Grazing" ∷ "Livestock::OtherCattle::Outdoor" ∷ "Livestock::DairyCow::Outdoor" ∷
+    [])
     ∷ []
 taken-by = refl

@@ -29,10 +29,27 @@ use Rattle.gate_days.specs.Refusals.{number}
 use Rattle.gate.specs.Answers.{says}
 use Rattle.gate.specs.Logs.{readLog}
 use Rattle.gate_rules_theorems.specs.Rules.{dateText, logMost, KeepsLog}
-use Rattle.gate_rules_theorems.specs.Refusals.{Applies, AppliesAt, Sooner, too-long-first, from-the-front, in-that-order}
+use Rattle.gate_rules_theorems.specs.Refusals.{
+  Applies,
+  AppliesAt,
+  Sooner,
+  too-long-first,
+  from-the-front,
+  in-that-order,
+}
 use Rattle.gate_rules_theorems.specs.Refusals.{then-the-end, First, LogGets}
 use Rattle.gate_rules_theorems.proofs.Steps.{NoneBelow, OnEve}
-use Rattle.gate_rules_theorems.proofs.Answers.{Clean, Ran, accepts, breaks, wrong, ends, Answered, too-long, read}
+use Rattle.gate_rules_theorems.proofs.Answers.{
+  Clean,
+  Ran,
+  accepts,
+  breaks,
+  wrong,
+  ends,
+  Answered,
+  too-long,
+  read,
+}
 use Rattle.gate_rules_theorems.proofs.Answers.{answered}
 use Rattle.gate_rules_theorems.proofs.Accepts.{accepts-exactly}
 
@@ -250,7 +267,8 @@ one-first x y = one-of-first (λ a b. order (rank a) (rank b)) x y
 module _ (s : List ℕ) (n : ℕ) (refusal : LogRefusal) where
   refused-first : {x : LogAnswer} → Outcome s x → x ≡ Refused refusal n → First s n refusal
   refused-first (takes _) e = clash cc
-  refused-first (refuses-it {n = m} {refusal = f} x) e = let p : m ≡ n = cc in let q : f ≡ refusal = cc in rw (p, q) at x
+  refused-first (refuses-it {n = m} {refusal = f} x) e = let p : m ≡ n = cc in let q : f ≡ refusal = cc in
+      rw (p, q) at x
 
   first-refused : {x : LogAnswer} → Outcome s x → First s n refusal → x ≡ Refused refusal n
   first-refused (takes none) x = absurd (none n refusal (x .applies))

@@ -1,5 +1,5 @@
--- 02, W10: what a log comes to is put into a farm file. What is printed, record by record, and which inputs of 01's list
--- take it there: those of its name. To be believed.
+-- 02, W10: what a log comes to is put into a farm file. What is printed, record by record, and which inputs of 01's
+-- list take it there: those of its name. To be believed.
 use Prim.Native.Nat.{ℕ, suc, _≤_}
 use Prim.Native.String.{String}
 use mathlib.Core.List.{List, [], _∷_, map}

@@ -49,7 +49,8 @@ pub data AppliesAt (s : List ℕ) : ℕ → LogRefusal → Type 0 where
 pub data Sooner : ℕ → LogRefusal → ℕ → LogRefusal → Type 0 where
   too-long-first : {m n : ℕ} {refusal : LogRefusal} → number LogTooLong < number refusal → Sooner m LogTooLong n refusal
   from-the-front : {m n : ℕ} {refusal other : LogRefusal} → 1 ≤ m → m < n → Sooner m refusal n other
-  in-that-order : {n : ℕ} {refusal other : LogRefusal} → 1 ≤ n → number refusal < number other → Sooner n refusal n other
+  in-that-order : {n : ℕ} {refusal other : LogRefusal} → 1 ≤ n → number refusal < number other
+      → Sooner n refusal n other
   then-the-end : {m : ℕ} {refusal : LogRefusal} → 1 ≤ m → Sooner m refusal 0 WrongDate
 
 -- the first refusal: it applies, and none that applies is sooner

@@ -45,7 +45,8 @@ most = 4000000000
 
 -- ---- section by section
 
-excretion-to : (e : ExcretionIn cutting) → WithinMostN (e .«n_excretion») (e .«tan_excretion») → SectionTo most excretion e
+excretion-to : (e : ExcretionIn cutting) → WithinMostN (e .«n_excretion») (e .«tan_excretion»)
+    → SectionTo most excretion e
 excretion-to e m = omega arith
 
 yard-to : {n tan nh3 : ℕ} → WithinMostN n tan → nh3 ≤ tan → SectionTo most yard (throughYard cutting n tan nh3)
@@ -89,7 +90,8 @@ gases-to : (n tan a b c d : ℕ) → WithinMostN n tan → a + b + c + d ≤ n
     → SectionTo most grazing (afterGases cutting n tan a b c d)
 gases-to n tan a b c d m h = omega (arith, remain-le tan a b c d)
 
-pasture-to : (r : Rates) {n tan : ℕ} → ModestRates r → WithinMostN n tan → SectionTo most grazing (onPasture cutting r n tan)
+pasture-to : (r : Rates) {n tan : ℕ} → ModestRates r → WithinMostN n tan
+    → SectionTo most grazing (onPasture cutting r n tan)
 pasture-to r {n} {tan} hr m =
     gases-to n tan (gas cutting tan (r .nh3)) (gas cutting n (r .n2)) (gas cutting n (r .no)) (gas cutting n (r .n2o)) m
     (gases-le r n tan hr m)

@@ -61,8 +61,8 @@ module _ (e more : ExcretionIn cutting) (h : NoLessExcreted e more) where
             (roughage-rest-grows tan moreTan (h .tan) r animals entered s) r animals entered;
       }
 
-  -- behind a yard what goes into the housing has two cuts, and may fall by a gram (crate `growing_theorems`, proofs/Examples);
-  -- 01 leaves the ammonia of that housing out
+  -- behind a yard what goes into the housing has two cuts, and may fall by a gram (crate `growing_theorems`,
+  -- proofs/Examples); 01 leaves the ammonia of that housing out
   outdoor-emits : (r : Rates) (o : Outdoor) → NoLessEmitted (outdoorOn cutting r o e) (outdoorOn cutting r o more)
   outdoor-emits r o =
       record {

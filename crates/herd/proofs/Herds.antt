@@ -1,5 +1,5 @@
--- The steps of a herd's sections, each in the form that a place of the code wants: what goes where is no more than there
--- is, and the sections that the code made are those of the formulas. Assumes nothing.
+-- The steps of a herd's sections, each in the form that a place of the code wants: what goes where is no more than
+-- there is, and the sections that the code made are those of the formulas. Assumes nothing.
 use Prim.Native.Nat.{ℕ, _+_, _-_, _*_, _≤_, _<_, _^_}
 use mathlib.Core.Path.{_≡_, refl, _∙_}
 use native.Mathlib.Omega.{arith}
@@ -49,7 +49,8 @@ pub is-plain : (e : Excretion) (y : Yard) (g : Grazing) (h : Housing) (p : PigHo
     → p ≡ handedPigHouse (noPigFactors dividing) (handedScrubbed (noScrubbed dividing)) (noPigHouse dividing)
     → x ≡ handedNxOx (noNxOx dividing)
     → _≡_ {A = Sections}
-    (record { excretion = e; yard = y; grazing = g; housing = h; «pig_house» = p; «nx_ox» = x }) (ofGrazerSections e y g h)
+    (record { excretion = e; yard = y; grazing = g; housing = h; «pig_house» = p; «nx_ox» = x })
+    (ofGrazerSections e y g h)
 is-plain e y g h p x ep ex = rw (ep, ex) refl
 
 -- ---- a herd with a yard

@@ -25,7 +25,8 @@ module _ (s : List ℕ) (a : FileAnswer) (e : a ≡ readOf s) where
   unfolding farmReach
   farm-through c = ap checkedReach (sym c ∙ ap (λ (x : FileAnswer). x .checked) e)
 
-  pub farm-refused : (refusal : Refusal) (n : ℕ) → a .checked ≡ checks.Refused refusal n → (k : ℕ) → k ≡ farms.number refusal
+  pub farm-refused : (refusal : Refusal) (n : ℕ) → a .checked ≡ checks.Refused refusal n → (k : ℕ)
+      → k ≡ farms.number refusal
       → (r : Reach) → r ≡ reachOf k n → r ≡ farmReach s
   unfolding farmReach
   farm-refused refusal n c k ek r er =

@@ -1,5 +1,5 @@
--- The choices, each at the place of its name in 01's list (crate `names`). Crate `printed_numbers` holds what 001 prints of each
--- name.
+-- The choices, each at the place of its name in 01's list (crate `names`). Crate `printed_numbers` holds what 001
+-- prints of each name.
 use Prim.Native.Nat.{ℕ}
 use mathlib.Core.List.{List, [], _∷_}
 use lib.ListN.{getD}

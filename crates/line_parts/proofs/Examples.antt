@@ -1,4 +1,5 @@
--- Labels as fields, and the path of each kind beside those of its inputs, computed from the definitions. Assumes nothing.
+-- Labels as fields, and the path of each kind beside those of its inputs, computed from the definitions. Assumes
+-- nothing.
 use Prim.Native.Nat.{ℕ}
 use mathlib.Core.Path.{_≡_, refl}
 use mathlib.Core.Bool.{Bool, true}

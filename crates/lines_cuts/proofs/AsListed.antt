@@ -78,7 +78,8 @@ cuts-known n m =
     }
 
 as-listed : (label : List ℕ) (k : Kind) (c : Cuts)
-    → numbered (ownerOf label (bytes (pathOf k))) table middleStarts (c .«cut_off») (c .divisor) numbers ≡ cutLines label k c
+    → numbered (ownerOf label (bytes (pathOf k))) table middleStarts (c .«cut_off») (c .divisor) numbers
+    ≡ cutLines label k c
 unfolding cutLines
 as-listed label k c = numbered-is label (bytes (pathOf k)) (c .«cut_off») (c .divisor) numbers tt ∙ simp append-assoc
 

@@ -70,5 +70,6 @@ module _ (label : List ℕ) (l : FieldOf label (labelField label)) (k : Kind) (c
 pub cuts-read : (h : Herd) → labelOk (h .label) ≡ true → RecordsOf 5 (herdCutRecords h) (herdCutLines h)
 unfolding cutLines
 cuts-read h ok =
-    cut-lines (text (h .label)) (label-field (text (h .label)) (good-bytes (h .label) ok)) (h .kind) (cutsOf (typedOf h))
+    cut-lines (text (h .label)) (label-field (text (h .label)) (good-bytes (h .label) ok)) (h .kind)
+    (cutsOf (typedOf h))
     texts names-plain

@@ -39,7 +39,8 @@ plain-kilograms : (g : ℤ) → Plain (kilogramsOf g)
 unfolding kilogramsOf thousandthsOf
 plain-kilograms g =
     plain-append (plain-sign g)
-    (plain-append (plain-append (plain-whole (natAbs g / 1000)) (past-plain (bytes ".") refl)) (plain-lowest 3 (natAbs g)))
+    (plain-append (plain-append (plain-whole (natAbs g / 1000)) (past-plain (bytes ".") refl))
+    (plain-lowest 3 (natAbs g)))
 
 -- the section of a name and the name itself; every one that a kind lists, and every total, computed
 abbrev plainName : String → Bool
@@ -75,7 +76,8 @@ listing-reads l k f ok =
     lines (λ (n : String). fieldsOf (text l) (moduleOf k n) (bytes n) (figure n f)) (herdLine (text l) k f) plainName
     (λ n e. let p = both-true (allPast (bytes (sectionOf n))) (allPast (bytes n)) e in
     line (text l) (moduleOf k n) (bytes n) (figure n f) (label-field (text l) (good-bytes l ok))
-    (plain-append (plain-append (plain-path k) (past-plain (bytes "::") refl)) (past-plain _ (p .0))) (past-plain _ (p .1)))
+    (plain-append (plain-append (plain-path k) (past-plain (bytes "::") refl)) (past-plain _ (p .0)))
+    (past-plain _ (p .1)))
     (linesOf k) (names-plain k)
 
 -- the totals' listing

@@ -82,7 +82,8 @@ module _ (l : List Figures) (room : length l ≤ herdsMost) (to : Each (λ (f : 
   unfolding farmTotal
   total-most t =
       let figures = each-of figure-most (getD addends t []) in
-      let sums = sum-most (λ n. signedTotal (λ (f : Figures). gramsAt (f .grams) n) l) (most * herdsMost) (pos 0) figures in
+      let sums = sum-most (λ n. signedTotal (λ (f : Figures). gramsAt (f .grams) n) l) (most * herdsMost) (pos 0)
+      figures in
       omega (arith, few t, sums)
 
   totals-most : (n : ℕ) → natAbs (gramsAt (totalsOf l .grams) n) ≤ most * herdsMost * 3

@@ -26,7 +26,14 @@ use Rattle.mending_theorems.specs.Faultless.{Marked, TwiceMarked, BareAt
 use Rattle.mending_theorems.specs.Damaged.{Bared}
 use Rattle.mending_theorems.proofs.Texts.{marked-so, so-marked, unmarked-mended, marked-mended}
 use Rattle.mending_theorems.proofs.Undo.{undo-all, make-all}
-use Rattle.mending_theorems.proofs.Exact.{none-listed, listed-bare, bare-in-list, listed-marked, marked-listed, rising}
+use Rattle.mending_theorems.proofs.Exact.{
+  none-listed,
+  listed-bare,
+  bare-in-list,
+  listed-marked,
+  marked-listed,
+  rising,
+}
 use Rattle.mending_theorems.proofs.Again.{marked-from, marked-after, changes-after}
 use Rattle.mending_theorems.proofs.Grammar.{comes-back, nothing-dropped}
 use Rattle.mending_theorems.proofs.Accepted.{accepted-unmarked}
@@ -165,7 +172,8 @@ pub record AsBefore (out list o l : List ℕ) (refusal : Refusal) (at-record : �
 pub refusal-leaves : {s out list o l : List ℕ} {refusal : Refusal} {at-record : ℕ}
     → Mends s out list o l (Refused refusal at-record)
     → AsBefore out list o l refusal at-record
-refusal-leaves {s} {out} {list} {o} {l} {refusal} {at-record} m = go (room s out list) (m .file) (m .changes) (m .answer)
+refusal-leaves {s} {out} {list} {o} {l} {refusal} {at-record} m =
+    go (room s out list) (m .file) (m .changes) (m .answer)
   where
     of-refused : Answer → ℕ
     of-refused (Mended a b) = 0

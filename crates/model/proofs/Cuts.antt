@@ -58,6 +58,7 @@ module _ (h : Herd) (accepted : checkHerd h ≡ Accepted) where
   herd-cuts-in-units = rw accepted (cuts-in-units (typedOf h))
 
 -- a refused herd has none
-pub refused-no-cuts : (h : Herd) (refusal : Refusal) (n : ℕ) → checkHerd h ≡ Refused refusal n → herdAnswer h .cuts ≡ noCuts
+pub refused-no-cuts : (h : Herd) (refusal : Refusal) (n : ℕ) → checkHerd h ≡ Refused refusal n
+    → herdAnswer h .cuts ≡ noCuts
 unfolding herdAnswer
 refused-no-cuts h refusal n e = rw e

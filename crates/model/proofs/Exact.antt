@@ -33,7 +33,8 @@ herds-small : {l : List Herd} → Each (λ h. checkHerd h ≡ Accepted) l
 herds-small none = none
 herds-small (more {a = h} p ps) = more (figures-to (typedOf h) (typed-sound h p)) (herds-small ps)
 
-pub totals-exact : (f : Farm) → checkFarm f ≡ Accepted → GramsTo exactMost (totalsOf (map herdFigures (herdsOf f)) .grams)
+pub totals-exact : (f : Farm) → checkFarm f ≡ Accepted
+    → GramsTo exactMost (totalsOf (map herdFigures (herdsOf f)) .grams)
 totals-exact f accepted =
     let l = map herdFigures (herdsOf f) in
     widen (mostAddends * (length l * most)) exactMost (totals-small l most (herds-small (farm-each f accepted)))

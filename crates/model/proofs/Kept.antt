@@ -121,7 +121,8 @@ made-keeps : {f : FiguresIn cutting} → Made f → Keeps (herdOf f)
 made-keeps (of-roughage r e s m) =
     let n = e .«n_excretion» in
     let tan = e .«tan_excretion» in
-    keeps-from (roughageOn cutting r e) (omega (arith, roughage-into-le r s n)) (omega (arith, roughage-into-le r s tan))
+    keeps-from (roughageOn cutting r e) (omega (arith, roughage-into-le r s n))
+    (omega (arith, roughage-into-le r s tan))
     (pasture-keeps-n roughageRates (roughageIntoGrazing cutting r n) (roughageIntoGrazing cutting r tan)
     roughage-rates-modest (roughage-pasture-modest r s n tan m))
     (pasture-keeps-tan roughageRates (roughageIntoGrazing cutting r n) (roughageIntoGrazing cutting r tan))

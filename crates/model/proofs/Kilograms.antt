@@ -48,7 +48,8 @@ herd-kilograms h t = go (checkHerd h) refl
 pub refused-herd-plus-zero : (h : Herd) (refusal : Refusal) (n : ℕ) → checkHerd h ≡ Refused refusal n → (t : String)
     → figureInKilograms t (herdAnswer h .kilograms) ≡ plusZero
 unfolding herdAnswer
-refused-herd-plus-zero h refusal n e t = rw e (no-grams-plus-zero zeros (number t) (none-larger (zeros-to 0) (number t)))
+refused-herd-plus-zero h refusal n e t =
+    rw e (no-grams-plus-zero zeros (number t) (none-larger (zeros-to 0) (number t)))
 
 -- ---- a farm
 

@@ -15,7 +15,14 @@ use Rattle.base.proofs.Each.{each-of, each-map}
 use Rattle.cut_division.specs.Frac.{Frac, _⊕_, Within}
 use Rattle.cut_division.specs.Total.{addUp, signedTotal, exactTotal}
 use Rattle.cut_division.proofs.Near.{near-whole, near-weaken, within-weaken}
-use Rattle.cut_division.proofs.Totals.{addUp-map, TotalNear, near-signed-total, near-total-add, total-most, total-within}
+use Rattle.cut_division.proofs.Totals.{
+  addUp-map,
+  TotalNear,
+  near-signed-total,
+  near-total-add,
+  total-most,
+  total-within,
+}
 use Rattle.kinds.specs.declared.Inputs.{Inputs}
 use Rattle.kinds.specs.Sound.{Sound}
 use Rattle.outputs.specs.declared.Figures.{Figures}
@@ -45,7 +52,8 @@ module _ (l : List Inputs) (s : Each Sound l) where
   near-sum : (n : ℕ) → TotalNearBy (λ i. errorsAt i n) l (sum (map figuresOf l) n) (exactSum l n)
   near-sum n =
       rw (addUp-map _+ℤ_ (λ (f : Figures). gramsAt (f .grams) n) figuresOf (pos 0) l)
-      (near-signed-total _ _ (λ i. gramsAt (figuresOf i .grams) n) (λ i. exactAt i n) (each-map (λ i h. near-herd i h n) s))
+      (near-signed-total _ _ (λ i. gramsAt (figuresOf i .grams) n) (λ i. exactAt i n)
+      (each-map (λ i h. near-herd i h n) s))
 
   -- and then over the addends that are left
   near-from : {lo hi : Inputs → ℕ} {x : ℤ} {q : Frac} → TotalNear lo hi l x q → (ns : List ℕ)

@@ -30,7 +30,8 @@ near-herd (kinds.Cattle c) (cattle s) =
     near-cattle c s _ _ (near-excreted _ _ _ (s .animals) (s .grams) (cattle-fraction-le c s))
 near-herd (kinds.Pigs p) (pigs s) = near-pigs p _ _ (near-excreted _ _ _ (s .animals) (s .grams) (s .fraction))
 
-pub within-herd : (i : Inputs) → Sound i → (n : ℕ) → Within (promisedAt i n) (gramsAt (figuresOf i .grams) n) (exactAt i n)
+pub within-herd : (i : Inputs) → Sound i → (n : ℕ)
+    → Within (promisedAt i n) (gramsAt (figuresOf i .grams) n) (exactAt i n)
 within-herd i s n =
     let k = promise-kept i n in near-within (promisedAt i n) (k .kept-below) (k .kept-above) (near-herd i s n)
 

@@ -11,7 +11,16 @@ use lib.IntN.{pos}
 use Rattle.base.specs.Pick.{pick}
 use Rattle.cut_division.specs.Frac.{Frac, whole, per, _atMost_}
 use Rattle.cut_division.proofs.Signed.{dn}
-use Rattle.cut_division.proofs.Near.{Near, near-whole, near-weaken, near-add, near-mul, near-div-to, near-at-most, near-factor}
+use Rattle.cut_division.proofs.Near.{
+  Near,
+  near-whole,
+  near-weaken,
+  near-add,
+  near-mul,
+  near-div-to,
+  near-at-most,
+  near-factor,
+}
 use Rattle.tables.specs.Growth.{mostK}
 use Rattle.tables.proofs.Growth.{k-most}
 use Rattle.amounts.specs.Units.{percent, thousandths, billionths, year, day}

@@ -87,7 +87,8 @@ module _ (r : Rates) (hr : ModestRates r) (o : Outdoor) (s : SoundOutdoor o) (e 
   yard : WithinMostN (intoYard cutting o (e .«n_excretion»)) (intoYard cutting o (e .«tan_excretion»))
   yard = yard-modest o s _ _ (near .modest)
 
-  pasture : WithinMostN (outdoorIntoGrazing cutting o (e .«n_excretion»)) (outdoorIntoGrazing cutting o (e .«tan_excretion»))
+  pasture : WithinMostN (outdoorIntoGrazing cutting o (e .«n_excretion»))
+      (outdoorIntoGrazing cutting o (e .«tan_excretion»))
   pasture = outdoor-pasture-modest o s _ _ (near .modest)
 
   abbrev near-outdoor : NearAll (gramsOf (outdoorOn cutting r o e)) (figures exact (outdoorOn exact r o e′))

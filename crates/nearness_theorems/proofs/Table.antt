@@ -1,7 +1,7 @@
 -- The tables of errors and of bounds, by tests that compute: the errors of each figure, and of what a herd brings into
 -- each total, keep what is promised of it; no herd is promised more than the total for each of its herds; and every
--- entry is of a name. No kind of herd has both a yard and a housing whose NH3 is counted, so NH3 from three sources keeps
--- it too. Assumes nothing.
+-- entry is of a name. No kind of herd has both a yard and a housing whose NH3 is counted, so NH3 from three sources
+-- keeps it too. Assumes nothing.
 use Prim.Native.Nat.{ℕ, zero, suc, _*_, _≤_}
 use Prim.Native.String.{String}
 use mathlib.Core.Bool.{Bool, true, false, _&&_}
@@ -26,7 +26,15 @@ use Rattle.nearness_theorems.specs.Promised.{
   promisedTogether,
   promisedInTotal,
 }
-use Rattle.nearness_theorems.specs.Errors.{millionths, Errors, exactly, errorsOf, errorsAt, summedErrors, totalErrors}
+use Rattle.nearness_theorems.specs.Errors.{
+  millionths,
+  Errors,
+  exactly,
+  errorsOf,
+  errorsAt,
+  summedErrors,
+  totalErrors,
+}
 
 -- ---- errors keep bounds
 

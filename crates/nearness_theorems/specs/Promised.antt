@@ -1,5 +1,5 @@
--- Demand 3 in numbers: within how many grams of its exact value each figure of a herd lies, and each total, herd by herd
--- and for each of its herds.
+-- Demand 3 in numbers: within how many grams of its exact value each figure of a herd lies, and each total, herd by
+-- herd and for each of its herds.
 use Prim.Native.Nat.{ℕ}
 use Prim.Native.String.{String}
 use mathlib.Core.List.{List, [], _∷_, map}

@@ -1,6 +1,6 @@
 -- A herd that follows the one being read: refusals 8 and 9, how many herds there are, and which lacks an input, for 12.
--- It mirrors the code for its contracts; what 8, 9 and 12 mean is said of the records in `rules_theorems/specs`, and proved to
--- be the same there.
+-- It mirrors the code for its contracts; what 8, 9 and 12 mean is said of the records in `rules_theorems/specs`, and
+-- proved to be the same there.
 use Prim.Native.Nat.{ℕ, _+_}
 use mathlib.Core.List.{List, [], _∷_}
 use lib.Dec.{eqb, leb}

@@ -35,7 +35,8 @@ pub fn no_scrubbed() -> Scrubbed
 }
 
 pub fn no_pig_house() -> PigHouse
-    ensures { λ q. ⌜ q ≡ handedPigHouse (noPigFactors dividing) (handedScrubbed (noScrubbed dividing)) (noPigHouse dividing) ⌝ }
+    ensures { λ q. ⌜ q ≡ handedPigHouse (noPigFactors dividing) (handedScrubbed (noScrubbed dividing))
+        (noPigHouse dividing) ⌝ }
 {
     PigHouse {
         factors: no_pig_factors(),

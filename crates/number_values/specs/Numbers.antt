@@ -1,6 +1,6 @@
 -- What a number's text says as a value: one in range, or nothing; and a whole number that may be below zero (02, W3).
--- It mirrors the code for its contracts; what a value is, is said in `rules_theorems/specs/Rules`, and proved to be the same
--- there.
+-- It mirrors the code for its contracts; what a value is, is said in `rules_theorems/specs/Rules`, and proved to be the
+-- same there.
 use Prim.Native.Nat.{ℕ, zero, suc}
 use mathlib.Core.Bool.{Bool, false}
 use mathlib.Core.List.{List, [], _∷_}

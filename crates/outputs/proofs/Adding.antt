@@ -20,7 +20,17 @@ use Rattle.cut_division.proofs.Totals.{addUp-part, addUp-map, signedTotal-same,
 use Rattle.outputs.specs.declared.Figures.{Figures}
 use Rattle.outputs.specs.declared.Totals.{Totals}
 use Rattle.outputs.specs.Names.{Row, rows, number, Total, totals, totalNumber, addends}
-use Rattle.outputs.specs.Grams.{gramsAt, plusGrams, zeros, summed, totalAt, totalGrams, farmTotal, totalsOf, GramsTo}
+use Rattle.outputs.specs.Grams.{
+  gramsAt,
+  plusGrams,
+  zeros,
+  summed,
+  totalAt,
+  totalGrams,
+  farmTotal,
+  totalsOf,
+  GramsTo,
+}
 use Rattle.outputs.proofs.ByNumber.{by-number-at, by-number-past, by-number-same}
 
 -- ---- every number
@@ -68,7 +78,8 @@ module _ {A : Type 0} (g : A → Figures) (l : List A) where
   total-of-sum : (t : ℕ) → t < length totals → totalAt (summed g l) t ≡ farmTotal (map g l) t
   unfolding totalAt farmTotal
   total-of-sum t h =
-      same-sum (gramsAt (summed g l)) (λ n. signedTotal (λ (f : Figures). gramsAt (f .grams) n) (map g l)) (summed-at g l)
+      same-sum (gramsAt (summed g l)) (λ n. signedTotal (λ (f : Figures). gramsAt (f .grams) n) (map g l))
+      (summed-at g l)
       (getD addends t []) (all-at areNames addends addends-known t [] h) (pos 0)
 
   pub totals-of-sum : (t : Totals) → t .grams ≡ totalGrams (summed g l) → t ≡ totalsOf (map g l)
@@ -85,7 +96,8 @@ module _ {l m : List Figures} (o : Reordered l m) where
   total-in-any-order : (t : ℕ) → farmTotal l t ≡ farmTotal m t
   unfolding farmTotal
   total-in-any-order t =
-      signedTotal-same (each-of (λ n. signedTotal-reordered (λ (f : Figures). gramsAt (f .grams) n) o) (getD addends t []))
+      signedTotal-same (each-of (λ n. signedTotal-reordered (λ (f : Figures). gramsAt (f .grams) n) o)
+      (getD addends t []))
 
   pub totals-in-any-order : totalsOf l ≡ totalsOf m
   unfolding totalsOf

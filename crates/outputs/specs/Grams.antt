@@ -1,8 +1,7 @@
--- Grams by number: a herd's figures, the sum of two herds', and the totals of a farm.
--- To be believed: what a figure and a total are under a name (`figure`, `total`), and what a farm's totals are
--- (`totalsOf`). The others say where the code's sections have the grams, which `sections-agree` of crate `herd` holds to
--- the names, and how the code adds up, and that no sum passes 64 bits; that they give the totals is `totals-of-sum`
--- (proofs/Adding.antt).
+-- Grams by number: a herd's figures, the sum of two herds', and the totals of a farm. To be believed: what a figure and
+-- a total are under a name (`figure`, `total`), and what a farm's totals are (`totalsOf`). The others say where the
+-- code's sections have the grams, which `sections-agree` of crate `herd` holds to the names, and how the code adds up,
+-- and that no sum passes 64 bits; that they give the totals is `totals-of-sum` (proofs/Adding.antt).
 use Prim.Native.Nat.{ℕ, zero, suc, _^_, _≤_}
 use Prim.Native.String.{String}
 use mathlib.Core.List.{List, [], _∷_}

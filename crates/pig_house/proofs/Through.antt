@@ -264,7 +264,8 @@ module _ (p : Pigs) (tan : ℕ) where
       → r .«times_ef_housing_indoor_before_air_scrubber» .whole ≡ «tan_air_scrubber» cutting p tan
   is-kept r e =
       ap (λ (x : Scrubbed). x .«times_ef_housing_indoor_before_air_scrubber» .whole) e
-      ∙ kept-whole (p .«air_scrubber») (scrubbedOf dividing p (uncut tan) .«times_ef_housing_indoor_before_air_scrubber»)
+      ∙ kept-whole (p .«air_scrubber»)
+      (scrubbedOf dividing p (uncut tan) .«times_ef_housing_indoor_before_air_scrubber»)
 
 pub ruleset scrubbed-steps = (are-scrubbed, share-fits, share-of-billion-fits, share-within)
 

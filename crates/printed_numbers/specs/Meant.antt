@@ -11,7 +11,14 @@ use Rattle.digits.specs.declared.Number.the-variants.{Value}
 use Rattle.numbers.specs.Reading.{numberOf}
 use Rattle.words.specs.declared.Found.the-variants.{At}
 use Rattle.names.specs.declared.ValueList.{ValueList}
-use Rattle.names.specs.declared.ValueList.the-variants.{Yards, Floors, HousingTypes, AirScrubbers, HousingFloors, HousingAirs}
+use Rattle.names.specs.declared.ValueList.the-variants.{
+  Yards,
+  Floors,
+  HousingTypes,
+  AirScrubbers,
+  HousingFloors,
+  HousingAirs,
+}
 use Rattle.names.specs.Find.{findName}
 use Rattle.kinds.specs.Choices.{yardAt, floorAt, housingAt, scrubberAt, housingFloorAt, housingAirAt}
 use Rattle.yard.specs.Yard.{«share_excretion», «red_floor_properties»}

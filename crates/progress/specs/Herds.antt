@@ -1,6 +1,6 @@
 -- What a record does to the herd being read: it adds an input, begins another herd, or is refused with 10 or 11. It
--- mirrors the code for its contracts; what 10 and 11 mean is said of the records in `rules_theorems/specs`, and proved to be the
--- same there.
+-- mirrors the code for its contracts; what 10 and 11 mean is said of the records in `rules_theorems/specs`, and proved
+-- to be the same there.
 use Prim.Native.Nat.{ℕ}
 use mathlib.Core.Bool.{Bool, not}
 use mathlib.Core.List.{[], _∷_}

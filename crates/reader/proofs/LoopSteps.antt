@@ -185,7 +185,8 @@ module _ (s : List ℕ) (place : ReaderPlace) (f : Farm) (ls : List Label) (c : 
         rw (closed-farm (x .underway), sym (x .labelled)) (sym v) in
         rw (e ∙ y) at (admits n (progress f c) (m .herd .label))
 
-    pub read-refused : {refusal : Refusal} {k : ℕ} → b ≡ Refused refusal k → {r : FileAnswer} → r ≡ refused k refusal → r ≡ X
+    pub read-refused : {refusal : Refusal} {k : ℕ} → b ≡ Refused refusal k → {r : FileAnswer} → r ≡ refused k refusal
+        → r ≡ X
     read-refused {refusal} {k} y {r} q = go (place-is z) (admits-is y)
       where
         go : PlaceSays s place n (progress f c) Begins (m .herd) (m .next)

@@ -1,7 +1,7 @@
 -- 01, Refusal numbers, over a whole file: 1 before all, then records from the front, in each 2 to 11 in that order,
 -- then 12. The first that applies is given; where none does, the farm that the records say. It mirrors the code for its
--- contracts: this is how the reader goes; what it means is said of the records alone in `rules_theorems/specs`, and proved to be
--- the same there.
+-- contracts: this is how the reader goes; what it means is said of the records alone in `rules_theorems/specs`, and
+-- proved to be the same there.
 use Prim.Native.Nat.{ℕ, _+_}
 use mathlib.Core.Bool.{Bool, not, _&&_}
 use mathlib.Core.List.{List, [], _∷_, _++_}

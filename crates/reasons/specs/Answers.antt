@@ -51,7 +51,8 @@ abbrev pub Fine : Herd → Type 0
 Fine h = (place : ℕ) (refusal : Refusal) → AppliesAt (handed.herd h) place refusal → ⊥
 
 pub data ReasonGets (h : Herd) : Says → Type 0 where
-  gets-refusal : {refusal : Refusal} → FirstOfRecord (handed.herd h) refusal → ReasonGets h (refuses (refusals.number refusal) 0)
+  gets-refusal : {refusal : Refusal} → FirstOfRecord (handed.herd h) refusal
+      → ReasonGets h (refuses (refusals.number refusal) 0)
   other-kind : Fine h → ((o : Outdoor) → HasOutdoor (typedOf h) o → ⊥) → ReasonGets h (refuses 10 0)
   reason : {o : Outdoor} {r : Reason} → Fine h → HasOutdoor (typedOf h) o → FirstReason o r
       → ReasonGets h (because (number r) («days_with_grazing_and_yard» o) (chosenShare o) (shareFrom r (chosenShare o)))

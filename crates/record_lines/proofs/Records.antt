@@ -42,7 +42,11 @@ module _ {n : ℕ} where
   pub line : {cs : List (List ℕ)} {front text : List ℕ} → RecordOf cs front → length cs ≡ n
       → text ≡ front ++ (cr ∷ lf ∷ []) → RecordsOf n (cs ∷ []) text
   line {cs} r l e =
-      record { ended = subst (λ (x : List ℕ). Before (cs ∷ []) x []) (sym e) (Before.more r Before.none); fields = more l none }
+      record {
+        ended = subst (λ (x : List ℕ). Before (cs ∷ []) x []) (sym e) (Before.more r Before.none);
+        fields =
+            more l none;
+      }
 
   pub both : {rs qs : List (List (List ℕ))} {s t : List ℕ} → RecordsOf n rs s → RecordsOf n qs t
       → RecordsOf n (rs ++ qs) (s ++ t)

@@ -15,7 +15,17 @@ use Rattle.reader.specs.Files.{accepted, nothingRead, readFrom, fileMost, readO
 use Rattle.rules_theorems.specs.Rules.{FarmOf, KeepsRules}
 use Rattle.first_refusal.proofs.Readings.{whole-thens}
 use Rattle.rules_theorems.proofs.SaysRead.{says-read}
-use Rattle.rules_theorems.proofs.Answers.{Ran, accepts, breaks, wrong, missing, Answered, too-long, read, answered}
+use Rattle.rules_theorems.proofs.Answers.{
+  Ran,
+  accepts,
+  breaks,
+  wrong,
+  missing,
+  Answered,
+  too-long,
+  read,
+  answered,
+}
 
 -- what is accepted keeps the rules
 keeps : {s : List ℕ} {x : FileAnswer} {f : Farm} → Answered s x → x ≡ accepted f → KeepsRules s f

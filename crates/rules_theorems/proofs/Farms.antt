@@ -173,9 +173,11 @@ module _ {l : List ℕ} (good : GoodLabel l) where
 
 -- ---- herds one after the other
 
-pub stand-last : {R : List Record → Herd → Type 0} {a b : List Record} {hs : List Herd} {h : Herd} → StandTogether R a hs
+pub stand-last : {R : List Record → Herd → Type 0} {a b : List Record} {hs : List Herd} {h : Herd}
+    → StandTogether R a hs
     → R b h → StandTogether R (a ++ b) (hs ++ (h ∷ []))
-stand-last {R} {b = b} {h = h} StandTogether.none r = let x : StandTogether R (b ++ []) (h ∷ []) = StandTogether.more r StandTogether.none in
+stand-last {R} {b = b} {h = h} StandTogether.none r = let x : StandTogether R (b ++ []) (h ∷ []) =
+    StandTogether.more r StandTogether.none in
     rw append-nil at x
 stand-last (StandTogether.more q s) r = rw append-assoc (StandTogether.more q (stand-last s r))
 

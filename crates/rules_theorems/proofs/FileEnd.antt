@@ -62,7 +62,8 @@ none-lack (StandTogether.more {rs = b} {rest = rest} x s) rs inside =
     each-append (has-all x rs (λ P e. each-front b rest (inside P e)))
     (none-lack s rs (λ P e. each-back b rest (inside P e)))
 
-stand-all : {a : List Record} {hs : List Herd} → StandTogether PartOf a hs → Each (λ h. lacks h ≡ false) hs → StandTogether HerdOf a hs
+stand-all : {a : List Record} {hs : List Herd} → StandTogether PartOf a hs → Each (λ h. lacks h ≡ false) hs
+    → StandTogether HerdOf a hs
 stand-all StandTogether.none none = StandTogether.none
 stand-all (StandTogether.more p s) (more e es) = StandTogether.more (part-all p e) (stand-all s es)
 
@@ -89,7 +90,8 @@ others-behind (x ∷ hs) h hs′ (Apart.next n d) = others-behind hs h hs′ d
 
 module _ {h : Herd} {cs : Record} (own : OfHerd h cs) where
   -- none of the records of other herds has the label
-  elsewhere : {a : List Record} {hs : List Herd} (j : ℕ) → StandTogether PartOf a hs → Each (λ x. x .label ≡ h .label → ⊥) hs
+  elsewhere : {a : List Record} {hs : List Herd} (j : ℕ) → StandTogether PartOf a hs
+      → Each (λ x. x .label ≡ h .label → ⊥) hs
       → Each (λ r. SameLabel r cs → NamesInput r (h .kind) j → ⊥) a
   elsewhere {a} j s n = each-map (λ r f e _. f e) (each-not a no)
     where
@@ -131,7 +133,8 @@ pub data Ended (rs : List Record) : FileAnswer → Type 0 where
       → Each (λ r. Lacks rs r → ⊥) before
       → Ended rs (refused (length before + 1) InputMissing)
 
-ended : {rs : List Record} {hs : List Herd} {k : ℕ} → StandTogether PartOf rs hs → Apart (labelsOf hs) → length hs ≤ herdsMost
+ended : {rs : List Record} {hs : List Herd} {k : ℕ} → StandTogether PartOf rs hs → Apart (labelsOf hs)
+    → length hs ≤ herdsMost
     → Lack rs hs k
     → Ended rs (first (refused k InputMissing when not (eqb k 0) ∷ []) (accepted (farmOf hs)))
 ended {rs} {hs} s d room (nowhere ns) =

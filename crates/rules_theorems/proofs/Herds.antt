@@ -29,7 +29,16 @@ use Rattle.progress.specs.Herds.{withInput, newHerd, hasInput}
 use Rattle.rules_theorems.specs.Lists.{Some, here, there, Apart, Pairs}
 use Rattle.first_refusal.specs.Records.{Record}
 use Rattle.rules_theorems.specs.Rules.{ValueIs, RecordSays, Gives, PartOf, HerdOf}
-use Rattle.rules_theorems.proofs.Lists.{neither, each-front, each-back, meet, apart-last, pairs-append, pairs-map, fellow}
+use Rattle.rules_theorems.proofs.Lists.{
+  neither,
+  each-front,
+  each-back,
+  meet,
+  apart-last,
+  pairs-append,
+  pairs-map,
+  fellow,
+}
 use Rattle.rules_theorems.proofs.Entries.{reads, one-given}
 
 -- ---- kinds

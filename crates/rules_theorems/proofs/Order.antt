@@ -166,7 +166,8 @@ module _ (x y : Record) (same : SameLabel x y) where
   swapped a b (StandTogether.more {rs} {rest} {h} {hs} r s) (Apart.next n d) e =
       go (stands rest x y b rs a e) (λ c q. swapped c b s d q)
     where
-      go : Stands rs rest a x y b → ((c : List Record) → rest ≡ c ++ (x ∷ y ∷ b) → StandTogether HerdOf (c ++ (y ∷ x ∷ b)) hs)
+      go : Stands rs rest a x y b
+          → ((c : List Record) → rest ≡ c ++ (x ∷ y ∷ b) → StandTogether HerdOf (c ++ (y ∷ x ∷ b)) hs)
           → StandTogether HerdOf (a ++ (y ∷ x ∷ b)) (h ∷ hs)
       go (inside c p q) later =
           let mine : HerdOf (a ++ (x ∷ y ∷ c)) h = subst (λ (l : List Record). HerdOf l h) p r in

@@ -95,7 +95,8 @@ seen-texts StandTogether.none none = none
 seen-texts (StandTogether.more {rs = rs} {rest = rest} p s) (more x xs) =
     more (some-front rest (seen-text p x)) (each-map (λ l m. some-back rs m) (seen-texts s xs))
 
-pub many-labels : {a : List Record} {hs : List Herd} → StandTogether PartOf a hs → Each Labelled hs → Apart (labelsOf hs)
+pub many-labels : {a : List Record} {hs : List Herd} → StandTogether PartOf a hs → Each Labelled hs
+    → Apart (labelsOf hs)
     → length hs ≡ herdsMost → ManyLabels a
 many-labels {hs = hs} s xs d n =
     record {

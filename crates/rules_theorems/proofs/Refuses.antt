@@ -32,7 +32,18 @@ use Rattle.rules_theorems.specs.Refusals.{
   First,
 }
 use Rattle.rules_theorems.proofs.Faults.{one-refusal, applies-within, NoneBelow}
-use Rattle.rules_theorems.proofs.Answers.{Clean, Ran, accepts, breaks, wrong, missing, Answered, too-long, read, answered}
+use Rattle.rules_theorems.proofs.Answers.{
+  Clean,
+  Ran,
+  accepts,
+  breaks,
+  wrong,
+  missing,
+  Answered,
+  too-long,
+  read,
+  answered,
+}
 use Rattle.first_refusal.proofs.Readings.{
   thens,
   whole-thens,
@@ -58,7 +69,8 @@ data Rank : ℕ → Refusal → Type 0 where
 rank : {s : List ℕ} {n : ℕ} {f : Refusal} → AppliesAt s n f → Rank n f
 rank (AppliesAt.too-long _) = before-all
 rank (AppliesAt.broken _) = of-record {f = RecordBroken} (omega arith) (omega arith)
-rank (AppliesAt.wrong {refusal = f} _ a) = let w = applies-within a in of-record {f = f} (omega (arith, w .low)) (w .high)
+rank (AppliesAt.wrong {refusal = f} _ a) = let w = applies-within a in
+    of-record {f = f} (omega (arith, w .low)) (w .high)
 rank (AppliesAt.missing _ _ _ _ _) = after-all
 
 rank-some : {n : ℕ} {f : Refusal} → Rank n f → 1 ≤ number f
@@ -284,6 +296,7 @@ taken-exactly s = (
     clear (takes none) e = none
     clear (gives _) e = let c = ap (λ (a : FileAnswer). a .checked) e in clash cc
 
-    keep : ((m : ℕ) (other : Refusal) → AppliesAt s m other → ⊥) → (x : FileAnswer) → readOf s ≡ x → Outcome s x → Taken s
+    keep : ((m : ℕ) (other : Refusal) → AppliesAt s m other → ⊥) → (x : FileAnswer) → readOf s ≡ x → Outcome s x
+        → Taken s
     keep none x e (takes {f = f} _) = record { farm = f; keeps = accepts-exactly s f .0 e }
     keep none x e (gives {n = n} {refusal = f} y) = absurd (none n f (y .applies))

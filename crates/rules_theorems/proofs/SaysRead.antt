@@ -26,7 +26,17 @@ use Rattle.progress.specs.Herds.{withInput, newHerd, hasInput}
 use Rattle.reader.specs.Files.{Progress, accepted, nothingRead, closed, taken, finished, readFrom}
 use Rattle.rules_theorems.specs.Lists.{Apart, Pairs}
 use Rattle.first_refusal.specs.Records.{Record}
-use Rattle.rules_theorems.specs.Rules.{herdsMost, GoodLabel, RecordSays, Gives, PartOf, HerdOf, StandTogether, farmOf, FarmOf}
+use Rattle.rules_theorems.specs.Rules.{
+  herdsMost,
+  GoodLabel,
+  RecordSays,
+  Gives,
+  PartOf,
+  HerdOf,
+  StandTogether,
+  farmOf,
+  FarmOf,
+}
 use Rattle.rules_theorems.proofs.Lists.{each-append, each-front, each-back, pairs-append}
 use Rattle.rules_theorems.proofs.Labels.{own-label, not-none}
 use Rattle.rules_theorems.proofs.Entries.{reads}
@@ -183,7 +193,8 @@ herds-through : (done : List Herd) {p : Progress} {rs : List Record} {coming : L
 unfolding readFrom
 herds-through done r ls StandTogether.none room d new m = finish r
     ∙ ap (λ (x : List Herd). accepted (farmOf x)) (sym (append-nil done))
-herds-through done {p} r ls (StandTogether.more {rs = rs} {rest = rest} {h = h} {hs = hs} x s) room (Apart.next a d) (more n ns)
+herds-through done {p} r ls (StandTogether.more {rs = rs} {rest = rest} {h = h} {hs = hs} x s) room (Apart.next a d)
+    (more n ns)
     m =
     let lab = part-labelled (x .part) in
     ap (readFrom (m + 1) p) (thens-append rs rest end)

@@ -102,11 +102,13 @@ use Rattle.rules_theorems.proofs.Records.{
 
 pub data Lack : List Record → List Herd → ℕ → Type 0 where
   nowhere : {rs : List Record} {hs : List Herd} → Each (λ h. lacks h ≡ false) hs → Lack rs hs 0
-  first-at : {a b c : List Record} {hs hs′ : List Herd} {h : Herd} → StandTogether PartOf a hs → Each (λ x. lacks x ≡ false) hs
+  first-at : {a b c : List Record} {hs hs′ : List Herd} {h : Herd} → StandTogether PartOf a hs
+      → Each (λ x. lacks x ≡ false) hs
       → PartOf b h → lacks h ≡ true → StandTogether PartOf c hs′
       → Lack (a ++ (b ++ c)) (hs ++ (h ∷ hs′)) (length a + 1)
 
-pub lack-last : {a b : List Record} {hs : List Herd} {h : Herd} {k : ℕ} → StandTogether PartOf a hs → PartOf b h → Lack a hs k
+pub lack-last : {a b : List Record} {hs : List Herd} {h : Herd} {k : ℕ} → StandTogether PartOf a hs → PartOf b h
+    → Lack a hs k
     → Lack (a ++ b) (hs ++ (h ∷ [])) (lackingWith k h (length a + 1))
 lack-last {a} {b} {hs} {h} s p (nowhere ns) = go (lacks h) refl
   where
@@ -162,7 +164,8 @@ module _ {cs : Record} {l : List ℕ} {kind : Kind} {i : ℕ} {g : Given} (said 
   unfolding closed earlierLabel
   at-start =
       let new = not-none (reads said .good) in
-      let took : tookTo 1 nothingRead (labelOf l) kind i g ≡ progressAt [] (newHerd (labelOf l) kind i g) (0 + 1) 0 = rw new in
+      let took : tookTo 1 nothingRead (labelOf l) kind i g ≡ progressAt [] (newHerd (labelOf l) kind i g) (0 + 1) 0 =
+      rw new in
       goes-on
       (none-next 11 (none-next 10 (none-next 9 (none-next 8 below not-8) not-9) not-10) not-11)
       (λ z. record-tests said 1 nothingRead z ∙ rw new)
@@ -324,7 +327,8 @@ module _ {a b : List Record} {hs : List Herd} {h : Herd} {k : ℕ} (st : StandTo
 
     -- this herd is closed, and the record begins another
     begins : Progress
-    begins = progressAt (hs ++ (h ∷ [])) (newHerd (labelOf l) kind i g) (length (a ++ b) + 1) (lackingWith k h (length a + 1))
+    begins = progressAt (hs ++ (h ∷ [])) (newHerd (labelOf l) kind i g) (length (a ++ b) + 1)
+        (lackingWith k h (length a + 1))
 
     is-begun : sameLabel (h .label) (labelOf l) ≡ false
         → tookTo (length (a ++ b) + 1) (progressAt hs h (length a + 1) k) (labelOf l) kind i g ≡ begins

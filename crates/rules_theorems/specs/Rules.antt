@@ -130,7 +130,8 @@ pub record HerdOf (rs : List Record) (h : Herd) : Type 0 where
 -- "A herd's records stand together": the records of each herd, by R, one herd after the other
 pub data StandTogether (R : List Record → Herd → Type 0) : List Record → List Herd → Type 0 where
   none : StandTogether R [] []
-  more : {rs rest : List Record} {h : Herd} {hs : List Herd} → R rs h → StandTogether R rest hs → StandTogether R (rs ++ rest) (h ∷ hs)
+  more : {rs rest : List Record} {h : Herd} {hs : List Herd} → R rs h → StandTogether R rest hs
+      → StandTogether R (rs ++ rest) (h ∷ hs)
 
 -- the farm of these herds, in this order; the places behind them say nothing
 abbrev pub farmOf : List Herd → Farm

@@ -33,4 +33,5 @@ unfolding right table-right kOf
 entry ks tenths t e h =
     let l : length ks ≡ 241 = eqb→eq (length ks) 241 (both-left (eqb (length ks) 241) (every right 0 ks) h) in
     let b : t < length ks = omega (arith, withinDay-le tenths) in
-    eqb→eq (getD ks t 0) (kAt t) (every-at right ks (both-right (eqb (length ks) 241) (every right 0 ks) h) t b) ∙ ap kAt e
+    eqb→eq (getD ks t 0) (kAt t) (every-at right ks (both-right (eqb (length ks) 241) (every right 0 ks) h) t b)
+    ∙ ap kAt e

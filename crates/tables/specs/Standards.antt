@@ -13,8 +13,8 @@ infix 69 _g
 abbrev pub _g : ℕ → ℕ
 n g = n
 
--- 2.84, standard_N_excretion, each at the place of its category in 01's list (crate `names`); crate `printed_numbers` holds what
--- 001 prints under each category's name
+-- 2.84, standard_N_excretion, each at the place of its category in 01's list (crate `names`); crate `printed_numbers`
+-- holds what 001 prints under each category's name
 abbrev pub standards : List ℕ
 standards = 20 kg ∷ 40 kg ∷ 80 kg ∷ 60 kg ∷ 20 kg ∷ 17 kg ∷ 11 kg ∷ 11 kg ∷ 7 kg ∷ 2600 g ∷ 790 g ∷ []
 

@@ -1,6 +1,7 @@
 -- What a value's text says, by the form of its input. 01, The farm file: "`standard`, in any letter case, may stand for
 -- inp_n_excretion and tan_fraction of roughage herds. Other names match byte for byte." Refusals 6 and 7. It mirrors
--- the code for its contracts; what a value is, is said in `rules_theorems/specs/Rules`, and proved to be the same there.
+-- the code for its contracts; what a value is, is said in `rules_theorems/specs/Rules`, and proved to be the same
+-- there.
 use Prim.Native.Nat.{ℕ}
 use mathlib.Core.Bool.{Bool}
 use mathlib.Core.List.{List}

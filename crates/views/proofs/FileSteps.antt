@@ -27,7 +27,8 @@ module _ (s : List ℕ) (a : FileAnswer) (q : a ≡ readOf s) where
 
     pub is-listed : (v : View) (old new : List ℕ) (n : ℕ) → Wrote old 0 (viewed v (a .farm)) new n → n ≤ viewRoom
         → PutFile v s old new (Length n)
-    is-listed v old new n w h = listed (sym (ap (λ x. x .checked) q) ∙ e) (wrote-as (ap (λ x. viewed v (x .farm)) q) w) h
+    is-listed v old new n w h =
+        listed (sym (ap (λ x. x .checked) q) ∙ e) (wrote-as (ap (λ x. viewed v (x .farm)) q) w) h
 
   pub is-refused : (v : View) (refusal : Refusal) (n : ℕ) (old : List ℕ) → a .checked ≡ checks.Refused refusal n
       → PutFile v s old old (Refused refusal n)

@@ -22,7 +22,8 @@ prints-listed v s old mid (Length m) (listed k w h) n e =
     record { bytes = rw (k, ← d) w; room = omega (arith, d); ended = rw k }
 prints-listed v s old mid (Refused refusal m) (refused k) n e = clash cc
 
-pub prints-refused : (v : View) (s old mid : List ℕ) (put : Written) → PutFile v s old mid put → (refusal : Refusal) (n : ℕ)
+pub prints-refused : (v : View) (s old mid : List ℕ) (put : Written) → PutFile v s old mid put
+    → (refusal : Refusal) (n : ℕ)
     → put ≡ Refused refusal n → (new : List ℕ) (k : ℕ)
     → Wrote mid 0 (refusalLine (number refusal) n) new k → k ≤ lineRoom
     → PutOutput v s old new (record { ended = Refused refusal n; length = k })

@@ -1,6 +1,6 @@
 -- 2.34 worked out by hand with a free factor above 0: a yard on every day of the year, to which roughage is exclusively
--- supplied, on an unpaved floor, and 25 percent less. So 0.6 of what is excreted comes there, and of its TAN 0.7 × 0.5 ×
--- 0.75 is emitted, with one cut: 9451.05 grams, where a cut after each product gives 9450. Assumes nothing.
+-- supplied, on an unpaved floor, and 25 percent less. So 0.6 of what is excreted comes there, and of its TAN 0.7 × 0.5
+-- × 0.75 is emitted, with one cut: 9451.05 grams, where a cut after each product gives 9450. Assumes nothing.
 use mathlib.Core.Path.{_≡_, refl}
 use lib.IntN.{pos}
 use Rattle.amounts.specs.Arithmetic.{cutting}

@@ -1,4 +1,5 @@
--- `cut_division::less` meets its contract: the difference is no larger than the larger of the two, so it fits. Assumes nothing.
+-- `cut_division::less` meets its contract: the difference is no larger than the larger of the two, so it fits. Assumes
+-- nothing.
 use borrow.Author.Needs.{needs}
 use Rattle.cut_division.proofs.Signed.{less-steps}
 use Rattle.cut_division.proofs.less.Statement.{statement}

@@ -62,6 +62,7 @@ by-number-spec =
     (λ c. fits (c .before .before .before .before .before .before .before .before .before .before .before .before
     .before .before .before .before .before .before .before .before .before .before .before .before .before .before
     .before .before .before .before .pre) 30)
-    (λ c. grams-back _ (c .before .before .before .before .before .before .before .before .before .before .before .before
+    (λ c. grams-back _ (c .before .before .before .before .before .before .before .before .before .before .before
+    .before
     .before .before .before .before .before .before .before .before .before .before .before .before .before .before
     .before .before .before .before .before .pre)))

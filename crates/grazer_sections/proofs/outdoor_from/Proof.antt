@@ -1,5 +1,5 @@
--- `grazer_sections::outdoor_from` meets its contract, section by section: what goes onto yard and pasture is no more than
--- what is excreted. Assumes nothing.
+-- `grazer_sections::outdoor_from` meets its contract, section by section: what goes onto yard and pasture is no more
+-- than what is excreted. Assumes nothing.
 use borrow.Author.Needs.{needs}
 use Rattle.herd.proofs.Herds.{outdoor-steps}
 use Rattle.grazer_sections.proofs.outdoor_from.Statement.{statement}

@@ -1,5 +1,5 @@
--- `grazer_sections::roughage_sections` meets its contract: what is entered, or the standard, is within its range. Assumes
--- nothing.
+-- `grazer_sections::roughage_sections` meets its contract: what is entered, or the standard, is within its range.
+-- Assumes nothing.
 use borrow.Author.Needs.{needs}
 use Rattle.herd.proofs.Herds.{roughage-steps}
 use Rattle.grazer_sections.proofs.roughage_sections.Statement.{statement}

@@ -1,4 +1,5 @@
--- `herd_figures::figures` meets its contract, by the kind: the grams of a herd's sections are its figures. Assumes nothing.
+-- `herd_figures::figures` meets its contract, by the kind: the grams of a herd's sections are its figures. Assumes
+-- nothing.
 use borrow.Author.Needs.{needs}
 use Rattle.kinds.proofs.OfKind.{of-kind}
 use Rattle.herd.proofs.Agree.{kind-steps}

@@ -76,7 +76,8 @@ returns c =
     let n = p .before .before .before in
     let a = label-put n in (
       wrote-as (owner-is _ _ (path-lent p))
-          (wrote-append (wrote-append (a .put-label .ensures .0) (n .before .before .before .put-byte .ensures)) (d .put .ensures)),
+          (wrote-append (wrote-append (a .put-label .ensures .0) (n .before .before .before .put-byte .ensures))
+          (d .put .ensures)),
       omega (arith, ap length (path-lent p), path-short (kind-of n), d .put .ensures .past),
     )
 

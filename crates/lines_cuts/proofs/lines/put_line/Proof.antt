@@ -1,5 +1,5 @@
--- `lines_cuts::lines::put_line` meets its contract, by its calls, one after the other; where the divisor is 0 nothing is
--- to be written. Assumes nothing.
+-- `lines_cuts::lines::put_line` meets its contract, by its calls, one after the other; where the divisor is 0 nothing
+-- is to be written. Assumes nothing.
 use Prim.Native.Nat.{_+_}
 use mathlib.Core.Path.{_≡_}
 use native.Mathlib.Omega.{arith}
