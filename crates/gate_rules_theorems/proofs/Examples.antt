@@ -63,16 +63,20 @@ pub outdoors-row :
 unfolding outdoorsOf
 outdoors-row = refl
 
--- the modules that have an input of a name
+-- the kinds that have an input of a name, by the path of its module
 abbrev modulesWith : String → List String
 modulesWith t = map (λ (i : Input). rowAt (i .kind) (i .slot) .path) (inputsNamed t)
 
 pub taken-by :
     map modulesWith ("grazing_days" ∷ "yard_days" ∷ "grazing_hours" ∷ [])
-    ≡ ("Livestock::RoughageConsuming::Grazing" ∷ "Livestock::OtherCattle::Outdoor" ∷ "Livestock::DairyCow::Outdoor" ∷
-    [])
+    ≡ ("Livestock::RoughageConsuming::Grazing"
+    ∷ "Livestock::OtherCattle::Outdoor"
+    ∷ "Livestock::DairyCow::Outdoor"
+    ∷ [])
     ∷ ("Livestock::OtherCattle::Outdoor" ∷ "Livestock::DairyCow::Outdoor" ∷ [])
-    ∷ ("Livestock::RoughageConsuming::Grazing" ∷ "Livestock::OtherCattle::Outdoor" ∷ "Livestock::DairyCow::Outdoor" ∷
-    [])
+    ∷ ("Livestock::RoughageConsuming::Grazing"
+    ∷ "Livestock::OtherCattle::Outdoor"
+    ∷ "Livestock::DairyCow::Outdoor"
+    ∷ [])
     ∷ []
 taken-by = refl

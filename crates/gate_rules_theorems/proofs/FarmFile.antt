@@ -1,5 +1,5 @@
 -- What a log comes to, as it is printed, is a value of a farm file's inputs of the same names. Assumes nothing.
-use Prim.Native.Nat.{ℕ, _+_, _*_, _/_, _%_, _<_}
+use Prim.Native.Nat.{ℕ, _+_, _*_, _/_, _%_}
 use mathlib.Core.Path.{_≡_, refl, sym, _∙_}
 use mathlib.Core.List.{List, [], _∷_, _++_, append-assoc}
 use native.Mathlib.Omega.{arith}
@@ -20,7 +20,7 @@ use Rattle.gate.specs.declared.LogAnswer.the-variants.{Gives}
 use Rattle.gate.specs.Logs.{readLog}
 use Rattle.lines_outdoors.specs.Lines.{tenthsOf}
 use Rattle.gate_answer.specs.Program.{logOutput}
-use Rattle.gate_rules_theorems.specs.FarmFile.{Fits, Printed, printedOf, inputsNamed, Takes, TakesAll}
+use Rattle.gate_rules_theorems.specs.FarmFile.{Fits, printedOf, inputsNamed, Takes, TakesAll}
 use Rattle.gate_rules_theorems.proofs.Accepts.{accepts-exactly}
 use Rattle.gate_rules_theorems.proofs.Ranges.{log-fits}
 use Rattle.gate_rules_theorems.proofs.Printed.{log-prints-records}

@@ -1,9 +1,8 @@
 -- Labels as fields, and the path of each kind beside those of its inputs, computed from the definitions. Assumes
 -- nothing.
-use Prim.Native.Nat.{ℕ}
 use mathlib.Core.Path.{_≡_, refl}
 use mathlib.Core.Bool.{Bool, true}
-use mathlib.Core.List.{List, [], _∷_, _++_, map}
+use mathlib.Core.List.{[], _∷_, _++_, map}
 use lib.ListN.{length, take}
 use Rattle.base.specs.Text.{bytes}
 use Rattle.base.specs.Part.{sameBytes}

@@ -70,6 +70,5 @@ module _ (label : List ℕ) (l : FieldOf label (labelField label)) (k : Kind) (c
 pub cuts-read : (h : Herd) → labelOk (h .label) ≡ true → RecordsOf 5 (herdCutRecords h) (herdCutLines h)
 unfolding cutLines
 cuts-read h ok =
-    cut-lines (text (h .label)) (label-field (text (h .label)) (good-bytes (h .label) ok)) (h .kind)
-    (cutsOf (typedOf h))
-    texts names-plain
+    let label = text (h .label) in
+    cut-lines label (label-field label (good-bytes (h .label) ok)) (h .kind) (cutsOf (typedOf h)) texts names-plain

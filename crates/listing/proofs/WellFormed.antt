@@ -3,7 +3,7 @@ use Prim.Native.Nat.{ℕ, _/_}
 use Prim.Native.String.{String}
 use mathlib.Core.Path.{_≡_, refl}
 use mathlib.Core.Bool.{Bool, true, _&&_}
-use mathlib.Core.List.{List, [], _∷_, _++_, append-assoc}
+use mathlib.Core.List.{List, [], _∷_, append-assoc}
 use lib.IntN.{ℤ, pos, negsuc, natAbs}
 use Rattle.base.specs.Runs.{all}
 use Rattle.base.specs.Text.{bytes}

@@ -4,8 +4,9 @@ use Prim.Native.Nat.{ℕ}
 use mathlib.Core.Path.{_≡_}
 use mathlib.Core.List.{List, [], _∷_, map}
 use Rattle.base.specs.Each.{Each}
+use Rattle.grammar.specs.Grammar.{FileOf}
 use Rattle.record_lines.specs.Records.{RecordsOf, refusalFields}
-use Rattle.record_lines.proofs.Records.{both, refusal-read}
+use Rattle.record_lines.proofs.Records.{both, are-a-file, refusal-read}
 use Rattle.farm.specs.declared.Herd.{Herd}
 use Rattle.farm.specs.declared.Farm.{Farm}
 use Rattle.farm.specs.declared.Refusal.{Refusal}
@@ -69,6 +70,11 @@ prints-records t {s} k =
     let hs = k .says .herds in
     let good = accepted-farm (farmOf hs) (accepted-passes s (farmOf hs) (read-as k)) .herds in
     rw (printed-view k (viewOf t)) (herds-read t (rw (herds-of hs) at good))
+
+-- so it is a file of RFC 4180, of these records
+pub prints-a-file : (t : Recorded) {s : List ℕ} {f : Farm} (k : KeepsRules s f)
+    → FileOf (recordsOf t (k .says .herds)) (outputOf (viewOf t) s)
+prints-a-file t k = are-a-file (prints-records t k)
 
 -- of every other file
 pub prints-a-record : (v : View) {s : List ℕ} {n : ℕ} {refusal : Refusal} → First s n refusal

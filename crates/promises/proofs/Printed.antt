@@ -1,7 +1,7 @@
 -- From the bytes of a file to the bytes that are printed for it, computed from the definitions: a farm of a herd of
 -- each kind, in every view; and a file for each refusal of reading. Assumes nothing.
 use Prim.Native.String.{String}
-use mathlib.Core.Path.{_≡_, refl, ap, _∙_}
+use mathlib.Core.Path.{_≡_, refl, ap}
 use mathlib.Core.List.{List, [], _∷_, _++_, map}
 use Rattle.base.specs.Text.{bytes}
 use Rattle.decimal.specs.Writing.{width, wholeOf}

@@ -6,8 +6,7 @@ use mathlib.Core.List.{List, [], _∷_, _++_, append-assoc}
 use lib.ListN.{length}
 use Rattle.base.specs.Text.{bytes}
 use Rattle.base.specs.Each.{Each, none, more}
-use Rattle.grammar.specs.Grammar.{comma, cr, lf, FieldOf, RecordOf, FileOf, Before}
-use Rattle.decimal.specs.Writing.{wholeOf}
+use Rattle.grammar.specs.Grammar.{cr, lf, FieldOf, RecordOf, FileOf, Before}
 use Rattle.refusal_line.specs.Lines.{refusalLine}
 use Rattle.record_lines.specs.Records.{RecordsOf, refusalFields}
 use Rattle.record_lines.proofs.Plain.{past-plain, plain-whole}
