@@ -8,6 +8,7 @@ use farm::Given;
 use farm::Refusal;
 use libc::STDIN_FILENO;
 use libc::STDOUT_FILENO;
+use limits::Source;
 use views::View;
 use written::Written;
 ghost use mathlib.Core.Path.{_≡_};
@@ -21,7 +22,7 @@ ghost use Rattle.listing_room.specs.Bounds.{farmRoom};
 const HEAD: usize = 9;
 
 // They, and one byte more than a farm file may have.
-const INPUT_MOST: usize = 65546;
+const INPUT_MOST: usize = HEAD + limits::INPUT_BYTES + 1;
 
 // A herd of any kind has this many slots in use.
 const SLOTS_LEAST: u64 = 4;
@@ -117,7 +118,7 @@ fn text_sum(sum: u64, turn: u64, out: &[u8], n: usize) -> u64 {
 
 // One turn of reading, of the whole job, and of what comes after reading.
 fn read_sum(sum: u64, turn: u64, file: &[u8]) -> u64 {
-    let answer = calls::read_farm(file);
+    let answer = calls::read_farm(Source::StandardInput, file);
     let checked = answer.checked;
     match checked {
         Checked::Accepted => farm_sum(sum, turn, answer.farm),
@@ -126,7 +127,7 @@ fn read_sum(sum: u64, turn: u64, file: &[u8]) -> u64 {
 }
 
 fn whole_sum(sum: u64, turn: u64, file: &[u8], out: &mut [u8]) -> u64 {
-    match calls::file_view(View::Figures, file, out) {
+    match calls::file_view(View::Figures, Source::StandardInput, file, out) {
         Written::Length(n) => text_sum(sum, turn, out, n),
         Written::Refused(refusal, record) => refusal_sum(sum, refusal, record),
     }
@@ -176,7 +177,7 @@ fn repeat_listing(times: u64, farm: Farm, out: &mut [u8]) -> u64
 fn listed(times: u64, file: &[u8], out: &mut [u8]) -> u64
     requires { ⌜ farmRoom ≤ length (now out) ⌝ }
 {
-    let answer = calls::read_farm(file);
+    let answer = calls::read_farm(Source::StandardInput, file);
     let checked = answer.checked;
     match checked {
         Checked::Accepted => repeat_listing(times, answer.farm, out),

@@ -1,12 +1,15 @@
 // What users of the library call, and nothing else. Nothing is asked of a caller beforehand: a file of any bytes and a
 // record of any content get what is asked for, or exactly one refusal, and where a call refuses, 13 too, the lent
-// buffer is as it was. What the calls are to do stands in crate `contracts`, the demands in crate `promises`.
+// buffer is as it was. How long a file and how large its farm may be is said by where it comes from. What the calls are
+// to do stands in crate `contracts`, the demands in crate `promises`.
 use farm::Checked;
+use limits::Source;
 use reader::FileAnswer;
 use reasons::ReasonAnswer;
 use views::View;
 use written::Written;
 ghost use mathlib.Core.Path.{_≡_};
+ghost use Rattle.limits.specs.Limits.{limitsOf};
 ghost use Rattle.reader.specs.Files.{readOf};
 ghost use Rattle.contracts.specs.Listings.{Called, fileHerdCall, fileTotalsCall, fileCall};
 ghost use Rattle.contracts.specs.Reasons.{fileReason};
@@ -22,18 +25,18 @@ pub use herd_calls::totals_listing;
 pub const VIEW_ROOM: usize = views::FARM_ROOM;
 
 // The farm that a file says, or the refusal and a farm of no herds.
-pub fn read_farm(s: &[u8]) -> FileAnswer
-    ensures { λ r. ⌜ r ≡ readOf (now (s .entry)) ⌝ }
+pub fn read_farm(source: Source, s: &[u8]) -> FileAnswer
+    ensures { λ r. ⌜ r ≡ readOf (limitsOf source) (now (s .entry)) ⌝ }
 {
-    farm_file::read(s)
+    farm_file::read(source, s)
 }
 
 // Why the yard of a herd of a file has its share on days with both, by the herd's number, counted from 0; past the last
 // there is no herd.
-pub fn file_herd_reason(s: &[u8], number: usize) -> ReasonAnswer
-    ensures { λ r. ⌜ r ≡ fileReason (now (s .entry)) number ⌝ }
+pub fn file_herd_reason(source: Source, s: &[u8], number: usize) -> ReasonAnswer
+    ensures { λ r. ⌜ r ≡ fileReason source (now (s .entry)) number ⌝ }
 {
-    let answer = farm_file::read(s);
+    let answer = farm_file::read(source, s);
     let checked = answer.checked;
     match checked {
         Checked::Accepted => {
@@ -49,10 +52,17 @@ pub fn file_herd_reason(s: &[u8], number: usize) -> ReasonAnswer
 }
 
 // What the view lists of a herd of a file, by the herd's number, counted from 0; past the last nothing.
-pub fn file_herd_view(view: View, s: &[u8], number: usize, out: &mut [u8]) -> Written
-    ensures { λ r. ⌜ Called (fileHerdCall view (now (s .entry)) number) (now (out .entry)) (now (out .exit)) r ⌝ }
+pub fn file_herd_view(
+    view: View,
+    source: Source,
+    s: &[u8],
+    number: usize,
+    out: &mut [u8],
+) -> Written
+    ensures { λ r. ⌜ Called (fileHerdCall source view (now (s .entry)) number)
+        (now (out .entry)) (now (out .exit)) r ⌝ }
 {
-    let answer = farm_file::read(s);
+    let answer = farm_file::read(source, s);
     let checked = answer.checked;
     match checked {
         Checked::Accepted => {
@@ -68,10 +78,10 @@ pub fn file_herd_view(view: View, s: &[u8], number: usize, out: &mut [u8]) -> Wr
 }
 
 // The totals' listing of a file.
-pub fn file_totals_listing(s: &[u8], out: &mut [u8]) -> Written
-    ensures { λ r. ⌜ Called (fileTotalsCall (now (s .entry))) (now (out .entry)) (now (out .exit)) r ⌝ }
+pub fn file_totals_listing(source: Source, s: &[u8], out: &mut [u8]) -> Written
+    ensures { λ r. ⌜ Called (fileTotalsCall source (now (s .entry))) (now (out .entry)) (now (out .exit)) r ⌝ }
 {
-    let answer = farm_file::read(s);
+    let answer = farm_file::read(source, s);
     let checked = answer.checked;
     match checked {
         Checked::Accepted => totals_listing(answer.farm, out),
@@ -85,14 +95,14 @@ fn room() -> [u8; VIEW_ROOM] {
 
 // What the view lists of a whole file: herd after herd, and behind the figures the totals. Where the buffer may be too
 // short, it is first put together in one of its own.
-pub fn file_view(view: View, s: &[u8], out: &mut [u8]) -> Written
-    ensures { λ r. ⌜ Called (fileCall view (now (s .entry))) (now (out .entry)) (now (out .exit)) r ⌝ }
+pub fn file_view(view: View, source: Source, s: &[u8], out: &mut [u8]) -> Written
+    ensures { λ r. ⌜ Called (fileCall source view (now (s .entry))) (now (out .entry)) (now (out .exit)) r ⌝ }
 {
     if VIEW_ROOM <= out.len() {
-        return views::files::put_file(s, out, view);
+        return views::files::put_file(source, s, out, view);
     }
     let mut scratch = room();
-    match views::files::put_file(s, &mut scratch, view) {
+    match views::files::put_file(source, s, &mut scratch, view) {
         Written::Length(n) => written::hand_over(out, &scratch, n),
         Written::Refused(refusal, record) => Written::Refused(refusal, record),
     }

@@ -10,6 +10,7 @@ use borrow.Author.Tests.{lt-ltb, le-ltb, le-leb}
 use mir.Syntax.{w64}
 use mir.Val.{Fits}
 use Rattle.base.proofs.Each.{each-getD}
+use Rattle.farm.specs.Limits.{herdsMost}
 use Rattle.farm.specs.declared.Herd.{Herd}
 use Rattle.farm.specs.declared.Farm.{Farm}
 use Rattle.farm.specs.declared.Refusal.{Refusal}
@@ -18,8 +19,11 @@ use Rattle.farm.specs.declared.Checked.the-variants as checks
 use Rattle.checks.specs.Checks.{checkHerd, checkFarm, herdsOf}
 use Rattle.farm.specs.Herds.{noHerd}
 use Rattle.checks.proofs.Accepts.{farm-count, farm-each}
+use Rattle.limits.specs.declared.Source.{Source}
+use Rattle.limits.specs.Limits.{limitsOf}
 use Rattle.reader.specs.declared.FileAnswer.{FileAnswer}
 use Rattle.reader.specs.Files.{readOf, accepted}
+use Rattle.rules_theorems.proofs.Allowed.{allowed-fit}
 use Rattle.rules_theorems.proofs.Accepts.{accepts-exactly}
 use Rattle.rules_theorems.proofs.Passing.{accepted-passes}
 use Rattle.written.specs.declared.Written.{Written}
@@ -43,24 +47,24 @@ empty-answers : (old : List ℕ) → Length 0 ≡ answers [] old
 unfolding answers
 empty-answers old = rw (le-leb 0 (length old) (omega arith))
 
-module _ (s : List ℕ) (a : FileAnswer) (q : a ≡ readOf s) where
+module _ (source : Source) (s : List ℕ) (a : FileAnswer) (q : a ≡ readOf (limitsOf source) s) where
   module _ (e : a .checked ≡ checks.Accepted) where
-    pub as-accepted : readOf s ≡ accepted (a .farm)
+    pub as-accepted : readOf (limitsOf source) s ≡ accepted (a .farm)
     as-accepted = sym q ∙ as-is (a .checked) e
       where
         as-is : (k : Checked) → k ≡ checks.Accepted → record { checked = k; farm = a .farm } ≡ accepted (a .farm)
         as-is k w = rw w
 
     passes : checkFarm (a .farm) ≡ checks.Accepted
-    passes = accepted-passes s (a .farm) as-accepted
+    passes = accepted-passes source s (a .farm) as-accepted
 
-    long : length (a .farm .herds) ≡ 64
+    long : length (a .farm .herds) ≡ herdsMost
     long =
-        let k = accepts-exactly s (a .farm) .0 as-accepted .says in
+        let k = accepts-exactly source s (a .farm) .0 as-accepted .says in
         ap (λ (f : Farm). length (f .herds)) (k .is)
-        ∙ simp (length-append, length-replicate) (omega (arith, k .most))
+        ∙ simp (length-append, length-replicate) (omega (arith, k .most, allowed-fit source))
 
-    pub in-array : (i : ℕ) → i < a .farm .count → i < 64
+    pub in-array : (i : ℕ) → i < a .farm .count → i < herdsMost
     in-array i h = omega (arith, farm-count (a .farm) passes)
 
     pub place-fits : (i : ℕ) → i < a .farm .count → Fits w64 (i * 104)
@@ -78,7 +82,7 @@ module _ (s : List ℕ) (a : FileAnswer) (q : a ≡ readOf s) where
         (each-getD (herdsOf (a .farm)) i d (farm-each (a .farm) passes) l)
 
     pub is-file-herd : (v : View) (i : ℕ) (d : Herd) (old new : List ℕ) (r : Written) → i < a .farm .count
-        → Called (herdCall v (getD (a .farm .herds) i d)) old new r → Called (fileHerdCall v s i) old new r
+        → Called (herdCall v (getD (a .farm .herds) i d)) old new r → Called (fileHerdCall source v s i) old new r
     unfolding fileHerdCall herdCall
     is-file-herd v i d old new r h w =
         let p = herd-passes i d h in
@@ -89,7 +93,7 @@ module _ (s : List ℕ) (a : FileAnswer) (q : a ≡ readOf s) where
         }
 
     pub is-past-herds : (v : View) (i : ℕ) (old : List ℕ) → a .farm .count ≤ i
-        → Called (fileHerdCall v s i) old old (Length 0)
+        → Called (fileHerdCall source v s i) old old (Length 0)
     unfolding fileHerdCall
     is-past-herds v i old h =
         record {
@@ -98,7 +102,7 @@ module _ (s : List ℕ) (a : FileAnswer) (q : a ≡ readOf s) where
         }
 
     pub is-file-totals : (old new : List ℕ) (r : Written) → Called (totalsCall (a .farm)) old new r
-        → Called (fileTotalsCall s) old new r
+        → Called (fileTotalsCall source s) old new r
     unfolding fileTotalsCall totalsCall
     is-file-totals old new r w =
         record {
@@ -108,14 +112,14 @@ module _ (s : List ℕ) (a : FileAnswer) (q : a ≡ readOf s) where
         }
 
   module _ (refusal : Refusal) (at-record : ℕ) (e : a .checked ≡ checks.Refused refusal at-record) (old : List ℕ) where
-    pub refusing : readOf s .checked ≡ checks.Refused refusal at-record
+    pub refusing : readOf (limitsOf source) s .checked ≡ checks.Refused refusal at-record
     refusing = rw q at e
 
-    pub is-herd-unread : (v : View) (i : ℕ) → Called (fileHerdCall v s i) old old (Refused refusal at-record)
+    pub is-herd-unread : (v : View) (i : ℕ) → Called (fileHerdCall source v s i) old old (Refused refusal at-record)
     unfolding fileHerdCall
     is-herd-unread v i = record { buffer = rw refusing; answer = rw refusing }
 
-    pub is-totals-unread : Called (fileTotalsCall s) old old (Refused refusal at-record)
+    pub is-totals-unread : Called (fileTotalsCall source s) old old (Refused refusal at-record)
     unfolding fileTotalsCall
     is-totals-unread = record { buffer = rw refusing; answer = rw refusing }
 

@@ -13,9 +13,12 @@ use Rattle.farm.specs.declared.Farm.{Farm}
 use Rattle.farm.specs.declared.Refusal.{Refusal}
 use Rattle.farm.specs.declared.Checked.the-variants as checks
 use Rattle.farm.specs.Refusals.{number}
+use Rattle.farm.specs.Limits.{herdsMost}
 use Rattle.farm.specs.Herds.{noHerd}
+use Rattle.limits.specs.declared.Source.{Source}
+use Rattle.limits.specs.Limits.{limitsOf}
 use Rattle.reader.specs.Files.{readOf, accepted, refused}
-use Rattle.rules_theorems.specs.Rules.{herdsMost, farmOf, KeepsRules}
+use Rattle.rules_theorems.specs.Rules.{allowed, farmOf, KeepsRules}
 use Rattle.rules_theorems.specs.Refusals.{First}
 use Rattle.rules_theorems.proofs.Farms.{herds-of}
 use Rattle.rules_theorems.proofs.Accepts.{accepts-exactly}
@@ -55,22 +58,22 @@ at-is (there a) rest d = at-is a rest d
 abbrev writes : List ℕ → Call
 writes l = record { checked = checks.Accepted; listing = l }
 
-module _ {s : List ℕ} {f : Farm} (k : KeepsRules s f) where
+module _ (source : Source) {s : List ℕ} {f : Farm} (k : KeepsRules (allowed source) s f) where
   abbrev hs : List Herd
   hs = k .says .herds
 
   abbrev pub places : List Herd
   places = replicate (herdsMost - length hs) noHerd
 
-  pub read-as : readOf s ≡ accepted (farmOf hs)
-  read-as = accepts-exactly s f .1 k ∙ ap accepted (k .says .is)
+  pub read-as : readOf (limitsOf source) s ≡ accepted (farmOf hs)
+  read-as = accepts-exactly source s f .1 k ∙ ap accepted (k .says .is)
 
   herd-listed : (v : View) {i : ℕ} {h : Herd} → At hs i h → textAt v (farmOf hs) i ≡ herdText v h
   herd-listed v {i} a = rw (lt-ltb i (length hs) (at-inside a)) (ap (herdText v) (at-is a places noHerd))
 
   totals-are : totalsListing (farmAnswer (farmOf hs) .totals) ≡ totalsText hs
   totals-are =
-      let figured = farm-figured (farmOf hs) (accepted-passes s (farmOf hs) read-as) in
+      let figured = farm-figured (farmOf hs) (accepted-passes source s (farmOf hs) read-as) in
       ap totalsListing (figured ∙ ap (λ (l : List Herd). totalsOf (map herdFigures l)) (herds-of hs))
 
   view-is : (v : View) → viewed v (farmOf hs) ≡ viewText v hs
@@ -82,55 +85,56 @@ module _ {s : List ℕ} {f : Farm} (k : KeepsRules s f) where
   view-is Sentences = rw (herds-of hs)
 
   -- what the call's contract says of it
-  accepting : {c : FileCall} {l : List ℕ} → Lists hs c l → callOf c s ≡ writes l
+  accepting : {c : FileCall} {l : List ℕ} → Lists hs c l → callOf source c s ≡ writes l
   unfolding fileHerdCall fileTotalsCall fileCall
   accepting (the-herd {v = v} a) = rw read-as (ap writes (herd-listed v a))
   accepting (past-the-last {i = i} b) = rw (read-as, le-ltb i (length hs) b)
   accepting the-totals = rw read-as (ap writes totals-are)
   accepting (the-whole v) = rw read-as (ap writes (view-is v))
 
-  pub printed-view : (v : View) → outputOf v s ≡ viewText v hs
+  pub printed-view : (v : View) → outputOf source v s ≡ viewText v hs
   unfolding outputOf
   printed-view v = rw read-as (view-is v)
 
 -- ---- a file that is refused
 
-module _ {s : List ℕ} {n : ℕ} {refusal : Refusal} (r : First s n refusal) where
-  pub read-not : readOf s ≡ refused n refusal
-  read-not = first-refusal s n refusal .1 r
+module _ (source : Source) {s : List ℕ} {n : ℕ} {refusal : Refusal} (r : First (allowed source) s n refusal) where
+  pub read-not : readOf (limitsOf source) s ≡ refused n refusal
+  read-not = first-refusal source s n refusal .1 r
 
-  refusing : (c : FileCall) → callOf c s .checked ≡ checks.Refused refusal n
+  refusing : (c : FileCall) → callOf source c s .checked ≡ checks.Refused refusal n
   unfolding fileHerdCall fileTotalsCall fileCall
   refusing (of-herd v i) = rw read-not
   refusing of-totals = rw read-not
   refusing (of-all v) = rw read-not
 
-  printed-refusal : (v : View) → outputOf v s ≡ refusalLine (number refusal) n
+  printed-refusal : (v : View) → outputOf source v s ≡ refusalLine (number refusal) n
   unfolding outputOf
   printed-refusal v = rw read-not
 
 -- ---- the theorems
 
-pub file-call : (s : List ℕ) (c : FileCall) {old new : List ℕ} {r : Written} → Called (callOf c s) old new r
-    → ByTheRules s c old new r
+pub file-call : (source : Source) (s : List ℕ) (c : FileCall) {old new : List ℕ} {r : Written}
+    → Called (callOf source c s) old new r
+    → ByTheRules source s c old new r
 unfolding leaves answers
-file-call s c w =
+file-call source s c w =
     record {
-      refused = λ x. let e = refusing x c in (rw e at (w .buffer), rw e at (w .answer));
+      refused = λ x. let e = refusing source x c in (rw e at (w .buffer), rw e at (w .answer));
       listed = λ k a h.
-          let e = accepting k a in
+          let e = accepting source k a in
           let t = le-leb _ _ h in
           (rw (e, t) at (w .buffer), rw (e, t) at (w .answer));
       too-short = λ k a h.
-          let e = accepting k a in
+          let e = accepting source k a in
           let t = lt-leb _ _ h in
           (rw (e, t) at (w .buffer), rw (e, t) at (w .answer));
     }
 
-pub file-printed : {s : List ℕ} {v : View} {text old new : List ℕ} {how : Written} {r : Output}
-    → Prints s v text how → PutOutput v s old new r → Wrote old 0 text new (r .length) × (r .ended ≡ how)
-file-printed {v = v} (the-refusal x) w =
-    (rw (printed-refusal x v) at (w .bytes), rw (read-not x) at (w .ended))
-file-printed {v = v} (the-view k) w =
-    let b = rw (printed-view k v) at (w .bytes) in
-    (b, (rw (read-as k) at (w .ended)) ∙ ap Length (b .past ∙ zero-add _))
+pub file-printed : {source : Source} {s : List ℕ} {v : View} {text old new : List ℕ} {how : Written} {r : Output}
+    → Prints source s v text how → PutOutput source v s old new r → Wrote old 0 text new (r .length) × (r .ended ≡ how)
+file-printed {source} {v = v} (the-refusal x) w =
+    (rw (printed-refusal source x v) at (w .bytes), rw (read-not source x) at (w .ended))
+file-printed {source} {v = v} (the-view k) w =
+    let b = rw (printed-view source k v) at (w .bytes) in
+    (b, (rw (read-as source k) at (w .ended)) ∙ ap Length (b .past ∙ zero-add _))

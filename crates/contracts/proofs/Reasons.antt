@@ -8,6 +8,8 @@ use Rattle.farm.specs.declared.Herd.{Herd}
 use Rattle.farm.specs.declared.Refusal.{Refusal}
 use Rattle.farm.specs.declared.Checked.the-variants as checks
 use Rattle.farm.specs.Herds.{noHerd}
+use Rattle.limits.specs.declared.Source.{Source}
+use Rattle.limits.specs.Limits.{limitsOf}
 use Rattle.reader.specs.declared.FileAnswer.{FileAnswer}
 use Rattle.reader.specs.Files.{readOf}
 use Rattle.reasons.specs.declared.ReasonAnswer.{ReasonAnswer}
@@ -19,34 +21,35 @@ use Rattle.contracts.proofs.Files.{at-inside, at-is, places, read-as, r
 
 -- ---- the code's steps
 
-module _ (s : List ℕ) (a : FileAnswer) (q : a ≡ readOf s) where
+module _ (source : Source) (s : List ℕ) (a : FileAnswer) (q : a ≡ readOf (limitsOf source) s) where
   module _ (e : a .checked ≡ checks.Accepted) (i : ℕ) where
     pub is-file-reason : (d : Herd) (r : ReasonAnswer) → i < a .farm .count
-        → r ≡ reasonAnswer (getD (a .farm .herds) i d) → r ≡ fileReason s i
+        → r ≡ reasonAnswer (getD (a .farm .herds) i d) → r ≡ fileReason source s i
     unfolding fileReason
     is-file-reason d r h er =
-        er ∙ rw (as-accepted s a q e, lt-ltb i (a .farm .count) h) (ap reasonAnswer (herd-at s a q e i d h))
+        er ∙ rw (as-accepted source s a q e, lt-ltb i (a .farm .count) h)
+        (ap reasonAnswer (herd-at source s a q e i d h))
 
-    pub is-no-herd : a .farm .count ≤ i → NoHerd ≡ fileReason s i
+    pub is-no-herd : a .farm .count ≤ i → NoHerd ≡ fileReason source s i
     unfolding fileReason
-    is-no-herd h = rw (as-accepted s a q e, le-ltb i (a .farm .count) h)
+    is-no-herd h = rw (as-accepted source s a q e, le-ltb i (a .farm .count) h)
 
   pub is-unread : (refusal : Refusal) (at-record i : ℕ) → a .checked ≡ checks.Refused refusal at-record
-      → Refused refusal at-record ≡ fileReason s i
+      → Refused refusal at-record ≡ fileReason source s i
   unfolding fileReason
-  is-unread refusal at-record i e = rw (refusing s a q refusal at-record e [])
+  is-unread refusal at-record i e = rw (refusing source s a q refusal at-record e [])
 
 pub ruleset file-reason-steps = (in-array, place-fits, is-file-reason, is-no-herd, is-unread)
 
 -- ---- by the rules
 
-pub file-reason : (s : List ℕ) (i : ℕ) → ReasonByTheRules s i (fileReason s i)
+pub file-reason : (source : Source) (s : List ℕ) (i : ℕ) → ReasonByTheRules source s i (fileReason source s i)
 unfolding fileReason
-file-reason s i =
+file-reason source s i =
     record {
-      refused = λ x. rw (read-not x);
+      refused = λ x. rw (read-not source x);
       of-herd = λ k a.
-          rw (read-as k, lt-ltb i (length (k .says .herds)) (at-inside a))
-          (ap reasonAnswer (at-is a (places k) noHerd));
-      past-the-last = λ k b. rw (read-as k, le-ltb i (length (k .says .herds)) b);
+          rw (read-as source k, lt-ltb i (length (k .says .herds)) (at-inside a))
+          (ap reasonAnswer (at-is a (places source k) noHerd));
+      past-the-last = λ k b. rw (read-as source k, le-ltb i (length (k .says .herds)) b);
     }

@@ -11,7 +11,8 @@ use Rattle.farm.specs.declared.Farm.{Farm}
 use Rattle.farm.specs.declared.Refusal.{Refusal}
 use Rattle.farm.specs.declared.Refusal.the-variants.{BufferTooShort}
 use Rattle.farm.specs.Refusals.{number}
-use Rattle.rules_theorems.specs.Rules.{KeepsRules}
+use Rattle.limits.specs.declared.Source.{Source}
+use Rattle.rules_theorems.specs.Rules.{allowed, KeepsRules}
 use Rattle.rules_theorems.specs.Refusals.{First}
 use Rattle.typed_inputs.specs.Typed.{typedOf}
 use Rattle.outputs.specs.Grams.{totalsOf}
@@ -31,10 +32,10 @@ pub data FileCall : Type 0 where
   of-totals : FileCall
   of-all : View → FileCall
 
-abbrev pub callOf : FileCall → List ℕ → Call
-callOf (of-herd v i) s = fileHerdCall v s i
-callOf of-totals s = fileTotalsCall s
-callOf (of-all v) s = fileCall v s
+abbrev pub callOf : Source → FileCall → List ℕ → Call
+callOf source (of-herd v i) s = fileHerdCall source v s i
+callOf source of-totals s = fileTotalsCall source s
+callOf source (of-all v) s = fileCall source v s
 
 -- ---- what each writes, of the herds that a file says
 
@@ -62,19 +63,19 @@ pub data Lists (hs : List Herd) : FileCall → List ℕ → Type 0 where
   the-totals : Lists hs of-totals (totalsText hs)
   the-whole : (v : View) → Lists hs (of-all v) (viewText v hs)
 
--- ---- what a call on a file s leaves and says
+-- ---- what a call on a file s, from this source, leaves and says
 
-pub record ByTheRules (s : List ℕ) (c : FileCall) (old new : List ℕ) (r : Written) : Type 0 where
-  pub refused : {n : ℕ} {refusal : Refusal} → First s n refusal → (new ≡ old) × (r ≡ Refused refusal n)
-  pub listed : {f : Farm} {l : List ℕ} (k : KeepsRules s f) → Lists (k .says .herds) c l → length l ≤ length old
-      → (new ≡ l ++ drop (length l) old) × (r ≡ Length (length l))
-  pub too-short : {f : Farm} {l : List ℕ} (k : KeepsRules s f) → Lists (k .says .herds) c l → length old < length l
-      → (new ≡ old) × (r ≡ Refused BufferTooShort 0)
+pub record ByTheRules (source : Source) (s : List ℕ) (c : FileCall) (old new : List ℕ) (r : Written) : Type 0 where
+  pub refused : {n : ℕ} {refusal : Refusal} → First (allowed source) s n refusal → (new ≡ old) × (r ≡ Refused refusal n)
+  pub listed : {f : Farm} {l : List ℕ} (k : KeepsRules (allowed source) s f) → Lists (k .says .herds) c l
+      → length l ≤ length old → (new ≡ l ++ drop (length l) old) × (r ≡ Length (length l))
+  pub too-short : {f : Farm} {l : List ℕ} (k : KeepsRules (allowed source) s f) → Lists (k .says .herds) c l
+      → length old < length l → (new ≡ old) × (r ≡ Refused BufferTooShort 0)
 
 -- ---- what a command that asks for this view prints for a file, and how the run ended
 
-pub data Prints (s : List ℕ) (v : View) : List ℕ → Written → Type 0 where
-  the-refusal : {n : ℕ} {refusal : Refusal} → First s n refusal
-      → Prints s v (refusalLine (number refusal) n) (Refused refusal n)
-  the-view : {f : Farm} (k : KeepsRules s f)
-      → Prints s v (viewText v (k .says .herds)) (Length (length (viewText v (k .says .herds))))
+pub data Prints (source : Source) (s : List ℕ) (v : View) : List ℕ → Written → Type 0 where
+  the-refusal : {n : ℕ} {refusal : Refusal} → First (allowed source) s n refusal
+      → Prints source s v (refusalLine (number refusal) n) (Refused refusal n)
+  the-view : {f : Farm} (k : KeepsRules (allowed source) s f)
+      → Prints source s v (viewText v (k .says .herds)) (Length (length (viewText v (k .says .herds))))

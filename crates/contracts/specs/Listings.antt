@@ -14,6 +14,8 @@ use Rattle.farm.specs.declared.Checked.the-variants as checks
 use Rattle.checks.specs.Checks.{checkHerd, checkFarm}
 use Rattle.farm.specs.Herds.{noHerd}
 use Rattle.model.specs.Answers.{farmAnswer}
+use Rattle.limits.specs.declared.Source.{Source}
+use Rattle.limits.specs.Limits.{limitsOf}
 use Rattle.reader.specs.Files.{readOf}
 use Rattle.written.specs.declared.Written.{Written}
 use Rattle.written.specs.declared.Written.the-variants.{Refused}
@@ -50,18 +52,23 @@ herdCall view h = record { checked = checkHerd h; listing = herdText view h }
 unfoldable pub totalsCall : Farm → Call
 totalsCall f = record { checked = checkFarm f; listing = totalsListing (farmAnswer f .totals) }
 
--- ---- from a file
+-- ---- from a file, by where it comes from
 
 -- of a farm's herd, counted from 0
 abbrev pub textAt : View → Farm → ℕ → List ℕ
 textAt view f i = pick (ltb i (f .count)) (herdText view (getD (f .herds) i noHerd)) []
 
-unfoldable pub fileHerdCall : View → List ℕ → ℕ → Call
-fileHerdCall view s i = record { checked = readOf s .checked; listing = textAt view (readOf s .farm) i }
+-- what is read is accepted, and then this is listed of its farm; or it is refused
+abbrev pub readCall : Source → (Farm → List ℕ) → List ℕ → Call
+readCall source list s =
+    record { checked = readOf (limitsOf source) s .checked; listing = list (readOf (limitsOf source) s .farm) }
 
-unfoldable pub fileTotalsCall : List ℕ → Call
-fileTotalsCall s = record { checked = readOf s .checked; listing = totalsListing (farmAnswer (readOf s .farm) .totals) }
+unfoldable pub fileHerdCall : Source → View → List ℕ → ℕ → Call
+fileHerdCall source view s i = readCall source (λ f. textAt view f i) s
+
+unfoldable pub fileTotalsCall : Source → List ℕ → Call
+fileTotalsCall source s = readCall source (λ f. totalsListing (farmAnswer f .totals)) s
 
 -- a whole file: what the view lists of its farm
-unfoldable pub fileCall : View → List ℕ → Call
-fileCall view s = record { checked = readOf s .checked; listing = viewed view (readOf s .farm) }
+unfoldable pub fileCall : Source → View → List ℕ → Call
+fileCall source view s = readCall source (viewed view) s

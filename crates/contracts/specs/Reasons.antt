@@ -13,8 +13,10 @@ use Rattle.farm.specs.declared.Refusal.{Refusal}
 use Rattle.farm.specs.declared.Checked.{Checked}
 use Rattle.farm.specs.declared.Checked.the-variants as checks
 use Rattle.farm.specs.Herds.{noHerd}
+use Rattle.limits.specs.declared.Source.{Source}
+use Rattle.limits.specs.Limits.{limitsOf}
 use Rattle.reader.specs.Files.{readOf}
-use Rattle.rules_theorems.specs.Rules.{KeepsRules}
+use Rattle.rules_theorems.specs.Rules.{allowed, KeepsRules}
 use Rattle.rules_theorems.specs.Refusals.{First}
 use Rattle.reasons.specs.declared.ReasonAnswer.{ReasonAnswer}
 use Rattle.reasons.specs.declared.ReasonAnswer.the-variants.{NoHerd, Refused}
@@ -29,10 +31,11 @@ abbrev pub readReason : Checked → Farm → ℕ → ReasonAnswer
 readReason checks.Accepted f i = reasonAt f i
 readReason (checks.Refused refusal at) f i = Refused refusal at
 
-unfoldable pub fileReason : List ℕ → ℕ → ReasonAnswer
-fileReason s i = readReason (readOf s .checked) (readOf s .farm) i
+unfoldable pub fileReason : Source → List ℕ → ℕ → ReasonAnswer
+fileReason source s i = readReason (readOf (limitsOf source) s .checked) (readOf (limitsOf source) s .farm) i
 
-pub record ReasonByTheRules (s : List ℕ) (i : ℕ) (r : ReasonAnswer) : Type 0 where
-  pub refused : {n : ℕ} {refusal : Refusal} → First s n refusal → r ≡ Refused refusal n
-  pub of-herd : {f : Farm} {h : Herd} (k : KeepsRules s f) → At (k .says .herds) i h → r ≡ reasonAnswer h
-  pub past-the-last : {f : Farm} (k : KeepsRules s f) → length (k .says .herds) ≤ i → r ≡ NoHerd
+pub record ReasonByTheRules (source : Source) (s : List ℕ) (i : ℕ) (r : ReasonAnswer) : Type 0 where
+  pub refused : {n : ℕ} {refusal : Refusal} → First (allowed source) s n refusal → r ≡ Refused refusal n
+  pub of-herd : {f : Farm} {h : Herd} (k : KeepsRules (allowed source) s f) → At (k .says .herds) i h
+      → r ≡ reasonAnswer h
+  pub past-the-last : {f : Farm} (k : KeepsRules (allowed source) s f) → length (k .says .herds) ≤ i → r ≡ NoHerd

@@ -111,9 +111,6 @@ module _ (s : List ℕ) (short : length s ≤ logMost) (place : ReaderPlace) (p 
         hours = omega (arith, x .hours, x .inside, x .numbered);
       }
 
-  pub reached-few : n ≤ 65537
-  reached-few = omega (arith, x .inside, x .numbered)
-
 module _ (s : List ℕ) (place : ReaderPlace) (p : Progress) (n : ℕ) (x : Reached s place p n) {o : Step}
     (w : o ≡ stepOf s (place .at)) where
   abbrev X : LogAnswer

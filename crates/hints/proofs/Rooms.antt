@@ -13,8 +13,9 @@ use Rattle.base.specs.Pick.{pick}
 use Rattle.base.specs.Part.{part}
 use Rattle.base.proofs.Clash.{clash}
 use Rattle.farm.specs.declared.Refusal.{Refusal}
-use Rattle.reader.specs.Files.{fileMost, readOf}
-use Rattle.gate.specs.Logs.{readLog}
+use Rattle.limits.specs.Limits.{inputBytes, limitsOf}
+use Rattle.reader.specs.Files.{readOf}
+use Rattle.gate.specs.Logs.{logMost, readLog}
 use Rattle.mend.specs.declared.Answer.{Answer}
 use Rattle.mend.specs.declared.Answer.the-variants.{Mended, Refused}
 use Rattle.spreadsheet.specs.Faults.{marked}
@@ -91,14 +92,14 @@ module _ (s : List ℕ) where
 
 -- ---- too long
 
-module _ (s : List ℕ) (h : fileMost < length s) where
+module _ (s : List ℕ) (h : inputBytes < length s) where
   farm-long : farmReach s ≡ TooLong
-  unfolding farmReach readOf reachOf
-  farm-long = let e : ltb fileMost (length s) ≡ true = lt-ltb fileMost (length s) h in rw e
+  unfolding farmReach limitsOf readOf reachOf
+  farm-long = let e : ltb inputBytes (length s) ≡ true = lt-ltb inputBytes (length s) h in rw e
 
   log-long : logReach s ≡ TooLong
   unfolding logReach readLog reachOf
-  log-long = let e : ltb fileMost (length s) ≡ true = lt-ltb fileMost (length s) h in rw e
+  log-long = let e : ltb logMost (length s) ≡ true = lt-ltb logMost (length s) (omega arith) in rw e
 
   pub hint-long : (i : Input) → 0 ≡ hintOf i s
   unfolding hintOf

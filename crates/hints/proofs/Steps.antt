@@ -5,6 +5,8 @@ use mathlib.Core.List.{List}
 use Rattle.farm.specs.declared.Refusal.{Refusal}
 use Rattle.farm.specs.declared.Checked.the-variants as checks
 use Rattle.farm.specs.Refusals as farms
+use Rattle.limits.specs.declared.Source.the-variants.{StandardInput}
+use Rattle.limits.specs.Limits.{limitsOf}
 use Rattle.reader.specs.declared.FileAnswer.{FileAnswer}
 use Rattle.reader.specs.Files.{readOf}
 use Rattle.gate_days.specs.declared.LogRefusal.{LogRefusal}
@@ -20,7 +22,7 @@ use Rattle.reach.specs.declared.Reach.the-variants.{Through}
 use Rattle.reach.specs.Reach.{reachOf}
 use Rattle.hints.specs.Hint.{checkedReach, answerReach, farmReach, logReach, readTo}
 
-module _ (s : List ℕ) (a : FileAnswer) (e : a ≡ readOf s) where
+module _ (s : List ℕ) (a : FileAnswer) (e : a ≡ readOf (limitsOf StandardInput) s) where
   pub farm-through : a .checked ≡ checks.Accepted → Through ≡ farmReach s
   unfolding farmReach
   farm-through c = ap checkedReach (sym c ∙ ap (λ (x : FileAnswer). x .checked) e)

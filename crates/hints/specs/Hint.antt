@@ -7,6 +7,8 @@ use Rattle.base.specs.Pick.{pick}
 use Rattle.farm.specs.declared.Checked.{Checked}
 use Rattle.farm.specs.declared.Checked.the-variants as checks
 use Rattle.farm.specs.Refusals as farms
+use Rattle.limits.specs.declared.Source.the-variants.{StandardInput}
+use Rattle.limits.specs.Limits.{limitsOf}
 use Rattle.reader.specs.Files.{readOf}
 use Rattle.gate.specs.declared.LogAnswer.{LogAnswer}
 use Rattle.gate.specs.declared.LogAnswer.the-variants as answers
@@ -28,7 +30,7 @@ answerReach (answers.Gives o) = Through
 answerReach (answers.Refused refusal n) = reachOf (gates.number refusal) n
 
 unfoldable pub farmReach : List ℕ → Reach
-farmReach s = checkedReach (readOf s .checked)
+farmReach s = checkedReach (readOf (limitsOf StandardInput) s .checked)
 
 unfoldable pub logReach : List ℕ → Reach
 logReach s = answerReach (readLog s)

@@ -3,6 +3,7 @@
 use farm::Checked;
 use gate::LogAnswer;
 use gate::logs;
+use limits::Source;
 use mend::Answer;
 use reach::Reach;
 ghost use mathlib.Core.Path.{_≡_};
@@ -16,8 +17,8 @@ pub enum Input {
     Log,
 }
 
-// The longest file that is read.
-const INPUT_MOST: usize = 65536;
+// The longest file that is read from standard input, and the longest log.
+const INPUT_MOST: usize = limits::INPUT_BYTES;
 
 // Every byte may be a bare LF.
 const MENDED_MOST: usize = 2 * INPUT_MOST;
@@ -27,7 +28,7 @@ const LIST_MOST: usize = mend::ENTRY * INPUT_MOST;
 fn farm_reach(s: &[u8]) -> Reach
     ensures { λ r. ⌜ r ≡ farmReach (now (s .entry)) ⌝ }
 {
-    let answer = farm_file::read(s);
+    let answer = farm_file::read(Source::StandardInput, s);
     let checked = answer.checked;
     match checked {
         Checked::Accepted => Reach::Through,

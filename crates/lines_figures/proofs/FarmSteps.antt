@@ -7,6 +7,7 @@ use native.Mathlib.Omega.{arith}
 use lib.ListN.{length, getD, drop, length-append}
 use Rattle.base.specs.Wrote.{Wrote}
 use Rattle.base.proofs.ToCome.{ToCome, begun, gone-on, ended}
+use Rattle.farm.specs.Limits.{herdsMost}
 use Rattle.farm.specs.declared.Herd.{Herd}
 use Rattle.farm.specs.declared.Farm.{Farm}
 use Rattle.farm.specs.declared.Checked.the-variants.{Accepted}
@@ -49,7 +50,7 @@ module _ (f : Farm) (accepted : checkFarm f ≡ Accepted) (old : List ℕ) (room
         let w = inv .written in
         omega (arith, ap length e, length-append a b, w .adds-up, w .same, farm-fits f accepted)
 
-    module _ (long : length (f .herds) ≡ 64) (b : i < f .count) (d : Herd) (t : Inputs)
+    module _ (long : length (f .herds) ≡ herdsMost) (b : i < f .count) (d : Herd) (t : Inputs)
         (et : t ≡ typedOf (getD (f .herds) i d)) where
       pub sound : Sound t
       sound = next-sound f accepted i sum (inv .adding) long b d t et

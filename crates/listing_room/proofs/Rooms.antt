@@ -107,7 +107,7 @@ herds-most : {l : List Herd} → Each (λ h. checkHerd h ≡ Accepted) l
 herds-most none = none
 herds-most (more {a} p ps) = more (figures-to (typedOf a) (typed-sound a p)) (herds-most ps)
 
--- a farm that is accepted has at most 64 herds
+-- a farm that is accepted has no more herds than there may be
 pub herds-few : (f : Farm) → checkFarm f ≡ Accepted → length (herdsOf f) ≤ herdsMost
 herds-few f e =
     omega (arith, length-take (f .count) (f .herds), min-le-left (f .count) (length (f .herds)), farm-count f e)

@@ -14,6 +14,7 @@ use Rattle.inputs.specs.declared.Kind.{Kind}
 use Rattle.farm.specs.declared.Given.{Given}
 use Rattle.farm.specs.declared.Herd.{Herd}
 use Rattle.farm.specs.declared.Farm.{Farm}
+use Rattle.limits.specs.declared.Limits.{Limits}
 use Rattle.rules_theorems.specs.Lists.{Pairs}
 use Rattle.first_refusal.specs.Records.{Record}
 use Rattle.rules_theorems.specs.Rules.{LabelByte, GoodLabel, RecordSays, Gives, HerdOf, StandTogether, KeepsRules}
@@ -72,5 +73,5 @@ file-low g FileOf.none = none
 file-low (some g) (FileOf.last {t = t} r n) = rw (append-nil t) at (record-low [] r g)
 file-low (some g) (FileOf.more {u = u} r f) = record-low (13 ∷ 10 ∷ u) r g
 
-pub accepted-unmarked : (s : List ℕ) (f : Farm) → KeepsRules s f → marked s ≡ false
+pub accepted-unmarked : {limits : Limits} (s : List ℕ) (f : Farm) → KeepsRules limits s f → marked s ≡ false
 accepted-unmarked s f k = unmarked (file-low (farm-first (k .says .stand)) (k .reads))

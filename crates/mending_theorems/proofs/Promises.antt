@@ -12,6 +12,8 @@ use Rattle.farm.specs.declared.Refusal.{Refusal}
 use Rattle.farm.specs.declared.Refusal.the-variants.{BufferTooShort}
 use Rattle.farm.specs.Refusals.{number}
 use Rattle.grammar.specs.Grammar.{FileOf}
+use Rattle.limits.specs.declared.Source.{Source}
+use Rattle.limits.specs.Limits.{limitsOf}
 use Rattle.reader.specs.Files.{readOf, accepted}
 use Rattle.rules_theorems.proofs.Accepts.{accepts-exactly}
 use Rattle.mend.specs.declared.Answer.{Answer}
@@ -147,9 +149,10 @@ grammar-unchanged {rs} {s} f n =
     go true k e = absurd (n (so-marked s k))
     go false k e = ap (λ (l : List ℕ). markChange (marked l)) e ∙ ap markChange k
 
-pub accepted-unchanged : (s : List ℕ) (f : Farm) → readOf s ≡ accepted f → Unchanged s
-accepted-unchanged s f e =
-    let k = accepts-exactly s f .0 e in
+pub accepted-unchanged : (source : Source) (s : List ℕ) (f : Farm) → readOf (limitsOf source) s ≡ accepted f
+    → Unchanged s
+accepted-unchanged source s f e =
+    let k = accepts-exactly source s f .0 e in
     grammar-unchanged (k .reads) (λ m. clash (no (marked-so s m) (accepted-unmarked s f k)))
   where
     no : marked s ≡ true → marked s ≡ false → _≡_ {A = ℕ} 0 1

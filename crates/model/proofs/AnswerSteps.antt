@@ -7,6 +7,7 @@ use native.Mathlib.Omega.{arith}
 use lib.ListN.{length, getD, drop}
 use lib.IntN.{ℤ}
 use Rattle.cut_division.specs.Total.{addUp}
+use Rattle.farm.specs.Limits.{herdsMost}
 use Rattle.farm.specs.declared.Herd.{Herd}
 use Rattle.farm.specs.declared.Farm.{Farm}
 use Rattle.farm.specs.declared.Refusal.{Refusal}
@@ -73,7 +74,7 @@ pub ruleset herd-answers = (accepted-sound, accepted-exact, is-herd-answer, is-h
 -- ---- the figures of i herds were added up
 
 pub record Adding (f : Farm) (i : ℕ) (sum : Figures) : Type 0 where
-  pub room : f .count ≤ 64
+  pub room : f .count ≤ herdsMost
   pub within : i ≤ f .count
   pub left : addUp plusGrams (λ h. herdFigures h .grams) (sum .grams) (drop i (herdsOf f))
       ≡ summed herdFigures (herdsOf f)
@@ -97,7 +98,7 @@ module _ (f : Farm) (accepted : checkFarm f ≡ Accepted) where
           small = widen (i * most) figureMost (inv .small) (omega arith);
         }
 
-    module _ (long : length (f .herds) ≡ 64) (b : i < f .count) (d : Herd) (t : Inputs)
+    module _ (long : length (f .herds) ≡ herdsMost) (b : i < f .count) (d : Herd) (t : Inputs)
         (et : t ≡ typedOf (getD (f .herds) i d)) where
       pub next-sound : Sound t
       next-sound = rw et (herd-sound f accepted long i b d)

@@ -8,7 +8,6 @@ use borrow.Author.Tests.{eq-eqb, ne-eqb, le-leb, lt-leb}
 use Rattle.farm.specs.declared.Label.{Label}
 use Rattle.farm.specs.declared.Refusal.the-variants.{EarlierLabel, NoRoomForHerd}
 use Rattle.farm.specs.declared.Checked.the-variants.{Accepted, Refused}
-use Rattle.farm.specs.Limits.{herdsMost}
 use Rattle.herd_tests.specs.Tests.{hasLabel}
 use Rattle.next_herd.specs.Farms.{herdsSoFar, newLabelChecked}
 
@@ -27,18 +26,18 @@ pub ruleset counted-steps = (none-counted, one-counted)
 
 -- ---- another label: 8 and 9
 
-module _ (ls : List Label) (count : ℕ) (l : Label) (n : ℕ) {b : Bool} (q : b ≡ hasLabel ls l) where
-  pub earlier : b ≡ true → Refused EarlierLabel n ≡ newLabelChecked ls count l n
+module _ (most : ℕ) (ls : List Label) (count : ℕ) (l : Label) (n : ℕ) {b : Bool} (q : b ≡ hasLabel ls l) where
+  pub earlier : b ≡ true → Refused EarlierLabel n ≡ newLabelChecked most ls count l n
   unfolding newLabelChecked
   earlier e = simp (newLabelChecked, sym q ∙ e)
 
   module _ (new : b ≡ false) {k : ℕ} (w : k ≡ count) where
-    pub no-room : herdsMost ≤ k → Refused NoRoomForHerd n ≡ newLabelChecked ls count l n
+    pub no-room : most ≤ k → Refused NoRoomForHerd n ≡ newLabelChecked most ls count l n
     unfolding newLabelChecked
-    no-room h = simp (newLabelChecked, sym q ∙ new, sym w, le-leb herdsMost k h)
+    no-room h = simp (newLabelChecked, sym q ∙ new, sym w, le-leb most k h)
 
-    pub room : k < herdsMost → Accepted ≡ newLabelChecked ls count l n
+    pub room : k < most → Accepted ≡ newLabelChecked most ls count l n
     unfolding newLabelChecked
-    room h = simp (newLabelChecked, sym q ∙ new, sym w, lt-leb herdsMost k h)
+    room h = simp (newLabelChecked, sym q ∙ new, sym w, lt-leb most k h)
 
 pub ruleset admitted-steps = (earlier, no-room, room)

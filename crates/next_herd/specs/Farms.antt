@@ -11,7 +11,6 @@ use Rattle.farm.specs.declared.Herd.{Herd}
 use Rattle.farm.specs.declared.Refusal.the-variants.{EarlierLabel, NoRoomForHerd}
 use Rattle.farm.specs.declared.Checked.{Checked}
 use Rattle.farm.specs.declared.Checked.the-variants.{Accepted, Refused}
-use Rattle.farm.specs.Limits.{herdsMost}
 use Rattle.herd_tests.specs.Tests.{lacks, hasLabel}
 
 -- of the herds up to the one being read, the first record of the first that lacks an input: `before` where a herd
@@ -24,8 +23,7 @@ unfoldable pub herdsSoFar : ℕ → ℕ → ℕ
 herdsSoFar count first′ = pick (eqb first′ 0) count (count + 1)
 
 -- a record of another label than the herd being read, where the closed herds have these labels and the farm has so many
--- herds with the one being read: 8, or 9
-unfoldable pub newLabelChecked : List Label → ℕ → Label → ℕ → Checked
-newLabelChecked labels count l n =
-    first (Refused EarlierLabel n when hasLabel labels l ∷ Refused NoRoomForHerd n when leb herdsMost count ∷ [])
-    Accepted
+-- herds with the one being read, and may have `most`: 8, or 9
+unfoldable pub newLabelChecked : ℕ → List Label → ℕ → Label → ℕ → Checked
+newLabelChecked most labels count l n =
+    first (Refused EarlierLabel n when hasLabel labels l ∷ Refused NoRoomForHerd n when leb most count ∷ []) Accepted

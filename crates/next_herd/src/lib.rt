@@ -1,7 +1,6 @@
 // A herd that follows the one being read: whether its label is new and there is room for it, and how many herds there
 // are and which lacks an input with the one that was being read.
 use farm::Checked;
-use farm::HERDS_MOST;
 use farm::Herd;
 use farm::Label;
 use farm::Refusal;
@@ -36,21 +35,22 @@ pub fn herds_so_far(count: usize, first: usize) -> usize
     count + 1
 }
 
-// A record of another label than the herd being read, the farm having these labels: 8, or 9.
+// A record of another label than the herd being read, the farm having these labels and room for `most` herds: 8, or 9.
 pub fn check_new_label(
     labels: Labels,
     count: usize,
     first: usize,
     label: Label,
     number: usize,
+    most: usize,
 ) -> Checked
     requires { ⌜ count < herdsMost ⌝ }
-    ensures { λ r. ⌜ r ≡ newLabelChecked (take count (labels .of)) (herdsSoFar count first) label number ⌝ }
+    ensures { λ r. ⌜ r ≡ newLabelChecked most (take count (labels .of)) (herdsSoFar count first) label number ⌝ }
 {
     if herd_tests::earlier_label(labels, count, label) {
         return Checked::Refused(Refusal::EarlierLabel, number);
     }
-    if HERDS_MOST <= herds_so_far(count, first) {
+    if most <= herds_so_far(count, first) {
         return Checked::Refused(Refusal::NoRoomForHerd, number);
     }
     Checked::Accepted

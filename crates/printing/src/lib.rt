@@ -4,6 +4,7 @@ pub mod input; // the farm file on standard input
 pub mod tell; // answers of other calls, a line each
 
 use farm::Refusal;
+use limits::Source;
 use streams::Outcome;
 use views::View;
 use views::program;
@@ -36,9 +37,9 @@ fn room() -> [u8; views::FARM_ROOM] {
 }
 
 // What the view lists of a file, or the refusal's line.
-pub fn print_view(view: View, s: &[u8]) -> Printed {
+pub fn print_view(view: View, source: Source, s: &[u8]) -> Printed {
     let mut put = room();
-    let output = program::put_output(s, &mut put, view);
+    let output = program::put_output(source, s, &mut put, view);
     if !print(base::part_of(&put, 0, output.length)) {
         return Printed::Broken;
     }

@@ -13,7 +13,8 @@ use Rattle.farm.specs.declared.Refusal.{Refusal}
 use Rattle.farm.specs.Refusals.{number}
 use Rattle.checks.specs.Accepts.{GoodHerd}
 use Rattle.checks.proofs.Accepts.{accepted-farm}
-use Rattle.rules_theorems.specs.Rules.{farmOf, KeepsRules}
+use Rattle.limits.specs.declared.Source.{Source}
+use Rattle.rules_theorems.specs.Rules.{allowed, farmOf, KeepsRules}
 use Rattle.rules_theorems.specs.Refusals.{First}
 use Rattle.rules_theorems.proofs.Farms.{herds-of}
 use Rattle.rules_theorems.proofs.Accepts.{accepts-exactly}
@@ -36,14 +37,15 @@ use Rattle.promises.specs.Records.{Recorded, figures, notes, cuts, reaso
 use Rattle.promises.specs.Records.{herdRecords, recordsOf}
 
 -- a file that keeps the rules: what the view lists of its farm; any other: the line of its first refusal
-module _ (v : View) (s : List ℕ) where
-  pub prints-listed : (f : Farm) → KeepsRules s f → outputOf v s ≡ viewed v f
+module _ (source : Source) (v : View) (s : List ℕ) where
+  pub prints-listed : (f : Farm) → KeepsRules (allowed source) s f → outputOf source v s ≡ viewed v f
   unfolding outputOf
-  prints-listed f keeps = rw (accepts-exactly s f .1 keeps)
+  prints-listed f keeps = rw (accepts-exactly source s f .1 keeps)
 
-  pub prints-refused : (n : ℕ) (refusal : Refusal) → First s n refusal → outputOf v s ≡ refusalLine (number refusal) n
+  pub prints-refused : (n : ℕ) (refusal : Refusal) → First (allowed source) s n refusal
+      → outputOf source v s ≡ refusalLine (number refusal) n
   unfolding outputOf
-  prints-refused n refusal first = rw (first-refusal s n refusal .1 first)
+  prints-refused n refusal first = rw (first-refusal source s n refusal .1 first)
 
 -- ---- as records
 
@@ -64,19 +66,20 @@ herds-read cuts good = records (herdRecords cuts) (herdText (viewOf cuts)) (herd
 herds-read reasons good = records (herdRecords reasons) (herdText (viewOf reasons)) (herd-reads reasons) good
 
 -- of every file that keeps the rules
-pub prints-records : (t : Recorded) {s : List ℕ} {f : Farm} (k : KeepsRules s f)
-    → RecordsOf (fieldCount t) (recordsOf t (k .says .herds)) (outputOf (viewOf t) s)
-prints-records t {s} k =
+pub prints-records : (source : Source) (t : Recorded) {s : List ℕ} {f : Farm} (k : KeepsRules (allowed source) s f)
+    → RecordsOf (fieldCount t) (recordsOf t (k .says .herds)) (outputOf source (viewOf t) s)
+prints-records source t {s} k =
     let hs = k .says .herds in
-    let good = accepted-farm (farmOf hs) (accepted-passes s (farmOf hs) (read-as k)) .herds in
-    rw (printed-view k (viewOf t)) (herds-read t (rw (herds-of hs) at good))
+    let good = accepted-farm (farmOf hs) (accepted-passes source s (farmOf hs) (read-as source k)) .herds in
+    rw (printed-view source k (viewOf t)) (herds-read t (rw (herds-of hs) at good))
 
 -- so it is a file of RFC 4180, of these records
-pub prints-a-file : (t : Recorded) {s : List ℕ} {f : Farm} (k : KeepsRules s f)
-    → FileOf (recordsOf t (k .says .herds)) (outputOf (viewOf t) s)
-prints-a-file t k = are-a-file (prints-records t k)
+pub prints-a-file : (source : Source) (t : Recorded) {s : List ℕ} {f : Farm} (k : KeepsRules (allowed source) s f)
+    → FileOf (recordsOf t (k .says .herds)) (outputOf source (viewOf t) s)
+prints-a-file source t k = are-a-file (prints-records source t k)
 
 -- of every other file
-pub prints-a-record : (v : View) {s : List ℕ} {n : ℕ} {refusal : Refusal} → First s n refusal
-    → RecordsOf 3 (refusalFields (number refusal) n ∷ []) (outputOf v s)
-prints-a-record v {s} {n} {refusal} first = rw (prints-refused v s n refusal first) (refusal-read (number refusal) n)
+pub prints-a-record : (source : Source) (v : View) {s : List ℕ} {n : ℕ} {refusal : Refusal}
+    → First (allowed source) s n refusal → RecordsOf 3 (refusalFields (number refusal) n ∷ []) (outputOf source v s)
+prints-a-record source v {s} {n} {refusal} first =
+    rw (prints-refused source v s n refusal first) (refusal-read (number refusal) n)

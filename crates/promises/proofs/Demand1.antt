@@ -22,10 +22,13 @@ use Rattle.farm.specs.declared.Checked.the-variants as checks
 use Rattle.farm.specs.Refusals.{number, Says, accepts, gives, refuses, says}
 use Rattle.checks.specs.Refusals.{herd, farm as farm-record, RecordGets}
 use Rattle.checks.proofs.Refuses.{record-gets}
+use Rattle.limits.specs.declared.Limits.{Limits}
+use Rattle.limits.specs.declared.Source.{Source}
+use Rattle.limits.specs.Limits.{limitsOf}
 use Rattle.reader.specs.declared.FileAnswer.{FileAnswer}
 use Rattle.reader.specs.Files.{readOf, accepted, refused}
 use Rattle.first_refusal.specs.Records.{Record}
-use Rattle.rules_theorems.specs.Rules.{KeepsRules}
+use Rattle.rules_theorems.specs.Rules.{allowed, KeepsRules}
 use Rattle.rules_theorems.specs.Refusals.{
   First,
   AppliesAt,
@@ -45,8 +48,7 @@ use Rattle.rules_theorems.specs.Refusals.{
   given-already,
 }
 use Rattle.rules_theorems.proofs.Accepts.{accepts-exactly}
-use Rattle.rules_theorems.proofs.Refuses.{Outcome, takes, gives as gives-first, outcome}
-use Rattle.rules_theorems.proofs.Answers.{answered}
+use Rattle.rules_theorems.proofs.Refuses.{Outcome, takes, gives as gives-first, outcome-of}
 use Rattle.model.specs.Answers.{herdAnswer, farmAnswer}
 use Rattle.written.specs.declared.Written.{Written}
 use Rattle.written.specs.declared.Written.the-variants.{Length, Refused}
@@ -59,32 +61,35 @@ use Rattle.contracts.proofs.RecordSteps.{herd-checked, farm-checked}
 
 -- ---- a file
 
--- what a file gets: the farm that it says, by the rules; or the first refusal in the written order
-pub data Gets (s : List ℕ) : FileAnswer → Type 0 where
-  farm : {f : Farm} → KeepsRules s f → Gets s (accepted f)
-  gets-refusal : {n : ℕ} {refusal : Refusal} → First s n refusal → Gets s (refused n refusal)
+-- what a file gets, from each source: the farm that it says, by the rules; or the first refusal in the written order
+pub data Gets (source : Source) (s : List ℕ) : FileAnswer → Type 0 where
+  farm : {f : Farm} → KeepsRules (allowed source) s f → Gets source s (accepted f)
+  gets-refusal : {n : ℕ} {refusal : Refusal} → First (allowed source) s n refusal → Gets source s (refused n refusal)
 
-pub demand-1 : (s : List ℕ) → Gets s (readOf s)
-demand-1 s = by (readOf s) refl (outcome (answered s))
+pub demand-1 : (source : Source) (s : List ℕ) → Gets source s (readOf (limitsOf source) s)
+demand-1 source s = by (readOf (limitsOf source) s) refl (outcome-of source s)
   where
-    by : (x : FileAnswer) → readOf s ≡ x → Outcome s x → Gets s x
-    by x e (takes {f = f} none) = farm (accepts-exactly s f .0 e)
+    by : (x : FileAnswer) → readOf (limitsOf source) s ≡ x → Outcome (allowed source) s x → Gets source s x
+    by x e (takes {f = f} none) = farm (accepts-exactly source s f .0 e)
     by x e (gives-first r) = gets-refusal r
 
 -- and what is said of it
-pub data FileSays (s : List ℕ) : Says → Type 0 where
-  fine : {f : Farm} → KeepsRules s f → FileSays s accepts
-  first : {n : ℕ} {refusal : Refusal} → First s n refusal → FileSays s (refuses (number refusal) n)
+pub data FileSays (source : Source) (s : List ℕ) : Says → Type 0 where
+  fine : {f : Farm} → KeepsRules (allowed source) s f → FileSays source s accepts
+  first : {n : ℕ} {refusal : Refusal} → First (allowed source) s n refusal
+      → FileSays source s (refuses (number refusal) n)
 
-pub demand-1-says : (s : List ℕ) → FileSays s (says (readOf s .checked))
-demand-1-says s = by (demand-1 s)
+pub demand-1-says : (source : Source) (s : List ℕ) → FileSays source s (says (readOf (limitsOf source) s .checked))
+demand-1-says source s = by (demand-1 source s)
   where
-    by : {a : FileAnswer} → Gets s a → FileSays s (says (a .checked))
+    by : {a : FileAnswer} → Gets source s a → FileSays source s (says (a .checked))
     by (farm keeps) = fine keeps
     by (gets-refusal r) = first r
 
 -- 01: "13 belongs to the writing calls alone"
-of-a-record : {before : List Record} {cs : Record} {refusal : Refusal} → Applies before cs refusal → number refusal < 13
+of-a-record : {limits : Limits} {before : List Record} {cs : Record} {refusal : Refusal}
+    → Applies limits before cs refusal
+    → number refusal < 13
 of-a-record (not-four-fields a) = omega arith
 of-a-record (bad-label a) = omega arith
 of-a-record (not-in-the-list a) = omega arith
@@ -95,13 +100,15 @@ of-a-record (no-room-for-herd a b) = omega arith
 of-a-record (other-kind a b c d e) = omega arith
 of-a-record (given-already a b) = omega arith
 
-of-a-file : {s : List ℕ} {n : ℕ} {refusal : Refusal} → AppliesAt s n refusal → number refusal < 13
+of-a-file : {limits : Limits} {s : List ℕ} {n : ℕ} {refusal : Refusal} → AppliesAt limits s n refusal
+    → number refusal < 13
 of-a-file (too-long a) = omega arith
 of-a-file (broken a) = omega arith
 of-a-file (wrong a b) = of-a-record b
 of-a-file (missing before cs after a b) = omega arith
 
-pub never-13 : {s : List ℕ} {n : ℕ} {refusal : Refusal} → First s n refusal → number refusal < 13
+pub never-13 : {limits : Limits} {s : List ℕ} {n : ℕ} {refusal : Refusal} → First limits s n refusal
+    → number refusal < 13
 never-13 r = of-a-file (r .applies)
 
 -- ---- a record that is handed in: no refusal applies to it; or the first that applies is given, with record 0
@@ -168,12 +175,12 @@ pub record SameOutput (new new′ : List ℕ) (a a′ : Output) : Type 0 where
   pub length : a .length ≡ a′ .length
   pub ended : a .ended ≡ a′ .ended
 
-pub one-output : {view : View} {s old new new′ : List ℕ} {a a′ : Output}
-    → PutOutput view s old new a → PutOutput view s old new′ a′ → SameOutput new new′ a a′
-one-output {s = s} w v =
+pub one-output : {source : Source} {view : View} {s old new new′ : List ℕ} {a a′ : Output}
+    → PutOutput source view s old new a → PutOutput source view s old new′ a′ → SameOutput new new′ a a′
+one-output {source} {s = s} w v =
     let same = w .bytes .past ∙ sym (v .bytes .past) in
     record {
       bytes = w .bytes .bytes ∙ sym (v .bytes .bytes);
       length = same;
-      ended = w .ended ∙ ap (endedOf (readOf s .checked)) same ∙ sym (v .ended);
+      ended = w .ended ∙ ap (endedOf (readOf (limitsOf source) s .checked)) same ∙ sym (v .ended);
     }

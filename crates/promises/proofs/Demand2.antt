@@ -13,8 +13,10 @@ use Rattle.farm.specs.declared.Farm.{Farm}
 use Rattle.farm.specs.declared.Checked.the-variants.{Accepted}
 use Rattle.checks.specs.Checks.{checkHerd, checkFarm, herdsOf}
 use Rattle.checks.proofs.Accepts.{farm-each}
+use Rattle.limits.specs.declared.Source.{Source}
+use Rattle.limits.specs.Limits.{limitsOf}
 use Rattle.reader.specs.Files.{readOf, accepted}
-use Rattle.rules_theorems.specs.Rules.{farmOf, KeepsRules}
+use Rattle.rules_theorems.specs.Rules.{allowed, farmOf, KeepsRules}
 use Rattle.rules_theorems.proofs.Farms.{herds-of}
 use Rattle.rules_theorems.proofs.Accepts.{accepts-exactly}
 use Rattle.rules_theorems.proofs.Passing.{accepted-passes}
@@ -27,7 +29,8 @@ use Rattle.promises.specs.Formulas.{herdGets, farmGets, FileGets}
 
 -- ---- acceptance
 
-pub demand-2-file : (s : List ℕ) (f : Farm) → (readOf s ≡ accepted f) ↔ KeepsRules s f
+pub demand-2-file : (source : Source) (s : List ℕ) (f : Farm)
+    → (readOf (limitsOf source) s ≡ accepted f) ↔ KeepsRules (allowed source) s f
 demand-2-file = accepts-exactly
 
 -- ---- figures, notes and totals
@@ -41,8 +44,9 @@ unfolding farmAnswer
 demand-2-farm f e = rw e
 
 -- of a file: the farm that is read passes the record checks, so both hold of it
-pub demand-2-figures : {s : List ℕ} {f : Farm} (k : KeepsRules s f) → FileGets s (k .says .herds)
-demand-2-figures {s} {f} k =
+pub demand-2-figures : (source : Source) {s : List ℕ} {f : Farm} (k : KeepsRules (allowed source) s f)
+    → FileGets source s (k .says .herds)
+demand-2-figures source {s} {f} k =
     record {
       read = reads;
       herds = rw (herds-of hs) at (each-map demand-2-herd (farm-each (farmOf hs) passes));
@@ -52,11 +56,11 @@ demand-2-figures {s} {f} k =
     hs : List Herd
     hs = k .says .herds
 
-    reads : readOf s ≡ accepted (farmOf hs)
-    reads = accepts-exactly s f .1 k ∙ ap accepted (k .says .is)
+    reads : readOf (limitsOf source) s ≡ accepted (farmOf hs)
+    reads = accepts-exactly source s f .1 k ∙ ap accepted (k .says .is)
 
     passes : checkFarm (farmOf hs) ≡ Accepted
-    passes = accepted-passes s (farmOf hs) reads
+    passes = accepted-passes source s (farmOf hs) reads
 
 -- ---- the listing's bytes: where the checks find nothing and the buffer has room, the listing and then the bytes that
 -- stood behind it

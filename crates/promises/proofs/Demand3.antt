@@ -15,6 +15,8 @@ use Rattle.farm.specs.declared.Farm.{Farm}
 use Rattle.farm.specs.declared.Checked.the-variants.{Accepted}
 use Rattle.checks.specs.Checks.{checkFarm, herdsOf}
 use Rattle.checks.proofs.Accepts.{farm-each}
+use Rattle.limits.specs.declared.Source.{Source}
+use Rattle.limits.specs.Limits.{limitsOf}
 use Rattle.reader.specs.Files.{readOf, accepted}
 use Rattle.rules_theorems.proofs.Passing.{accepted-passes}
 use Rattle.kinds.specs.declared.Inputs.{Inputs}
@@ -67,11 +69,13 @@ demand-3-farm f e t = within-weaken (by-herd-most typedOf (herdsOf f) t) (demand
 
 -- ---- a file: the farm that is read passes the record checks, so both hold of it
 
-pub demand-3-file-herds : (s : List ℕ) (f : Farm) → readOf s ≡ accepted f → Each FiguresWithin (herdsOf f)
-demand-3-file-herds s f e = each-map (λ h p. demand-3-herd h (herd-checked h ∙ p)) (farm-each f (accepted-passes s f e))
+module _ (source : Source) (s : List ℕ) (f : Farm) (e : readOf (limitsOf source) s ≡ accepted f) where
+  pub demand-3-file-herds : Each FiguresWithin (herdsOf f)
+  demand-3-file-herds =
+      each-map (λ h p. demand-3-herd h (herd-checked h ∙ p)) (farm-each f (accepted-passes source s f e))
 
-pub demand-3-file-totals : (s : List ℕ) (f : Farm) → readOf s ≡ accepted f → TotalsWithin f
-demand-3-file-totals s f e = demand-3-farm f (farm-checked f ∙ accepted-passes s f e)
+  pub demand-3-file-totals : TotalsWithin f
+  demand-3-file-totals = demand-3-farm f (farm-checked f ∙ accepted-passes source s f e)
 
-pub demand-3-file-by-herd : (s : List ℕ) (f : Farm) → readOf s ≡ accepted f → TotalsWithinByHerd f
-demand-3-file-by-herd s f e = demand-3-by-herd f (farm-checked f ∙ accepted-passes s f e)
+  pub demand-3-file-by-herd : TotalsWithinByHerd f
+  demand-3-file-by-herd = demand-3-by-herd f (farm-checked f ∙ accepted-passes source s f e)

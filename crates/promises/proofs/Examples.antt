@@ -7,6 +7,8 @@ use Rattle.base.specs.Text.{bytes}
 use Rattle.inputs.specs.declared.Kind.the-variants.{Pigs}
 use Rattle.farm.specs.declared.Checked.the-variants.{Accepted}
 use Rattle.farm.specs.Labels.{labelOf}
+use Rattle.limits.specs.declared.Source.the-variants.{StandardInput}
+use Rattle.limits.specs.Limits.{limitsOf}
 use Rattle.reader.specs.Files.{readOf, accepted}
 use Rattle.rules_theorems.specs.Rules.{farmOf}
 use Rattle.rules_theorems.proofs.Accepts.{accepts-exactly}
@@ -36,8 +38,8 @@ pigFile =
     ∷ "P1,Livestock::FatteningPigs::Housing::CFreeFactor,free_correction_factor,0\r\n"
     ∷ []
 
-pigs-read : readOf (each bytes pigFile) ≡ accepted (farmOf (pigHerd ∷ []))
-pigs-read = accepts-exactly (each bytes pigFile) (farmOf (pigHerd ∷ [])) .1 pigs-keep
+pigs-read : readOf (limitsOf StandardInput) (each bytes pigFile) ≡ accepted (farmOf (pigHerd ∷ []))
+pigs-read = accepts-exactly StandardInput (each bytes pigFile) (farmOf (pigHerd ∷ [])) .1 pigs-keep
 
 -- its figures are those that 01 prints
 pigs-figured : herdFigures pigHerd ≡ pigFigures
@@ -49,7 +51,7 @@ unfolding labelOf herdText
 pigs-listed = ap (λ (f : Figures). herdListing (pigHerd .label) Pigs f) pigs-figured ∙ pig-listed
 
 -- the herd call on 01's file, for its first herd: accepted, with 01's lines
-pub pig-file-listed : fileHerdCall view.Figures (each bytes pigFile) 0
+pub pig-file-listed : fileHerdCall StandardInput view.Figures (each bytes pigFile) 0
     ≡ record { checked = Accepted; listing = each bytes pigLines }
 unfolding fileHerdCall
 pig-file-listed = rw (pigs-read, pigs-listed)

@@ -7,6 +7,7 @@ use Rattle.base.specs.Text.{bytes}
 use Rattle.decimal.specs.Writing.{width, wholeOf}
 use Rattle.kilogram_text.specs.Kilograms.{thousandthsOf, sign, kilogramsOf}
 use Rattle.farm.specs.Labels.{labelOf}
+use Rattle.limits.specs.declared.Source.the-variants.{StandardInput}
 use Rattle.reader.specs.declared.FileAnswer.{FileAnswer}
 use Rattle.rules_theorems.specs.Rules.{farmOf}
 use Rattle.rules_theorems.proofs.Passing.{accepted-passes}
@@ -123,7 +124,8 @@ linesOf Sentences = sentences
 
 -- the totals are those of the herds, since they pass the checks
 totals-are : farmAnswer (farmOf fourHerds) .totals ≡ totalsOf (map herdFigures fourHerds)
-totals-are = farm-figured (farmOf fourHerds) (accepted-passes fourKinds (farmOf fourHerds) four-kinds-read)
+totals-are = farm-figured (farmOf fourHerds)
+    (accepted-passes StandardInput fourKinds (farmOf fourHerds) four-kinds-read)
 
 viewed-whole : (v : View) → viewed v (farmOf fourHerds) ≡ each bytes (linesOf v)
 unfolding viewed herdText farmListing herdLines totalsListing lineOf notesRecord herdCuts cutLine cutNumbers whyRecord
@@ -138,7 +140,7 @@ viewed-whole Cuts = refl
 viewed-whole Reasons = refl
 viewed-whole Sentences = refl
 
-pub farm-printed : (v : View) → outputOf v fourKinds ≡ each bytes (linesOf v)
+pub farm-printed : (v : View) → outputOf StandardInput v fourKinds ≡ each bytes (linesOf v)
 unfolding outputOf
 farm-printed v = rw four-kinds-read (viewed-whole v)
 
@@ -161,6 +163,6 @@ refusedLines =
     ∷ []
 
 pub refusals-printed : (v : View)
-    → map (λ (e : Example). outputOf v (e .file)) refusals ≡ map bytes refusedLines
+    → map (λ (e : Example). outputOf StandardInput v (e .file)) refusals ≡ map bytes refusedLines
 unfolding outputOf refusalLine wholeOf width
 refusals-printed v = ap (map (λ (a : FileAnswer). printed v (a .checked) (a .farm))) refusals-worked

@@ -1,6 +1,6 @@
 -- The room for a view: it is enough for every view of every accepted farm, and not much larger than it has to be, since
--- 64 herds of pigs, whose labels have to be quoted and whose figures are large, come within a kilobyte of it. Assumes
--- nothing.
+-- as many herds of pigs as there may be, whose labels have to be quoted and whose figures are large, come within a
+-- kilobyte of it. Assumes nothing.
 use Prim.Native.Nat.{ℕ, zero, suc, _+_, _*_, _^_, _/_, _%_, _≤_}
 use Prim.Native.String.{String}
 use mathlib.Core.Path.{_≡_, refl}
@@ -33,7 +33,8 @@ use Rattle.herd_tests.specs.Tests.{lacks}
 use Rattle.fits.specs.Fits.{unfit}
 use Rattle.checks.specs.Checks.{herdsOf, checkHerd, checkFarm}
 use Rattle.checks.proofs.Accepts.{farm-each}
-use Rattle.rules_theorems.specs.Rules.{KeepsRules}
+use Rattle.limits.specs.declared.Source.{Source}
+use Rattle.rules_theorems.specs.Rules.{allowed, KeepsRules}
 use Rattle.rules_theorems.proofs.Accepts.{accepts-exactly}
 use Rattle.rules_theorems.proofs.Passing.{accepted-passes}
 use Rattle.kinds.specs.Choices.{housingAt, scrubberAt, housingFloorAt, housingAirAt}
@@ -87,16 +88,16 @@ view-fits Reasons f e = omega (arith, herds-fit (herdWhy Record) longestLine (wh
 view-fits Sentences f e = omega (arith, herds-fit (herdWhy Sentence) longestLine (why-fits Sentence) f e)
 
 -- and so of what a command prints for a file that keeps the rules
-module _ (s : List ℕ) (f : Farm) (keeps : KeepsRules s f) where
+module _ (source : Source) (s : List ℕ) (f : Farm) (keeps : KeepsRules (allowed source) s f) where
   passes : checkFarm f ≡ Accepted
-  passes = accepted-passes s f (accepts-exactly s f .1 keeps)
+  passes = accepted-passes source s f (accepts-exactly source s f .1 keeps)
 
-  pub views-have-room : (v : View) → length (outputOf v s) ≤ viewRoom
-  views-have-room v = rw (prints-listed v s f keeps) (view-fits v f passes)
+  pub views-have-room : (v : View) → length (outputOf source v s) ≤ viewRoom
+  views-have-room v = rw (prints-listed source v s f keeps) (view-fits v f passes)
 
-  pub notes-have-room : length (outputOf Notes s) ≤ longestRecord * herdsMost
+  pub notes-have-room : length (outputOf source Notes s) ≤ longestRecord * herdsMost
   unfolding viewed herdText
-  notes-have-room = rw (prints-listed Notes s f keeps) (herds-fit herdNotes longestRecord notes-fit f passes)
+  notes-have-room = rw (prints-listed source Notes s f keeps) (herds-fit herdNotes longestRecord notes-fit f passes)
 
 -- ---- nearly used up
 
@@ -121,7 +122,7 @@ herdsFrom i zero = []
 herdsFrom i (suc k) = herd i ∷ herdsFrom (suc i) k
 
 abbrev pub longFarm : Farm
-longFarm = record { herds = herdsFrom 0 64; count = 64 }
+longFarm = record { herds = herdsFrom 0 herdsMost; count = herdsMost }
 
 long-accepted : checkFarm longFarm ≡ Accepted
 unfolding checkFarm labelOk sameLabel sameBytes byteOk lacks unfit labelOf
@@ -207,11 +208,12 @@ totals-long =
         let z = total n longTotals in
         omega (arith, line-length [] (bytes totalPath) (bytes n) z, amount-least z)
 
-farm-long : 113023 ≤ length (farmListing longFarm)
+farm-long : herdsMost * 1756 + 639 ≤ length (farmListing longFarm)
 unfolding farmListing farmAnswer
 farm-long =
     let herds = each listingOf (herdsOf longFarm) in
-    rw long-accepted (omega (arith, length-append herds (totalsListing longTotals), herds-long 0 64, totals-long))
+    rw long-accepted
+    (omega (arith, length-append herds (totalsListing longTotals), herds-long 0 herdsMost, totals-long))
 
 -- an accepted farm's listing comes within a kilobyte of the room
 pub room-nearly-used : (checkFarm longFarm ≡ Accepted) × (farmRoom ≤ length (farmListing longFarm) + 1024)

@@ -7,6 +7,8 @@ use mathlib.Core.List.{List, map}
 use Rattle.base.specs.Each.{Each}
 use Rattle.farm.specs.declared.Herd.{Herd}
 use Rattle.farm.specs.declared.Checked.the-variants.{Accepted}
+use Rattle.limits.specs.declared.Source.{Source}
+use Rattle.limits.specs.Limits.{limitsOf}
 use Rattle.reader.specs.Files.{readOf, accepted}
 use Rattle.rules_theorems.specs.Rules.{farmOf}
 use Rattle.notes.specs.Notes.{notesOf}
@@ -38,8 +40,8 @@ totalsGet t = record { checked = Accepted; totals = t; kilograms = totalKilogram
 abbrev pub farmGets : List Herd → FarmAnswer
 farmGets hs = totalsGet (totalsOf (map (λ h. figuresOf (typedOf h)) hs))
 
--- a file whose records say these herds
-pub record FileGets (s : List ℕ) (hs : List Herd) : Type 0 where
-  pub read : readOf s ≡ accepted (farmOf hs)
+-- a file from this source whose records say these herds
+pub record FileGets (source : Source) (s : List ℕ) (hs : List Herd) : Type 0 where
+  pub read : readOf (limitsOf source) s ≡ accepted (farmOf hs)
   pub herds : Each (λ h. herdAnswer h ≡ herdGets h) hs
   pub totals : farmAnswer (farmOf hs) ≡ farmGets hs

@@ -19,7 +19,6 @@ use Rattle.farm.specs.declared.Refusal.{Refusal}
 use Rattle.farm.specs.declared.Refusal.the-variants.{EarlierLabel, NoRoomForHerd, OtherKind, GivenAlready}
 use Rattle.farm.specs.declared.Checked.{Checked}
 use Rattle.farm.specs.declared.Checked.the-variants.{Accepted, Refused}
-use Rattle.farm.specs.Limits.{herdsMost}
 use Rattle.farm.specs.Labels.{labelOk}
 use Rattle.farm.specs.Herds.{noHerd}
 use Rattle.farm.proofs.LabelTexts.{no-label}
@@ -39,9 +38,9 @@ use Rattle.reader.specs.Files.{Progress, refused, closed, isCurrent, rec
 -- ---- the effect says what the tests give, and what is read then
 
 -- the tests of a record of another label
-abbrev pub newTests : ℕ → Progress → Label → List (Test FileAnswer)
-newTests n p l = refused n EarlierLabel when earlierLabel (herdsOf (p .farm)) l
-    ∷ refused n NoRoomForHerd when leb herdsMost (closed p .farm .count) ∷ []
+abbrev pub newTests : ℕ → ℕ → Progress → Label → List (Test FileAnswer)
+newTests most n p l = refused n EarlierLabel when earlierLabel (herdsOf (p .farm)) l
+    ∷ refused n NoRoomForHerd when leb most (closed p .farm .count) ∷ []
 
 -- the herd h, whose first record is the n-th, is the one being read
 abbrev pub beginning : ℕ → Progress → Herd → Progress
@@ -51,15 +50,15 @@ beginning n p h = record { farm = closed p .farm; herd = h; first = n; lacking =
 abbrev pub withCurrent : Progress → Herd → Progress
 withCurrent p h = record { farm = p .farm; herd = h; first = p .first; lacking = p .lacking }
 
-pub data EffectSays (n : ℕ) (p : Progress) (x : Parts) : Effect → Herd → Type 0 where
-  wrong : {refusal : Refusal} {h : Herd} → ((z : FileAnswer) → first (recordTests n p x) z ≡ refused n refusal)
-      → EffectSays n p x (Wrong refusal) h
-  adds : {h : Herd} → (p .herd ≡ noHerd → ⊥) → ((z : FileAnswer) → first (recordTests n p x) z ≡ z)
-      → taken n p x ≡ withCurrent p h → EffectSays n p x Adds h
-  begins : {h : Herd} → ((z : FileAnswer) → first (recordTests n p x) z ≡ first (newTests n p (h .label)) z)
-      → taken n p x ≡ beginning n p h → EffectSays n p x Begins h
+pub data EffectSays (most n : ℕ) (p : Progress) (x : Parts) : Effect → Herd → Type 0 where
+  wrong : {refusal : Refusal} {h : Herd} → ((z : FileAnswer) → first (recordTests most n p x) z ≡ refused n refusal)
+      → EffectSays most n p x (Wrong refusal) h
+  adds : {h : Herd} → (p .herd ≡ noHerd → ⊥) → ((z : FileAnswer) → first (recordTests most n p x) z ≡ z)
+      → taken n p x ≡ withCurrent p h → EffectSays most n p x Adds h
+  begins : {h : Herd} → ((z : FileAnswer) → first (recordTests most n p x) z ≡ first (newTests most n p (h .label)) z)
+      → taken n p x ≡ beginning n p h → EffectSays most n p x Begins h
 
-module _ (n : ℕ) (p : Progress) (x : Parts) where
+module _ (most n : ℕ) (p : Progress) (x : Parts) where
   abbrev k : Kind
   k = kindIn x
 
@@ -73,7 +72,7 @@ module _ (n : ℕ) (p : Progress) (x : Parts) where
   abbrev behind : Bool → List (Test FileAnswer)
   behind own =
       refused n EarlierLabel when (not own && earlierLabel (herdsOf (p .farm)) (labelIn x))
-      ∷ refused n NoRoomForHerd when (not own && leb herdsMost (closed p .farm .count))
+      ∷ refused n NoRoomForHerd when (not own && leb most (closed p .farm .count))
       ∷ refused n OtherKind when (own && not (sameKind (p .herd .kind) k))
       ∷ refused n GivenAlready when (own && hasInput (p .herd) i)
       ∷ []
@@ -84,21 +83,21 @@ module _ (n : ℕ) (p : Progress) (x : Parts) where
 
   -- the herd's own label: 10 and 11
   own-effect : (p .herd ≡ noHerd → ⊥) → (same given : Bool)
-      → ((z : FileAnswer) → first (recordTests n p x) z
+      → ((z : FileAnswer) → first (recordTests most n p x) z
       ≡ pick (not same) (refused n OtherKind) (pick given (refused n GivenAlready) z))
       → taken n p x ≡ took true
       → let t = pick (not same) (after (Wrong OtherKind) (p .herd))
       (pick given (after (Wrong GivenAlready) (p .herd)) (after Adds (withInput (p .herd) i g))) in
-      EffectSays n p x (t .effect) (t .herd)
+      EffectSays most n p x (t .effect) (t .herd)
   own-effect some false given l t = EffectSays.wrong l
   own-effect some true true l t = EffectSays.wrong l
   own-effect some true false l t = EffectSays.adds some l t
 
   -- 3 to 7 do not apply
   gives-effect : labelOk (labelIn x) ≡ true → (own : Bool) → isCurrent p x ≡ own
-      → ((z : FileAnswer) → first (recordTests n p x) z ≡ first (behind own) z) → taken n p x ≡ took own
+      → ((z : FileAnswer) → first (recordTests most n p x) z ≡ first (behind own) z) → taken n p x ≡ took own
       → let t = pick own (addingTo (p .herd) k i g) (after Begins (newHerd (labelIn x) k i g)) in
-      EffectSays n p x (t .effect) (t .herd)
+      EffectSays most n p x (t .effect) (t .herd)
   unfolding addingTo newHerd withInput
   gives-effect good true e l t =
       own-effect (λ q. true≢false (sym (rw q at e) ∙ no-label (labelIn x) good)) (sameKind (p .herd .kind) k)
@@ -106,42 +105,42 @@ module _ (n : ℕ) (p : Progress) (x : Parts) where
   gives-effect good false e l t = EffectSays.begins l t
 
   read-lines : {t : RecordRead} → recordRead x ≡ t → (z : FileAnswer)
-      → first (recordTests n p x) z ≡ decided (refused n) (first (behind (isCurrent p x)) z) t
+      → first (recordTests most n p x) z ≡ decided (refused n) (first (behind (isCurrent p x)) z) t
   unfolding recordRead recordTests
   read-lines e z = read-first k i g (refused n) (behind (isCurrent p x)) z (faults x)
       ∙ ap (decided (refused n) (first (behind (isCurrent p x)) z)) e
 
   read-effect : (t : RecordRead) → recordRead x ≡ t
-      → EffectSays n p x (effectBy (p .herd) (labelIn x) t .effect) (effectBy (p .herd) (labelIn x) t .herd)
+      → EffectSays most n p x (effectBy (p .herd) (labelIn x) t .effect) (effectBy (p .herd) (labelIn x) t .herd)
   unfolding recordRead taken
   read-effect (reads.Wrong refusal) e = EffectSays.wrong (read-lines e)
   read-effect (reads.Gives m j v) e =
-      subst (λ (t : RecordRead). EffectSays n p x (effectBy (p .herd) (labelIn x) t .effect)
+      subst (λ (t : RecordRead). EffectSays most n p x (effectBy (p .herd) (labelIn x) t .effect)
       (effectBy (p .herd) (labelIn x) t .herd)) (read-gives k i g (faults x) e)
       (gives-effect (input-good x e) (isCurrent p x) refl (read-lines e) refl)
 
-  pub effect-says : let t = effectOf (p .herd) (entryOf x) in EffectSays n p x (t .effect) (t .herd)
+  pub effect-says : let t = effectOf (p .herd) (entryOf x) in EffectSays most n p x (t .effect) (t .herd)
   unfolding effectOf entryOf
   effect-says = read-effect (recordRead x) refl
 
 -- ---- another label: 8 and 9
 
-pub data Admits (n : ℕ) (p : Progress) (l : Label) : Checked → Type 0 where
-  refuses : {refusal : Refusal} {k : ℕ} → ((z : FileAnswer) → first (newTests n p l) z ≡ refused k refusal)
-      → Admits n p l (Refused refusal k)
-  accepts : ((z : FileAnswer) → first (newTests n p l) z ≡ z) → closed p .farm .count < herdsMost
-      → Admits n p l Accepted
+pub data Admits (most n : ℕ) (p : Progress) (l : Label) : Checked → Type 0 where
+  refuses : {refusal : Refusal} {k : ℕ} → ((z : FileAnswer) → first (newTests most n p l) z ≡ refused k refusal)
+      → Admits most n p l (Refused refusal k)
+  accepts : ((z : FileAnswer) → first (newTests most n p l) z ≡ z) → closed p .farm .count < most
+      → Admits most n p l Accepted
 
-pub admits : (n : ℕ) (p : Progress) (l : Label)
-    → Admits n p l (newLabelChecked (labelsOf (herdsOf (p .farm))) (closed p .farm .count) l n)
+pub admits : (most n : ℕ) (p : Progress) (l : Label)
+    → Admits most n p l (newLabelChecked most (labelsOf (herdsOf (p .farm))) (closed p .farm .count) l n)
 unfolding newLabelChecked earlierLabel
-admits n p l = go (hasLabel (labelsOf (herdsOf (p .farm))) l) (leb herdsMost (closed p .farm .count)) (λ z. refl) refl
+admits most n p l = go (hasLabel (labelsOf (herdsOf (p .farm))) l) (leb most (closed p .farm .count)) (λ z. refl) refl
   where
     go : (earlier full : Bool)
-        → ((z : FileAnswer) → first (newTests n p l) z
+        → ((z : FileAnswer) → first (newTests most n p l) z
         ≡ pick earlier (refused n EarlierLabel) (pick full (refused n NoRoomForHerd) z))
-        → leb herdsMost (closed p .farm .count) ≡ full
-        → Admits n p l (pick earlier (Refused EarlierLabel n) (pick full (Refused NoRoomForHerd n) Accepted))
+        → leb most (closed p .farm .count) ≡ full
+        → Admits most n p l (pick earlier (Refused EarlierLabel n) (pick full (Refused NoRoomForHerd n) Accepted))
     go true full h e = Admits.refuses h
     go false true h e = Admits.refuses h
-    go false false h e = Admits.accepts h (leb-false herdsMost (closed p .farm .count) e)
+    go false false h e = Admits.accepts h (leb-false most (closed p .farm .count) e)

@@ -2,7 +2,7 @@
 -- then 12. The first that applies is given; where none does, the farm that the records say. It mirrors the code for its
 -- contracts: this is how the reader goes; what it means is said of the records alone in `rules_theorems/specs`, and
 -- proved to be the same there.
-use Prim.Native.Nat.{ℕ, _+_}
+use Prim.Native.Nat.{ℕ, _+_, min}
 use mathlib.Core.Bool.{Bool, not, _&&_}
 use mathlib.Core.List.{List, [], _∷_, _++_}
 use lib.ListN.{length, set}
@@ -27,6 +27,7 @@ use Rattle.farm.specs.declared.Checked.the-variants.{Accepted, Refused}
 use Rattle.farm.specs.Limits.{herdsMost}
 use Rattle.farm.specs.Labels.{sameLabel}
 use Rattle.farm.specs.Herds.{noHerd, noFarm}
+use Rattle.limits.specs.declared.Limits.{Limits}
 use Rattle.herd_tests.specs.Tests.{earlierLabel}
 use Rattle.checks.specs.Checks.{herdsOf}
 use Rattle.records.specs.Entries.{entryTests, labelIn, kindIn, slotIn, givenIn}
@@ -70,13 +71,13 @@ closed p =
 abbrev pub isCurrent : Progress → Parts → Bool
 isCurrent p x = sameLabel (p .herd .label) (labelIn x)
 
--- ---- one record: 3 to 11, in that order
+-- ---- one record: 3 to 11, in that order, of a farm that may have `most` herds
 
-unfoldable pub recordTests : ℕ → Progress → Parts → List (Test FileAnswer)
-recordTests n p x =
+unfoldable pub recordTests : ℕ → ℕ → Progress → Parts → List (Test FileAnswer)
+recordTests most n p x =
     entryTests (refused n) x
     ++ (refused n EarlierLabel when (not (isCurrent p x) && earlierLabel (herdsOf (p .farm)) (labelIn x))
-    ∷ refused n NoRoomForHerd when (not (isCurrent p x) && leb herdsMost (closed p .farm .count))
+    ∷ refused n NoRoomForHerd when (not (isCurrent p x) && leb most (closed p .farm .count))
     ∷ refused n OtherKind when (isCurrent p x && not (sameKind (p .herd .kind) (kindIn x)))
     ∷ refused n GivenAlready when (isCurrent p x && hasInput (p .herd) (slotIn x))
     ∷ [])
@@ -107,14 +108,17 @@ finished p = first (refused (closed p .lacking) InputMissing when not (eqb (clos
     (accepted (closed p .farm))
 
 -- from record n on, with these records to come; a broken record is 2
-unfoldable pub readFrom : ℕ → Progress → Reading → FileAnswer
-readFrom n p end = finished p
-readFrom n p broken = refused n RecordBroken
-readFrom n p (cs then rest) = first (recordTests n p (partsOf cs)) (readFrom (n + 1) (taken n p (partsOf cs)) rest)
+unfoldable pub readFrom : ℕ → ℕ → Progress → Reading → FileAnswer
+readFrom most n p end = finished p
+readFrom most n p broken = refused n RecordBroken
+readFrom most n p (cs then rest) =
+    first (recordTests most n p (partsOf cs)) (readFrom most (n + 1) (taken n p (partsOf cs)) rest)
 
--- 01: "at most 65,536 bytes"
-abbrev pub fileMost : ℕ
-fileMost = 65536
+-- how many herds a farm may have: as the limits say, and no more than its record has room for
+abbrev pub herdsWithin : Limits → ℕ
+herdsWithin limits = min (limits .herds) herdsMost
 
-unfoldable pub readOf : List ℕ → FileAnswer
-readOf s = first (refused 0 FileTooLong when ltb fileMost (length s) ∷ []) (readFrom 1 nothingRead (readingOf s))
+unfoldable pub readOf : Limits → List ℕ → FileAnswer
+readOf limits s =
+    first (refused 0 FileTooLong when ltb (limits .bytes) (length s) ∷ [])
+    (readFrom (herdsWithin limits) 1 nothingRead (readingOf s))

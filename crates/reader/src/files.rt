@@ -9,7 +9,7 @@ use farm::herds;
 use farm::labels;
 use progress::Effect;
 ghost use mathlib.Core.Path.{_≡_};
-ghost use Prim.Native.Nat.{_<_};
+ghost use Prim.Native.Nat.{_<_, _≤_};
 ghost use Rattle.grammar.specs.Reading.{readingOf};
 ghost use Rattle.farm.specs.Limits.{herdsMost};
 ghost use Rattle.reader.specs.Files.{refused, nothingRead, finished, readFrom};
@@ -51,10 +51,11 @@ fn finished(mut farm: Farm, c: Current) -> FileAnswer
     }
 }
 
-// The records from the front. The farm is changed where it stands: to hand it over and back would copy it for each
-// herd.
-pub fn read_records(s: &[u8]) -> FileAnswer
-    ensures { λ r. ⌜ r ≡ readFrom 1 nothingRead (readingOf (now (s .entry))) ⌝ }
+// The records from the front, of a farm that may have `most` herds. The farm is changed where it stands: to hand it
+// over and back would copy it for each herd.
+pub fn read_records(s: &[u8], most: usize) -> FileAnswer
+    requires { ⌜ most ≤ herdsMost ⌝ }
+    ensures { λ r. ⌜ r ≡ readFrom most 1 nothingRead (readingOf (now (s .entry))) ⌝ }
 {
     let mut place = ReaderPlace::front();
     let mut farm = herds::no_farm();
@@ -87,6 +88,7 @@ pub fn read_records(s: &[u8]) -> FileAnswer
                     c.first,
                     herd.label,
                     number,
+                    most,
                 );
                 if let Checked::Refused(refusal, record) = checked {
                     return refused(record, refusal);

@@ -23,6 +23,7 @@ use Rattle.farm.specs.declared.Refusal.{Refusal}
 use Rattle.farm.specs.declared.Refusal.the-variants.{NotFourFields, BadLabel, NotInTheList, StandardForbidden, BadValue}
 use Rattle.farm.specs.Labels.{labelOk, labelOf}
 use Rattle.farm.specs.Refusals.{number}
+use Rattle.limits.specs.declared.Limits.{Limits}
 use Rattle.number_values.specs.declared.ValueRead.{ValueRead}
 use Rattle.number_values.specs.declared.ValueRead.the-variants.{Is, Forbidden, Unfit}
 use Rattle.reader.specs.declared.FileAnswer.{FileAnswer}
@@ -120,20 +121,22 @@ four (a ∷ b ∷ c ∷ []) e = absurd (omega arith)
 four (a ∷ b ∷ c ∷ d ∷ []) e = says
 four (a ∷ b ∷ c ∷ d ∷ x ∷ cs) e = absurd (omega arith)
 
-pub data Alone (before : List Record) (cs : Record) : Type 0 where
-  tells : {l : List ℕ} {k : Kind} {i : ℕ} {g : Given} → RecordSays cs l k i g → NoneBelow before cs 8 → Alone before cs
-  wrong : {refusal : Refusal} → Applies before cs refusal → NoneBelow before cs (number refusal)
-      → ((n : ℕ) (z : FileAnswer) → first (entryTests (refused n) (partsOf cs)) z ≡ refused n refusal) → Alone before cs
+pub data Alone (limits : Limits) (before : List Record) (cs : Record) : Type 0 where
+  tells : {l : List ℕ} {k : Kind} {i : ℕ} {g : Given} → RecordSays cs l k i g → NoneBelow limits before cs 8
+      → Alone limits before cs
+  wrong : {refusal : Refusal} → Applies limits before cs refusal → NoneBelow limits before cs (number refusal)
+      → ((n : ℕ) (z : FileAnswer) → first (entryTests (refused n) (partsOf cs)) z ≡ refused n refusal)
+      → Alone limits before cs
 
-module _ (before : List Record) (cs : Record) where
-  no-3 : length cs ≡ 4 → Applies before cs NotFourFields → ⊥
+module _ (limits : Limits) (before : List Record) (cs : Record) where
+  no-3 : length cs ≡ 4 → Applies limits before cs NotFourFields → ⊥
   no-3 e (not-four-fields n) = n e
 
-  no-4 : GoodLabel (labelText cs) → Applies before cs BadLabel → ⊥
+  no-4 : GoodLabel (labelText cs) → Applies limits before cs BadLabel → ⊥
   no-4 g (bad-label n) = n g
 
   module _ {k : Kind} {i : ℕ} (names : NamesInput cs k i) where
-    no-5 : Applies before cs NotInTheList → ⊥
+    no-5 : Applies limits before cs NotInTheList → ⊥
     no-5 (not-in-the-list n) = n k i names
 
     -- the one input that it names has one form
@@ -141,20 +144,21 @@ module _ (before : List Record) (cs : Record) where
     one-form x = let q = one-kind x names in let s = one-slot x names in cc
 
     module _ {r : ValueRead} (e : valueOf (formOf k i) (valueIn cs) ≡ r) where
-      no-6 : (r ≡ Forbidden → ⊥) → Applies before cs StandardForbidden → ⊥
+      no-6 : (r ≡ Forbidden → ⊥) → Applies limits before cs StandardForbidden → ⊥
       no-6 n (standard-forbidden x f s) =
           n (sym e ∙ ap (λ form. valueOf form (valueIn cs)) (sym (one-form x)) ∙ forbidden-said (valueIn cs) f s)
 
-    no-7 : {g : Given} → ValueIs (formOf k i) (valueIn cs) g → Applies before cs BadValue → ⊥
+    no-7 : {g : Given} → ValueIs (formOf k i) (valueIn cs) g → Applies limits before cs BadValue → ⊥
     no-7 {g} v (bad-value x n) = n g (rw (one-form x) v)
 
-  pub alone : Alone before cs
+  pub alone : Alone limits before cs
   alone = count (eqb (length cs) 4) refl
     where
       value : {k : Kind} {i : ℕ} → length cs ≡ 4 → eqb (length cs) 4 ≡ true → GoodLabel (labelText cs)
           → labelOk (labelOf (labelText cs)) ≡ true → NamesInput cs k i
-          → findInput (getD cs 1 []) (getD cs 2 []) ≡ At k i (formOf k i) → NoneBelow before cs 6 → (r : ValueRead)
-          → valueOf (formOf k i) (valueIn cs) ≡ r → Alone before cs
+          → findInput (getD cs 1 []) (getD cs 2 []) ≡ At k i (formOf k i) → NoneBelow limits before cs 6
+          → (r : ValueRead)
+          → valueOf (formOf k i) (valueIn cs) ≡ r → Alone limits before cs
       value {k} {i} h e3 good e4 names e5 below (Is g) e =
           let v = said-value (formOf k i) (valueIn cs) e in
           tells (four cs h good names v) (none-next 7 (none-next 6 below (no-6 names e (λ d. clash cc))) (no-7 names v))
@@ -168,8 +172,8 @@ module _ (before : List Record) (cs : Record) where
           (λ n z. rw (e3, e4, e5, e))
 
       input : length cs ≡ 4 → eqb (length cs) 4 ≡ true → GoodLabel (labelText cs)
-          → labelOk (labelOf (labelText cs)) ≡ true → NoneBelow before cs 5
-          → (r : FoundInput) → findInput (getD cs 1 []) (getD cs 2 []) ≡ r → Alone before cs
+          → labelOk (labelOf (labelText cs)) ≡ true → NoneBelow limits before cs 5
+          → (r : FoundInput) → findInput (getD cs 1 []) (getD cs 2 []) ≡ r → Alone limits before cs
       input h e3 good e4 below (At k i form) e =
           let x = found-named (getD cs 1 []) (getD cs 2 []) e in
           value h e3 good e4 (x .0) (named-found (x .0)) (none-next 5 below (no-5 (x .0)))
@@ -180,15 +184,15 @@ module _ (before : List Record) (cs : Record) where
           below
           (λ n z. rw (e3, e4, e))
 
-      label : length cs ≡ 4 → eqb (length cs) 4 ≡ true → NoneBelow before cs 4 → (t : Bool)
-          → labelOk (labelOf (labelText cs)) ≡ t → Alone before cs
+      label : length cs ≡ 4 → eqb (length cs) 4 ≡ true → NoneBelow limits before cs 4 → (t : Bool)
+          → labelOk (labelOf (labelText cs)) ≡ t → Alone limits before cs
       label h e3 below true e =
           let good = ok-good (labelText cs) e in
           input h e3 good e (none-next 4 below (no-4 good)) (findInput (getD cs 1 []) (getD cs 2 [])) refl
       label h e3 below false e =
           wrong (bad-label (λ good. let g = good-ok (labelText cs) good in clash cc)) below (λ n z. rw (e3, e))
 
-      count : (t : Bool) → eqb (length cs) 4 ≡ t → Alone before cs
+      count : (t : Bool) → eqb (length cs) 4 ≡ t → Alone limits before cs
       count true e = let h = eqb-true (length cs) 4 e in
           label h e (none-next 3 none-yet (no-3 h)) (labelOk (labelOf (labelText cs))) refl
       count false e = wrong (not-four-fields (eqb-false (length cs) 4 e)) none-yet (λ n z. rw e)

@@ -20,6 +20,7 @@ use Rattle.farm.specs.declared.Given.{Given}
 use Rattle.farm.specs.declared.Herd.{Herd}
 use Rattle.farm.specs.declared.Farm.{Farm}
 use Rattle.farm.specs.declared.Refusal.the-variants.{EarlierLabel, NoRoomForHerd, OtherKind, GivenAlready}
+use Rattle.farm.specs.Limits.{herdsMost}
 use Rattle.farm.specs.Labels.{sameLabel, labelOf}
 use Rattle.herd_tests.specs.Tests.{labelsOf, earlierLabel}
 use Rattle.checks.specs.Checks.{herdsOf}
@@ -31,17 +32,17 @@ use Rattle.next_herd.specs.Farms.{lackingWith}
 use Rattle.reader.specs.Files.{Progress, refused, withHerd, closed, recordTests, taken}
 use Rattle.rules_theorems.specs.Lists.{Some, here, there, Apart, Pairs}
 use Rattle.first_refusal.specs.Records.{Record}
-use Rattle.rules_theorems.specs.Rules.{herdsMost, GoodLabel, RecordSays, Gives, PartOf, StandTogether, farmOf}
+use Rattle.rules_theorems.specs.Rules.{GoodLabel, RecordSays, Gives, PartOf, StandTogether, farmOf}
 use Rattle.rules_theorems.proofs.Lists.{neither, apart-last}
 use Rattle.rules_theorems.proofs.Labels.{same-texts, other-label, own-label}
 use Rattle.rules_theorems.proofs.Entries.{reads}
 
 -- ---- a record that says something, with 8 to 11 before it
 
-abbrev pub herdTests : ℕ → Progress → Label → Kind → ℕ → List (Test FileAnswer)
-herdTests n p l k i =
+abbrev pub herdTests : ℕ → ℕ → Progress → Label → Kind → ℕ → List (Test FileAnswer)
+herdTests most n p l k i =
     refused n EarlierLabel when (not (sameLabel (p .herd .label) l) && earlierLabel (herdsOf (p .farm)) l)
-    ∷ refused n NoRoomForHerd when (not (sameLabel (p .herd .label) l) && leb herdsMost (closed p .farm .count))
+    ∷ refused n NoRoomForHerd when (not (sameLabel (p .herd .label) l) && leb most (closed p .farm .count))
     ∷ refused n OtherKind when (sameLabel (p .herd .label) l && not (sameKind (p .herd .kind) k))
     ∷ refused n GivenAlready when (sameLabel (p .herd .label) l && hasInput (p .herd) i)
     ∷ []
@@ -54,14 +55,16 @@ tookTo n p l k i g =
 
 module _ {cs : Record} {l : List ℕ} {k : Kind} {i : ℕ} {g : Given} (said : RecordSays cs l k i g) (n : ℕ)
     (p : Progress) where
-  pub record-tests : (z : FileAnswer) → first (recordTests n p (partsOf cs)) z ≡ first (herdTests n p (labelOf l) k i) z
+  pub record-tests : (most : ℕ) (z : FileAnswer)
+      → first (recordTests most n p (partsOf cs)) z ≡ first (herdTests most n p (labelOf l) k i) z
   unfolding recordTests
-  record-tests z =
+  record-tests most z =
       let r = reads said in
       r .passes n _
-      ∙ ap (λ (t : List ℕ). first (herdTests n p (labelOf t) (kindIn (partsOf cs)) (slotIn (partsOf cs))) z) (r .label)
-      ∙ ap (λ (x : Kind). first (herdTests n p (labelOf l) x (slotIn (partsOf cs))) z) (r .kind)
-      ∙ ap (λ (j : ℕ). first (herdTests n p (labelOf l) k j) z) (r .slot)
+      ∙ ap (λ (t : List ℕ). first (herdTests most n p (labelOf t) (kindIn (partsOf cs)) (slotIn (partsOf cs))) z)
+      (r .label)
+      ∙ ap (λ (x : Kind). first (herdTests most n p (labelOf l) x (slotIn (partsOf cs))) z) (r .kind)
+      ∙ ap (λ (j : ℕ). first (herdTests most n p (labelOf l) k j) z) (r .slot)
 
   pub record-took : taken n p (partsOf cs) ≡ tookTo n p (labelOf l) k i g
   unfolding taken

@@ -24,6 +24,7 @@ use Rattle.farm.specs.declared.Refusal.the-variants.{
   BufferTooShort,
 }
 use Rattle.farm.specs.Refusals.{number}
+use Rattle.limits.specs.declared.Limits.{Limits}
 use Rattle.first_refusal.specs.Records.{Record}
 use Rattle.rules_theorems.specs.Refusals.{
   Applies,
@@ -83,7 +84,8 @@ pub record Within (f : Refusal) : Type 0 where
   pub low : 3 ≤ number f
   pub high : number f ≤ 11
 
-pub applies-within : {before : List Record} {cs : Record} {f : Refusal} → Applies before cs f → Within f
+pub applies-within : {limits : Limits} {before : List Record} {cs : Record} {f : Refusal} → Applies limits before cs f
+    → Within f
 applies-within (not-four-fields _) = record { low = omega arith; high = omega arith }
 applies-within (bad-label _) = record { low = omega arith; high = omega arith }
 applies-within (not-in-the-list _) = record { low = omega arith; high = omega arith }
@@ -95,21 +97,22 @@ applies-within (other-kind _ _ _ _ _) = record { low = omega arith; high = omega
 applies-within (given-already _ _) = record { low = omega arith; high = omega arith }
 
 -- none of the refusals below a number applies
-abbrev pub NoneBelow : List Record → Record → ℕ → Type 0
-NoneBelow before cs k = (f : Refusal) → number f < k → Applies before cs f → ⊥
+abbrev pub NoneBelow : Limits → List Record → Record → ℕ → Type 0
+NoneBelow limits before cs k = (f : Refusal) → number f < k → Applies limits before cs f → ⊥
 
-module _ {before : List Record} {cs : Record} where
-  pub none-yet : NoneBelow before cs 3
+module _ {limits : Limits} {before : List Record} {cs : Record} where
+  pub none-yet : NoneBelow limits before cs 3
   none-yet f h a = let w = applies-within a in omega arith
 
   -- nor that of the next
-  pub none-next : (k : ℕ) → NoneBelow before cs k → (Applies before cs (refusalOf k) → ⊥) → NoneBelow before cs (k + 1)
+  pub none-next : (k : ℕ) → NoneBelow limits before cs k → (Applies limits before cs (refusalOf k) → ⊥)
+      → NoneBelow limits before cs (k + 1)
   none-next k below here f h a = go (eqb (number f) k) refl
     where
       go : (t : Bool) → eqb (number f) k ≡ t → ⊥
-      go true e = here (subst (λ (x : Refusal). Applies before cs x)
+      go true e = here (subst (λ (x : Refusal). Applies limits before cs x)
           (sym (of-number f) ∙ ap refusalOf (eqb-true (number f) k e)) a)
       go false e = let n = eqb-false (number f) k e in below f (omega arith) a
 
-  pub none-at-all : NoneBelow before cs 12 → (f : Refusal) → Applies before cs f → ⊥
+  pub none-at-all : NoneBelow limits before cs 12 → (f : Refusal) → Applies limits before cs f → ⊥
   none-at-all below f a = let w = applies-within a in below f (omega arith) a

@@ -16,12 +16,14 @@ use Rattle.inputs.specs.Inputs.{countOf}
 use Rattle.farm.specs.declared.Herd.{Herd}
 use Rattle.farm.specs.declared.Farm.{Farm}
 use Rattle.farm.specs.declared.Refusal.the-variants.{InputMissing}
+use Rattle.farm.specs.Limits.{herdsMost}
+use Rattle.limits.specs.declared.Limits.{Limits}
 use Rattle.herd_tests.specs.Tests.{labelsOf, lacks}
 use Rattle.reader.specs.declared.FileAnswer.{FileAnswer}
 use Rattle.reader.specs.Files.{Progress, refused, accepted, closed, finished}
 use Rattle.rules_theorems.specs.Lists.{Some, here, there, Apart}
 use Rattle.first_refusal.specs.Records.{Record}
-use Rattle.rules_theorems.specs.Rules.{herdsMost, Gives, PartOf, HerdOf, StandTogether, farmOf, FarmOf}
+use Rattle.rules_theorems.specs.Rules.{Gives, PartOf, HerdOf, StandTogether, farmOf, FarmOf}
 use Rattle.rules_theorems.specs.Refusals.{NamesInput, SameLabel, Lacks}
 use Rattle.rules_theorems.proofs.Lists.{each-append, each-front, each-back, meet, some-left, some-right}
 use Rattle.rules_theorems.proofs.Entries.{one-kind, one-slot, reads}
@@ -127,32 +129,33 @@ lacks-input b {hs} {hs′} {h} own s p s′ d e =
 
 -- ---- the file is read through
 
-pub data Ended (rs : List Record) : FileAnswer → Type 0 where
-  farm : {f : Farm} → FarmOf rs f → Each (λ r. Lacks rs r → ⊥) rs → Ended rs (accepted f)
+pub data Ended (limits : Limits) (rs : List Record) : FileAnswer → Type 0 where
+  farm : {f : Farm} → FarmOf limits rs f → Each (λ r. Lacks rs r → ⊥) rs → Ended limits rs (accepted f)
   lacking : (before : List Record) (cs : Record) (after : List Record) → rs ≡ before ++ (cs ∷ after) → Lacks rs cs
       → Each (λ r. Lacks rs r → ⊥) before
-      → Ended rs (refused (length before + 1) InputMissing)
+      → Ended limits rs (refused (length before + 1) InputMissing)
 
-ended : {rs : List Record} {hs : List Herd} {k : ℕ} → StandTogether PartOf rs hs → Apart (labelsOf hs)
-    → length hs ≤ herdsMost
-    → Lack rs hs k
-    → Ended rs (first (refused k InputMissing when not (eqb k 0) ∷ []) (accepted (farmOf hs)))
-ended {rs} {hs} s d room (nowhere ns) =
+ended : {limits : Limits} {rs : List Record} {hs : List Herd} {k : ℕ} → StandTogether PartOf rs hs → Apart (labelsOf hs)
+    → length hs ≤ limits .herds → Lack rs hs k
+    → Ended limits rs (first (refused k InputMissing when not (eqb k 0) ∷ []) (accepted (farmOf hs)))
+ended {rs = rs} {hs = hs} s d room (nowhere ns) =
     let whole = stand-all s ns in
     farm (record { herds = hs; stand = whole; most = room; apart = d; is = refl }) (none-lack whole rs (λ P e. e))
-ended s d room (first-at {a} {b} {c} {hs} {hs′} {h} s′ ns p e s″) =
+ended {limits} s d room (first-at {a} {b} {c} {hs} {hs′} {h} s′ ns p e s″) =
     rw (ne-eqb (length a + 1) 0 (λ z. omega arith)) (go b (p .some) p (part-records p))
   where
     go : (b : List Record) → 1 ≤ length b → PartOf b h → Each (OfHerd h) b
-        → Ended (a ++ (b ++ c)) (refused (length a + 1) InputMissing)
+        → Ended limits (a ++ (b ++ c)) (refused (length a + 1) InputMissing)
     go [] n p q = absurd (omega arith)
     go (cs ∷ b) n p (more own _) =
         lacking a cs (b ++ c) refl (lacks-input (cs ∷ b) own s′ p s″ d e)
         (none-lack (stand-all s′ ns) (a ++ ((cs ∷ b) ++ c)) (λ P x. each-front a ((cs ∷ b) ++ c) x))
 
-pub finish : {rs : List Record} {p : Progress} → Inv rs p → Ended rs (finished p)
+pub finish : {limits : Limits} → limits .herds ≤ herdsMost → {rs : List Record} {p : Progress} → Inv limits rs p
+    → Ended limits rs (finished p)
 unfolding finished closed
-finish start = ended StandTogether.none Apart.none (omega arith) (nowhere none)
-finish (going {a} {b} {hs} {h} {k} s p new two room lk) =
-    rw (closed-lacking hs h (length a) k room, closed-farm hs h (length a) k room)
+finish fit start = ended StandTogether.none Apart.none (omega arith) (nowhere none)
+finish fit (going {a} {b} {hs} {h} {k} s p new two room lk) =
+    let roomy : length hs < herdsMost = omega (arith, fit) in
+    rw (closed-lacking hs h (length a) k roomy, closed-farm hs h (length a) k roomy)
     (ended (stand-last s p) (apart-herds hs h two new) (omega (arith, length-append hs (h ∷ []))) (lack-last s p lk))

@@ -1,6 +1,7 @@
 pub mod Lists
 pub mod Labels
 pub mod Values
+pub mod Allowed
 pub mod Faults
 pub mod Entries
 pub mod Herds
@@ -14,3 +15,4 @@ pub mod Accepts
 pub mod Passing
 pub mod Refuses
 pub mod Order
+pub mod Wider

@@ -17,10 +17,11 @@ use Rattle.farm.specs.declared.Given.{Given}
 use Rattle.farm.specs.declared.Herd.{Herd}
 use Rattle.farm.specs.declared.Farm.{Farm}
 use Rattle.farm.specs.Labels.{labelOf}
+use Rattle.limits.specs.declared.Limits.{Limits}
 use Rattle.herd_tests.specs.Tests.{labelsOf}
 use Rattle.rules_theorems.specs.Lists.{Some, here, there, Apart, Pairs}
 use Rattle.first_refusal.specs.Records.{Record}
-use Rattle.rules_theorems.specs.Rules.{RecordSays, Gives, HerdOf, StandTogether, KeepsRules, fileMost}
+use Rattle.rules_theorems.specs.Rules.{RecordSays, Gives, HerdOf, StandTogether, KeepsRules}
 use Rattle.rules_theorems.specs.Refusals.{labelText, SameLabel}
 use Rattle.rules_theorems.proofs.Lists.{some-none, each-back}
 use Rattle.rules_theorems.proofs.Herds.{one-herd}
@@ -180,10 +181,10 @@ module _ (x y : Record) (same : SameLabel x y) where
           rw p (subst (λ (l : List Record). StandTogether HerdOf l (h ∷ hs)) (sym (append-assoc rs c (y ∷ x ∷ b))) all)
 
 -- two neighbours of one label change places in a file: it keeps the rules as before, and says the same farm
-pub file-swapped : (s s′ : List ℕ) (f : Farm) (a : List Record) (x y : Record) (b : List Record)
+pub file-swapped : (limits : Limits) (s s′ : List ℕ) (f : Farm) (a : List Record) (x y : Record) (b : List Record)
     → FileOf (a ++ (x ∷ y ∷ b)) s → FileOf (a ++ (y ∷ x ∷ b)) s′
-    → SameLabel x y → length s′ ≤ fileMost → KeepsRules s f → KeepsRules s′ f
-file-swapped s s′ f a x y b reads reads′ same short k =
+    → SameLabel x y → length s′ ≤ limits .bytes → KeepsRules limits s f → KeepsRules limits s′ f
+file-swapped limits s s′ f a x y b reads reads′ same short k =
     let farm = k .says in
     record {
       short = short;

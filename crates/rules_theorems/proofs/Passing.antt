@@ -17,6 +17,10 @@ use Rattle.farm.specs.declared.Herd.{Herd}
 use Rattle.farm.specs.declared.Farm.{Farm}
 use Rattle.farm.specs.declared.Checked.the-variants.{Accepted}
 use Rattle.farm.specs.Labels.{labelOk, sameLabel}
+use Rattle.farm.specs.Limits.{herdsMost}
+use Rattle.limits.specs.declared.Limits.{Limits}
+use Rattle.limits.specs.declared.Source.{Source}
+use Rattle.limits.specs.Limits.{limitsOf}
 use Rattle.herd_tests.specs.Tests.{labelsOf}
 use Rattle.fits.specs.Fits.{fits}
 use Rattle.checks.specs.Checks.{checkFarm}
@@ -27,13 +31,14 @@ use Rattle.farm.proofs.Slots.{count-most}
 use Rattle.reader.specs.Files.{accepted, readOf}
 use Rattle.rules_theorems.specs.Lists.{Apart}
 use Rattle.first_refusal.specs.Records.{Record}
-use Rattle.rules_theorems.specs.Rules.{ValueIs, HerdOf, StandTogether, FarmOf}
+use Rattle.rules_theorems.specs.Rules.{allowed, ValueIs, HerdOf, StandTogether, FarmOf}
+use Rattle.rules_theorems.proofs.Allowed.{as-allowed, allowed-fit}
 use Rattle.rules_theorems.proofs.Lists.{fellow}
 use Rattle.rules_theorems.proofs.Labels.{good-ok}
 use Rattle.rules_theorems.proofs.Entries.{reads}
 use Rattle.rules_theorems.proofs.Herds.{gives-filled}
 use Rattle.rules_theorems.proofs.Farms.{herds-of, Labelled, part-labelled, other-herd}
-use Rattle.rules_theorems.proofs.Accepts.{accepts-exactly}
+use Rattle.rules_theorems.proofs.Accepts.{accepts-within}
 
 -- ---- inputs
 
@@ -100,14 +105,20 @@ stand-good (StandTogether.more x s) = more (herd-good x) (stand-good s)
 
 -- ---- the farm
 
-farm-good : {rs : List Record} {f : Farm} → FarmOf rs f → GoodFarm f
-farm-good {f = f} x =
+farm-good : {limits : Limits} → limits .herds ≤ herdsMost → {rs : List Record} {f : Farm} → FarmOf limits rs f
+    → GoodFarm f
+farm-good fit {f = f} x =
     subst GoodFarm (sym (x .is))
     (record {
-      room = x .most;
+      room = omega (arith, fit, x .most);
       herds = rw (herds-of (x .herds)) (stand-good (x .stand));
       labels = rw (herds-of (x .herds)) (distinct (stand-labelled (x .stand)) (x .apart));
     })
 
-pub accepted-passes : (s : List ℕ) (f : Farm) → readOf s ≡ accepted f → checkFarm f ≡ Accepted
-accepted-passes s f e = good-farm f (farm-good (accepts-exactly s f .0 e .says))
+pub passes-within : (limits : Limits) → limits .herds ≤ herdsMost → (s : List ℕ) (f : Farm)
+    → readOf limits s ≡ accepted f → checkFarm f ≡ Accepted
+passes-within limits fit s f e = good-farm f (farm-good fit (accepts-within limits fit s f .0 e .says))
+
+pub accepted-passes : (source : Source) (s : List ℕ) (f : Farm) → readOf (limitsOf source) s ≡ accepted f
+    → checkFarm f ≡ Accepted
+accepted-passes source s f e = passes-within (allowed source) (allowed-fit source) s f (rw (as-allowed source) at e)

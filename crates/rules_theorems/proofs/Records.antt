@@ -11,9 +11,10 @@ use Rattle.base.proofs.Each.{each-map}
 use Rattle.herd_tests.specs.Tests.{labelsOf}
 use Rattle.farm.specs.declared.Herd.{Herd}
 use Rattle.farm.specs.Labels.{text, labelOf}
+use Rattle.limits.specs.declared.Limits.{Limits}
 use Rattle.rules_theorems.specs.Lists.{Some, here, there, Apart}
 use Rattle.first_refusal.specs.Records.{Record}
-use Rattle.rules_theorems.specs.Rules.{herdsMost, GoodLabel, Gives, PartOf, StandTogether}
+use Rattle.rules_theorems.specs.Rules.{GoodLabel, Gives, PartOf, StandTogether}
 use Rattle.rules_theorems.specs.Refusals.{labelText, NamesInput, ManyLabels}
 use Rattle.rules_theorems.proofs.Lists.{meet, some-front, some-back, some-split, each-left}
 use Rattle.rules_theorems.proofs.Labels.{text-of, one-text}
@@ -95,9 +96,8 @@ seen-texts StandTogether.none none = none
 seen-texts (StandTogether.more {rs = rs} {rest = rest} p s) (more x xs) =
     more (some-front rest (seen-text p x)) (each-map (λ l m. some-back rs m) (seen-texts s xs))
 
-pub many-labels : {a : List Record} {hs : List Herd} → StandTogether PartOf a hs → Each Labelled hs
-    → Apart (labelsOf hs)
-    → length hs ≡ herdsMost → ManyLabels a
+pub many-labels : {limits : Limits} {a : List Record} {hs : List Herd} → StandTogether PartOf a hs → Each Labelled hs
+    → Apart (labelsOf hs) → length hs ≡ limits .herds → ManyLabels limits a
 many-labels {hs = hs} s xs d n =
     record {
       labels = texts hs;
@@ -156,7 +156,8 @@ module _ {A : Type 0} where
       let r = no-longer (t .left) d (all-still (t .is) n ss) in
       omega (arith, one-less (t .is))
 
-pub few-labels : {a : List Record} {hs : List Herd} → StandTogether PartOf a hs → ManyLabels a → herdsMost ≤ length hs
+pub few-labels : {limits : Limits} {a : List Record} {hs : List Herd} → StandTogether PartOf a hs → ManyLabels limits a
+    → limits .herds ≤ length hs
 few-labels {hs = hs} s m =
     omega (
       arith,

@@ -14,11 +14,15 @@ use Rattle.farm.specs.declared.Farm.{Farm}
 use Rattle.farm.specs.declared.Refusal.{Refusal}
 use Rattle.farm.specs.declared.Refusal.the-variants.{FileTooLong, RecordBroken, InputMissing}
 use Rattle.farm.specs.Refusals.{number}
+use Rattle.farm.specs.Limits.{herdsMost}
+use Rattle.limits.specs.declared.Limits.{Limits}
+use Rattle.limits.specs.declared.Source.{Source}
+use Rattle.limits.specs.Limits.{limitsOf}
 use Rattle.reader.specs.declared.FileAnswer.{FileAnswer}
-use Rattle.reader.specs.Files.{refused, accepted, fileMost, readOf}
+use Rattle.reader.specs.Files.{refused, accepted, readOf}
 use Rattle.first_refusal.specs.Records.{Record, RecordAt}
 use Rattle.first_refusal.proofs.Order.{compare, Order, sooner, later, same, by-turn, One, one-of-first}
-use Rattle.rules_theorems.specs.Rules.{KeepsRules}
+use Rattle.rules_theorems.specs.Rules.{allowed, KeepsRules}
 use Rattle.rules_theorems.specs.Refusals.{
   Applies,
   Lacks,
@@ -56,8 +60,9 @@ use Rattle.first_refusal.proofs.Readings.{
 }
 use Rattle.first_refusal.proofs.Readings.{split-read, one-thens, end-not-broken, shorter, as-long, split-list}
 use Rattle.first_refusal.proofs.Readings.{split-at, none-broken, same-records}
+use Rattle.rules_theorems.proofs.Allowed.{as-allowed, allowed-fit}
 use Rattle.rules_theorems.proofs.Lists.{at-split}
-use Rattle.rules_theorems.proofs.Accepts.{accepts-exactly}
+use Rattle.rules_theorems.proofs.Accepts.{accepts-within}
 
 -- ---- the order, by numbers
 
@@ -66,7 +71,7 @@ data Rank : ℕ → Refusal → Type 0 where
   of-record : {n : ℕ} {f : Refusal} → 2 ≤ number f → number f ≤ 11 → Rank n f
   after-all : {n : ℕ} → Rank n InputMissing
 
-rank : {s : List ℕ} {n : ℕ} {f : Refusal} → AppliesAt s n f → Rank n f
+rank : {limits : Limits} {s : List ℕ} {n : ℕ} {f : Refusal} → AppliesAt limits s n f → Rank n f
 rank (AppliesAt.too-long _) = before-all
 rank (AppliesAt.broken _) = of-record {f = RecordBroken} (omega arith) (omega arith)
 rank (AppliesAt.wrong {refusal = f} _ a) = let w = applies-within a in
@@ -109,20 +114,22 @@ herds-before (first-herd d) h = d
 
 -- ---- what applies to a file, by how it reads
 
-module _ (s : List ℕ) where
+not-long : {R : Type 0} {m n : ℕ} → m ≤ n → n < m → R
+not-long a b = absurd (omega arith)
+
+module _ {limits : Limits} (s : List ℕ) where
   -- records that are read through, or up to a break, and for which none of 3 to 11 applies
-  module _ (rs : List Record) {x : Reading} (stops : Stops x) (w : readingOf s ≡ thens rs x) (clean : Clean rs) where
-    none-wrong : {before : List Record} {cs : Record} {f : Refusal} → RecordAt s before cs → Applies before cs f → ⊥
+  module _ (rs : List Record) {x : Reading} (stops : Stops x) (w : readingOf s ≡ thens rs x)
+      (clean : Clean limits rs) where
+    none-wrong : {before : List Record} {cs : Record} {f : Refusal} → RecordAt s before cs → Applies limits before cs f
+        → ⊥
     none-wrong {before} {cs} {f} at a =
         let p = split-at s rs stops w at in
         clean before cs (p .after) (p .is) f a
 
-  not-long : {R : Type 0} → length s ≤ fileMost → fileMost < length s → R
-  not-long a b = absurd (omega arith)
-
   -- a file that is accepted
-  nothing-applies : (rs : List Record) → length s ≤ fileMost → readingOf s ≡ thens rs end → Clean rs
-      → Each (λ r. Lacks rs r → ⊥) rs → (m : ℕ) (f : Refusal) → AppliesAt s m f → ⊥
+  nothing-applies : (rs : List Record) → length s ≤ limits .bytes → readingOf s ≡ thens rs end → Clean limits rs
+      → Each (λ r. Lacks rs r → ⊥) rs → (m : ℕ) (f : Refusal) → AppliesAt limits s m f → ⊥
   nothing-applies rs short w clean whole m f (AppliesAt.too-long h) = not-long short h
   nothing-applies rs short w clean whole m f (AppliesAt.broken b) = none-broken s rs w b
   nothing-applies rs short w clean whole m f (AppliesAt.wrong at a) = none-wrong rs at-end w clean at a
@@ -131,13 +138,14 @@ module _ (s : List ℕ) where
       at-split {a = before} (record { after = after; is = e }) whole (rw (sym e) at l)
 
   -- one that is too long
-  first-long : fileMost < length s → First s 0 FileTooLong
+  first-long : limits .bytes < length s → First limits s 0 FileTooLong
   first-long h = record
       { applies = AppliesAt.too-long h; none-sooner = λ m f a d. none-before d refl refl (rank-some (rank a)) }
 
   -- one that breaks
-  module _ (rs : List Record) (short : length s ≤ fileMost) (w : readingOf s ≡ thens rs broken) (clean : Clean rs) where
-    none-sooner-break : (m : ℕ) (f : Refusal) → AppliesAt s m f → Sooner m f (length rs + 1) RecordBroken → ⊥
+  module _ (rs : List Record) (short : length s ≤ limits .bytes) (w : readingOf s ≡ thens rs broken)
+      (clean : Clean limits rs) where
+    none-sooner-break : (m : ℕ) (f : Refusal) → AppliesAt limits s m f → Sooner m f (length rs + 1) RecordBroken → ⊥
     none-sooner-break m f (AppliesAt.too-long h) d = not-long short h
     none-sooner-break m f (AppliesAt.broken {rs = rs′} b) d =
         let e = one-thens rs rs′ at-break (sym w ∙ breaks-read rs′ s b ∙ broken-thens rs′) in
@@ -152,15 +160,16 @@ module _ (s : List ℕ) where
         end-not-broken (before ++ (cs ∷ after)) rs
         (sym (whole-thens (before ++ (cs ∷ after))) ∙ sym (file-read file) ∙ w)
 
-    first-break : First s (length rs + 1) RecordBroken
+    first-break : First limits s (length rs + 1) RecordBroken
     first-break = record
         { applies = AppliesAt.broken (read-breaks rs s (w ∙ sym (broken-thens rs))); none-sooner = none-sooner-break }
 
   -- one with a record that is refused
-  module _ (before : List Record) (cs : Record) (rest : Reading) {refusal : Refusal} (short : length s ≤ fileMost)
-      (w : readingOf s ≡ thens before (cs then rest)) (clean : Clean before)
-      (applies : Applies before cs refusal) (below : NoneBelow before cs (number refusal)) where
-    wrong-sooner : {before′ : List Record} {cs′ : Record} {f : Refusal} → RecordAt s before′ cs′ → Applies before′ cs′ f
+  module _ (before : List Record) (cs : Record) (rest : Reading) {refusal : Refusal} (short : length s ≤ limits .bytes)
+      (w : readingOf s ≡ thens before (cs then rest)) (clean : Clean limits before)
+      (applies : Applies limits before cs refusal) (below : NoneBelow limits before cs (number refusal)) where
+    wrong-sooner : {before′ : List Record} {cs′ : Record} {f : Refusal} → RecordAt s before′ cs′
+        → Applies limits before′ cs′ f
         → Sooner (length before′ + 1) f (length before + 1) refusal → ⊥
     wrong-sooner {before′} {cs′} {f} at a d =
         go (among-records d (omega (arith, applies-within a .low)) (applies-within applies .high))
@@ -175,7 +184,7 @@ module _ (s : List ℕ) where
         go (inr (e, h)) = let p = as-long rest (record-read at .rest) before before′ cs cs′ same (omega arith) in
             below f h (rw (p .0, p .1) a)
 
-    none-sooner-wrong : (m : ℕ) (f : Refusal) → AppliesAt s m f → Sooner m f (length before + 1) refusal → ⊥
+    none-sooner-wrong : (m : ℕ) (f : Refusal) → AppliesAt limits s m f → Sooner m f (length before + 1) refusal → ⊥
     none-sooner-wrong m f (AppliesAt.too-long h) d = not-long short h
     none-sooner-wrong m f (AppliesAt.broken {rs = rs′} b) d =
         let p = split-read rest rs′ before cs at-break (sym (breaks-read rs′ s b ∙ broken-thens rs′) ∙ w) in
@@ -189,16 +198,17 @@ module _ (s : List ℕ) where
     none-sooner-wrong m f (AppliesAt.wrong at a) d = wrong-sooner at a d
     none-sooner-wrong m f (AppliesAt.missing _ _ _ _ _) d = not-after-all d refl (applies-within applies .high)
 
-    first-wrong : First s (length before + 1) refusal
+    first-wrong : First limits s (length before + 1) refusal
     first-wrong = record
         { applies = AppliesAt.wrong (read-record s before cs rest w) applies; none-sooner = none-sooner-wrong }
 
   -- one with a herd that lacks an input
-  module _ (before : List Record) (cs : Record) (after : List Record) (short : length s ≤ fileMost)
-      (w : readingOf s ≡ thens (before ++ (cs ∷ after)) end) (clean : Clean (before ++ (cs ∷ after)))
+  module _ (before : List Record) (cs : Record) (after : List Record) (short : length s ≤ limits .bytes)
+      (w : readingOf s ≡ thens (before ++ (cs ∷ after)) end) (clean : Clean limits (before ++ (cs ∷ after)))
       (lacking : Lacks (before ++ (cs ∷ after)) cs)
       (whole : Each (λ r. Lacks (before ++ (cs ∷ after)) r → ⊥) before) where
-    none-sooner-missing : (m : ℕ) (f : Refusal) → AppliesAt s m f → Sooner m f (length before + 1) InputMissing → ⊥
+    none-sooner-missing : (m : ℕ) (f : Refusal) → AppliesAt limits s m f → Sooner m f (length before + 1) InputMissing
+        → ⊥
     none-sooner-missing m f (AppliesAt.too-long h) d = not-long short h
     none-sooner-missing m f (AppliesAt.broken b) d = none-broken s (before ++ (cs ∷ after)) w b
     none-sooner-missing m f (AppliesAt.wrong at a) d = none-wrong (before ++ (cs ∷ after)) at-end w clean at a
@@ -207,7 +217,7 @@ module _ (s : List ℕ) where
         let h = herds-before d refl in
         at-split (split-list before before′ cs cs′ after after′ e (omega arith)) whole (rw (sym e) at l)
 
-    first-missing : First s (length before + 1) InputMissing
+    first-missing : First limits s (length before + 1) InputMissing
     first-missing =
         record {
           applies = AppliesAt.missing before cs after
@@ -217,15 +227,15 @@ module _ (s : List ℕ) where
 
 -- ---- what is answered of a file
 
-pub data Outcome (s : List ℕ) : FileAnswer → Type 0 where
-  takes : {f : Farm} → ((m : ℕ) (other : Refusal) → AppliesAt s m other → ⊥) → Outcome s (accepted f)
-  gives : {n : ℕ} {refusal : Refusal} → First s n refusal → Outcome s (refused n refusal)
+pub data Outcome (limits : Limits) (s : List ℕ) : FileAnswer → Type 0 where
+  takes : {f : Farm} → ((m : ℕ) (other : Refusal) → AppliesAt limits s m other → ⊥) → Outcome limits s (accepted f)
+  gives : {n : ℕ} {refusal : Refusal} → First limits s n refusal → Outcome limits s (refused n refusal)
 
-pub outcome : {s : List ℕ} {x : FileAnswer} → Answered s x → Outcome s x
-outcome {s} (too-long h) = gives (first-long s h)
-outcome {s} (read short r) = go r
+pub outcome : {limits : Limits} {s : List ℕ} {x : FileAnswer} → Answered limits s x → Outcome limits s x
+outcome {s = s} (too-long h) = gives (first-long s h)
+outcome {limits} {s} (read short r) = go r
   where
-    go : {x : FileAnswer} → Ran (readingOf s) x → Outcome s x
+    go : {x : FileAnswer} → Ran limits (readingOf s) x → Outcome limits s x
     go (accepts rs w clean _ whole) = takes (nothing-applies s rs short w clean whole)
     go (breaks rs w clean) = gives (first-break s rs short w clean)
     go (wrong before cs rest w clean a below) = gives (first-wrong s before cs rest short w clean a below)
@@ -255,13 +265,14 @@ order after-all before-all = later (too-long-first {refusal = InputMissing} (ome
 order after-all (of-record {f = g} _ h) = later (then-missing {refusal = g} (omega arith))
 order {m} {n} after-all after-all = by-herds m n
 
-pub one-first : {s : List ℕ} {m n : ℕ} {f g : Refusal} → First s m f → First s n g → One m f n g
+pub one-first : {limits : Limits} {s : List ℕ} {m n : ℕ} {f g : Refusal} → First limits s m f → First limits s n g
+    → One m f n g
 one-first x y = one-of-first (λ a b. order (rank a) (rank b)) x y
 
 -- ---- the theorems
 
-module _ (s : List ℕ) (n : ℕ) (refusal : Refusal) where
-  refused-first : {x : FileAnswer} → Outcome s x → x ≡ refused n refusal → First s n refusal
+module _ {limits : Limits} (s : List ℕ) (n : ℕ) (refusal : Refusal) where
+  refused-first : {x : FileAnswer} → Outcome limits s x → x ≡ refused n refusal → First limits s n refusal
   refused-first (takes _) e = let c = ap (λ (a : FileAnswer). a .checked) e in clash cc
   refused-first (gives {n = m} {refusal = f} x) e =
       let c = ap (λ (a : FileAnswer). a .checked) e in
@@ -269,34 +280,48 @@ module _ (s : List ℕ) (n : ℕ) (refusal : Refusal) where
       let q : f ≡ refusal = cc in
       rw (p, q) at x
 
-  first-refused : {x : FileAnswer} → Outcome s x → First s n refusal → x ≡ refused n refusal
+  first-refused : {x : FileAnswer} → Outcome limits s x → First limits s n refusal → x ≡ refused n refusal
   first-refused (takes none) x = absurd (none n refusal (x .applies))
   first-refused (gives {n = m} {refusal = f} y) x =
       let o = one-first y x in
       ap (λ (k : ℕ). refused k f) (o .at-record) ∙ ap (refused n) (o .refusal)
 
-  pub first-refusal : (readOf s ≡ refused n refusal) ↔ First s n refusal
-  first-refusal = (λ e. refused-first (outcome (answered s)) e, λ x. first-refused (outcome (answered s)) x)
-
 -- a file that keeps the rules, with the farm that it says
-pub record Taken (s : List ℕ) : Type 0 where
+pub record Taken (limits : Limits) (s : List ℕ) : Type 0 where
   pub farm : Farm
-  pub keeps : KeepsRules s farm
+  pub keeps : KeepsRules limits s farm
 
--- a file keeps the rules exactly where no refusal applies to it
-pub taken-exactly : (s : List ℕ) → Taken s ↔ ((m : ℕ) (other : Refusal) → AppliesAt s m other → ⊥)
-taken-exactly s = (
-  λ t. clear (outcome (answered s)) (accepts-exactly s (t .farm) .1 (t .keeps)),
-  λ none.
-      keep none (readOf s) refl (outcome (answered s)),
-)
-  where
-    clear : {x : FileAnswer} {f : Farm} → Outcome s x → x ≡ accepted f → (m : ℕ) (other : Refusal) → AppliesAt s m other
-        → ⊥
-    clear (takes none) e = none
-    clear (gives _) e = let c = ap (λ (a : FileAnswer). a .checked) e in clash cc
+-- within any limits of no more herds than a farm's record has room for
+module _ (limits : Limits) (fit : limits .herds ≤ herdsMost) (s : List ℕ) where
+  pub outcome-within : Outcome limits s (readOf limits s)
+  outcome-within = outcome (answered limits fit s)
 
-    keep : ((m : ℕ) (other : Refusal) → AppliesAt s m other → ⊥) → (x : FileAnswer) → readOf s ≡ x → Outcome s x
-        → Taken s
-    keep none x e (takes {f = f} _) = record { farm = f; keeps = accepts-exactly s f .0 e }
-    keep none x e (gives {n = n} {refusal = f} y) = absurd (none n f (y .applies))
+  pub refuses-within : (n : ℕ) (refusal : Refusal) → (readOf limits s ≡ refused n refusal) ↔ First limits s n refusal
+  refuses-within n refusal = (refused-first s n refusal outcome-within, first-refused s n refusal outcome-within)
+
+  -- a file keeps the rules exactly where no refusal applies to it
+  pub taken-exactly : Taken limits s ↔ ((m : ℕ) (other : Refusal) → AppliesAt limits s m other → ⊥)
+  taken-exactly = (
+    λ t. clear outcome-within (accepts-within limits fit s (t .farm) .1 (t .keeps)),
+    λ none.
+        keep none (readOf limits s) refl outcome-within,
+  )
+    where
+      clear : {x : FileAnswer} {f : Farm} → Outcome limits s x → x ≡ accepted f → (m : ℕ) (other : Refusal)
+          → AppliesAt limits s m other → ⊥
+      clear (takes none) e = none
+      clear (gives _) e = let c = ap (λ (a : FileAnswer). a .checked) e in clash cc
+
+      keep : ((m : ℕ) (other : Refusal) → AppliesAt limits s m other → ⊥) → (x : FileAnswer) → readOf limits s ≡ x
+          → Outcome limits s x → Taken limits s
+      keep none x e (takes {f = f} _) = record { farm = f; keeps = accepts-within limits fit s f .0 e }
+      keep none x e (gives {n = n} {refusal = f} y) = absurd (none n f (y .applies))
+
+-- within those of where the file comes from
+module _ (source : Source) (s : List ℕ) where
+  pub outcome-of : Outcome (allowed source) s (readOf (limitsOf source) s)
+  outcome-of = rw (as-allowed source) (outcome-within (allowed source) (allowed-fit source) s)
+
+  pub first-refusal : (n : ℕ) (refusal : Refusal)
+      → (readOf (limitsOf source) s ≡ refused n refusal) ↔ First (allowed source) s n refusal
+  first-refusal n refusal = rw (as-allowed source) (refuses-within (allowed source) (allowed-fit source) s n refusal)

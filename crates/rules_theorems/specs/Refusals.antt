@@ -27,10 +27,11 @@ use Rattle.farm.specs.declared.Refusal.the-variants.{
   InputMissing,
 }
 use Rattle.farm.specs.Refusals.{number}
+use Rattle.limits.specs.declared.Limits.{Limits}
 use Rattle.first_refusal.specs.First.{FirstOf}
 use Rattle.first_refusal.specs.Records.{Record, RecordAt}
 use Rattle.rules_theorems.specs.Lists.{Some, Apart, Last}
-use Rattle.rules_theorems.specs.Rules.{GoodLabel, Names, IsStandard, ValueIs, herdsMost, fileMost}
+use Rattle.rules_theorems.specs.Rules.{GoodLabel, Names, IsStandard, ValueIs}
 
 -- ---- a record's fields; one that is not there is empty
 
@@ -55,28 +56,29 @@ pub data Forbids : Form → Type 0 where
   forbids : {decimals most : ℕ} → Forbids (NoStandard decimals most)
 
 -- as many labels stand among the records as there may be herds
-pub record ManyLabels (rs : List Record) : Type 0 where
+pub record ManyLabels (limits : Limits) (rs : List Record) : Type 0 where
   pub labels : List (List ℕ)
-  pub many : length labels ≡ herdsMost
+  pub many : length labels ≡ limits .herds
   pub apart : Apart labels
   pub each : Each (λ label. Some (λ r. labelText r ≡ label) rs) labels
 
-pub data Applies (before : List Record) (cs : Record) : Refusal → Type 0 where
-  not-four-fields : (length cs ≡ 4 → ⊥) → Applies before cs NotFourFields
-  bad-label : (GoodLabel (labelText cs) → ⊥) → Applies before cs BadLabel
-  not-in-the-list : ((kind : Kind) (slot : ℕ) → NamesInput cs kind slot → ⊥) → Applies before cs NotInTheList
+pub data Applies (limits : Limits) (before : List Record) (cs : Record) : Refusal → Type 0 where
+  not-four-fields : (length cs ≡ 4 → ⊥) → Applies limits before cs NotFourFields
+  bad-label : (GoodLabel (labelText cs) → ⊥) → Applies limits before cs BadLabel
+  not-in-the-list : ((kind : Kind) (slot : ℕ) → NamesInput cs kind slot → ⊥) → Applies limits before cs NotInTheList
   standard-forbidden : {kind : Kind} {slot : ℕ} → NamesInput cs kind slot → Forbids (formOf kind slot)
-      → IsStandard (valueIn cs) → Applies before cs StandardForbidden
+      → IsStandard (valueIn cs) → Applies limits before cs StandardForbidden
   bad-value : {kind : Kind} {slot : ℕ} → NamesInput cs kind slot
-      → ((given : Given) → ValueIs (formOf kind slot) (valueIn cs) given → ⊥) → Applies before cs BadValue
+      → ((given : Given) → ValueIs (formOf kind slot) (valueIn cs) given → ⊥) → Applies limits before cs BadValue
   earlier-label : Some (λ r. SameLabel r cs) before → ((r : Record) → Last before r → SameLabel r cs → ⊥)
-      → Applies before cs EarlierLabel
-  no-room-for-herd : (Some (λ r. SameLabel r cs) before → ⊥) → ManyLabels before → Applies before cs NoRoomForHerd
+      → Applies limits before cs EarlierLabel
+  no-room-for-herd : (Some (λ r. SameLabel r cs) before → ⊥) → ManyLabels limits before
+      → Applies limits before cs NoRoomForHerd
   other-kind : {r : Record} {own kind : Kind} {i slot : ℕ} → Last before r → SameLabel r cs → NamesInput r own i
       → NamesInput cs kind slot → (own ≡ kind → ⊥)
-      → Applies before cs OtherKind
+      → Applies limits before cs OtherKind
   given-already : {kind : Kind} {slot : ℕ} → NamesInput cs kind slot
-      → Some (λ r. SameLabel r cs × NamesInput r kind slot) before → Applies before cs GivenAlready
+      → Some (λ r. SameLabel r cs × NamesInput r kind slot) before → Applies limits before cs GivenAlready
 
 -- ---- 12
 
@@ -92,14 +94,15 @@ pub record Lacks (rs : List Record) (cs : Record) : Type 0 where
 -- ---- a file's refusals
 
 -- the refusal applies to the file, with this record number; 12 with each record of a herd that lacks an input
-pub data AppliesAt (s : List ℕ) : ℕ → Refusal → Type 0 where
-  too-long : fileMost < length s → AppliesAt s 0 FileTooLong
-  broken : {rs : List Record} → Breaks rs s → AppliesAt s (length rs + 1) RecordBroken
-  wrong : {before : List Record} {cs : Record} {refusal : Refusal} → RecordAt s before cs → Applies before cs refusal
-      → AppliesAt s (length before + 1) refusal
+pub data AppliesAt (limits : Limits) (s : List ℕ) : ℕ → Refusal → Type 0 where
+  too-long : limits .bytes < length s → AppliesAt limits s 0 FileTooLong
+  broken : {rs : List Record} → Breaks rs s → AppliesAt limits s (length rs + 1) RecordBroken
+  wrong : {before : List Record} {cs : Record} {refusal : Refusal} → RecordAt s before cs
+      → Applies limits before cs refusal
+      → AppliesAt limits s (length before + 1) refusal
   missing : (before : List Record) (cs : Record) (after : List Record) → FileOf (before ++ (cs ∷ after)) s
       → Lacks (before ++ (cs ∷ after)) cs
-      → AppliesAt s (length before + 1) InputMissing
+      → AppliesAt limits s (length before + 1) InputMissing
 
 -- "1 comes before all; then records from the front, in each 2 to 11 in that order; then 12", which tells the first
 -- record of the first such herd
@@ -113,5 +116,5 @@ pub data Sooner : ℕ → Refusal → ℕ → Refusal → Type 0 where
   first-herd : {m n : ℕ} → m < n → Sooner m InputMissing n InputMissing
 
 -- the first refusal: it applies, and none that applies is sooner
-abbrev pub First : List ℕ → ℕ → Refusal → Type 0
-First s n refusal = FirstOf (AppliesAt s) Sooner n refusal
+abbrev pub First : Limits → List ℕ → ℕ → Refusal → Type 0
+First limits s n refusal = FirstOf (AppliesAt limits s) Sooner n refusal

@@ -23,9 +23,12 @@ use Rattle.farm.specs.declared.Given.{Given}
 use Rattle.farm.specs.declared.Given.the-variants.{Standard, Value, Signed}
 use Rattle.farm.specs.declared.Herd.{Herd}
 use Rattle.farm.specs.declared.Farm.{Farm}
-use Rattle.farm.specs.Limits.{slots}
+use Rattle.farm.specs.Limits.{slots, herdsMost}
 use Rattle.farm.specs.Labels.{labelOf}
 use Rattle.farm.specs.Herds.{noSlot, noHerd}
+use Rattle.limits.specs.declared.Limits.{Limits}
+use Rattle.limits.specs.declared.Source.{Source}
+use Rattle.limits.specs.declared.Source.the-variants.{StandardInput, Cooperative}
 use Rattle.herd_tests.specs.Tests.{labelsOf}
 use Rattle.first_refusal.specs.Records.{Record}
 use Rattle.rules_theorems.specs.Lists.{Some, Apart, Pairs}
@@ -36,13 +39,10 @@ use Rattle.rules_theorems.specs.Lists.{Some, Apart, Pairs}
 abbrev pub labelMost : ℕ
 labelMost = 16
 
--- "At most 64 herds."
-abbrev pub herdsMost : ℕ
-herdsMost = 64
-
--- "at most 65,536 bytes"
-abbrev pub fileMost : ℕ
-fileMost = 65536
+-- "at most 65,536 bytes" and "At most 64 herds": of a file from standard input, and of a cooperative's
+unfoldable pub allowed : Source → Limits
+allowed StandardInput = record { bytes = 65536; herds = 64 }
+allowed Cooperative = record { bytes = 65536; herds = 64 }
 
 -- ---- one record
 
@@ -133,23 +133,23 @@ pub data StandTogether (R : List Record → Herd → Type 0) : List Record → L
   more : {rs rest : List Record} {h : Herd} {hs : List Herd} → R rs h → StandTogether R rest hs
       → StandTogether R (rs ++ rest) (h ∷ hs)
 
--- the farm of these herds, in this order; the places behind them say nothing
+-- the farm of these herds, in this order; the places behind them, for which a farm's record has room, say nothing
 abbrev pub farmOf : List Herd → Farm
 farmOf hs = record { herds = hs ++ replicate (herdsMost - length hs) noHerd; count = length hs }
 
--- records say a farm: its herds, at most 64 and no two with one label
-pub record FarmOf (rs : List Record) (f : Farm) : Type 0 where
+-- records say a farm: its herds, no more than allowed and no two with one label
+pub record FarmOf (limits : Limits) (rs : List Record) (f : Farm) : Type 0 where
   pub herds : List Herd
   pub stand : StandTogether HerdOf rs herds
-  pub most : length herds ≤ herdsMost
+  pub most : length herds ≤ limits .herds
   pub apart : Apart (labelsOf herds)
   pub is : f ≡ farmOf herds
 
 -- ---- a file
 
--- a file of no more bytes, whose records say the farm
-pub record KeepsRules (s : List ℕ) (f : Farm) : Type 0 where
-  pub short : length s ≤ fileMost
+-- a file of no more bytes than allowed, whose records say the farm
+pub record KeepsRules (limits : Limits) (s : List ℕ) (f : Farm) : Type 0 where
+  pub short : length s ≤ limits .bytes
   pub records : List Record
   pub reads : FileOf records s
-  pub says : FarmOf records f
+  pub says : FarmOf limits records f

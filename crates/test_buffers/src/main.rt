@@ -1,6 +1,7 @@
 // Lent buffers of all lengths: 13 below the listing's length, and nothing written; from it on the listing, and every
 // byte past it as it was. And herds past the last, whose listing is empty. The expected output is worked out from 01.
 use farm::Farm;
+use limits::Source;
 use printing::tell;
 use views::View;
 use written::Written;
@@ -45,7 +46,7 @@ enum Call {
 }
 
 fn farm() -> Farm {
-    let answer = calls::read_farm(&PIGS);
+    let answer = calls::read_farm(Source::StandardInput, &PIGS);
     answer.farm
 }
 
@@ -58,10 +59,16 @@ fn write_by(call: Call, out: &mut [u8]) -> Written {
     match call {
         Call::Herd(view) => write_herd(view, farm(), out),
         Call::Totals => calls::totals_listing(farm(), out),
-        Call::FileTotals => calls::file_totals_listing(&PIGS, out),
-        Call::FileHerd(view, herd) => calls::file_herd_view(view, &PIGS, herd, out),
-        Call::File(view) => calls::file_view(view, &PIGS, out),
-        Call::OfNoHerds => calls::file_herd_view(View::Figures, b"", 0, out),
+        Call::FileTotals => calls::file_totals_listing(Source::StandardInput, &PIGS, out),
+        Call::FileHerd(view, herd) => calls::file_herd_view(
+            view,
+            Source::StandardInput,
+            &PIGS,
+            herd,
+            out,
+        ),
+        Call::File(view) => calls::file_view(view, Source::StandardInput, &PIGS, out),
+        Call::OfNoHerds => calls::file_herd_view(View::Figures, Source::StandardInput, b"", 0, out),
     }
 }
 

@@ -2,6 +2,7 @@
 // those of the farm's totals. The expected output is what the second implementation gives.
 use farm::Farm;
 use farm::Herd;
+use limits::Source;
 use outputs::names;
 use outputs::total_names;
 use packs::Packed;
@@ -77,7 +78,7 @@ fn of_totals(f: Farm) {
 }
 
 fn of_file(s: &[u8]) {
-    let answer = calls::read_farm(s);
+    let answer = calls::read_farm(Source::StandardInput, s);
     let f = answer.farm;
     let mut i = 0;
     while i < farm::HERDS_MOST {

@@ -2,6 +2,7 @@
 use crate::script::Change;
 use farm::Farm;
 use farm::Given;
+use farm::HERDS_MOST;
 use farm::Herd;
 use farm::Label;
 use farm::Slot;
@@ -11,8 +12,6 @@ use inputs::slots;
 const SLOTS: usize = 9;
 
 const LABEL_BYTES: usize = 16;
-
-const HERDS: usize = 64;
 
 // How many numbers a script can say.
 const NUMBERS: u32 = 1000000;
@@ -101,7 +100,7 @@ pub fn changed(h: Herd, change: Change) -> Herd {
 
 // A farm of `count` herds, all the first but for the one after it.
 pub fn farm_of(first: Herd, second: Herd, count: usize) -> Farm {
-    let mut herds = [first; HERDS];
+    let mut herds = [first; HERDS_MOST];
     herds[1] = second;
     Farm { herds, count }
 }

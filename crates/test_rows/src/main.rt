@@ -1,8 +1,12 @@
 // 01, Herds on both sides of an edge: the rows that are run and not proved.
+use limits::Source;
 use printing::tell;
 use views::View;
 
-const FILE_MOST: usize = 65536;
+// The numbers of its row 10, bytes and herds.
+const BYTES: usize = 65536;
+
+const HERDS: u8 = 64;
 
 // 9. Roughage 365 days, 24 hours.
 const ALWAYS_OUT: [u8; 459] = *b"\
@@ -101,34 +105,38 @@ fn put_herds(out: &mut [u8], end: u8) -> usize {
 }
 
 // So large an array comes from a function: where it is lent as it is made, every proof counts its elements.
-fn room() -> [u8; FILE_MOST] {
-    [0u8; FILE_MOST]
+fn room() -> [u8; BYTES] {
+    [0u8; BYTES]
 }
 
 fn read_herds(end: u8) {
     let mut file = room();
     let n = put_herds(&mut file, end);
-    let answer = calls::read_farm(base::part_of(&file, 0, n));
+    let answer = calls::read_farm(Source::StandardInput, base::part_of(&file, 0, n));
     let checked = answer.checked;
     tell::checked_line(checked);
     tell::number(answer.farm.count as u64);
 }
 
-fn one_field() -> [u8; FILE_MOST + 1] {
-    [b'a'; FILE_MOST + 1]
+fn one_field() -> [u8; BYTES + 1] {
+    [b'a'; BYTES + 1]
 }
 
 // 10. 65,536 bytes are read, here as one field in place of four, and 65,537 are refusal 1; herd 64 is taken, herd 65 is
 // refusal 9.
 fn limits() {
     let file = one_field();
-    printing::print_view(View::Figures, base::part_of(&file, 0, FILE_MOST));
-    printing::print_view(View::Figures, &file);
-    read_herds(b'0' + 64);
-    read_herds(b'0' + 65);
+    printing::print_view(
+        View::Figures,
+        Source::StandardInput,
+        base::part_of(&file, 0, BYTES),
+    );
+    printing::print_view(View::Figures, Source::StandardInput, &file);
+    read_herds(b'0' + HERDS);
+    read_herds(b'0' + HERDS + 1);
 }
 
 fn main() {
-    printing::print_view(View::Figures, &ALWAYS_OUT);
+    printing::print_view(View::Figures, Source::StandardInput, &ALWAYS_OUT);
     limits();
 }

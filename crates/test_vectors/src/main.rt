@@ -1,6 +1,7 @@
 // The vectors of the second implementation, run through the library: of each file its figures, its notes, its cuts and
 // its reasons, in records and in sentences, are printed, as the commands print them. The expected output is what the
 // second implementation gives.
+use limits::Source;
 use packs::Packed;
 use views::View;
 
@@ -12,11 +13,11 @@ fn run_one(file: &mut [u8]) -> bool {
     match packs::next_file(file) {
         Packed::File(n) => {
             let whole = base::part_of(file, 0, n);
-            printing::print_view(View::Figures, whole);
-            printing::print_view(View::Notes, whole);
-            printing::print_view(View::Cuts, whole);
-            printing::print_view(View::Reasons, whole);
-            printing::print_view(View::Sentences, whole);
+            printing::print_view(View::Figures, Source::StandardInput, whole);
+            printing::print_view(View::Notes, Source::StandardInput, whole);
+            printing::print_view(View::Cuts, Source::StandardInput, whole);
+            printing::print_view(View::Reasons, Source::StandardInput, whole);
+            printing::print_view(View::Sentences, Source::StandardInput, whole);
             true
         }
         Packed::End => false,

@@ -5,6 +5,7 @@ use farm::Refusal;
 use gate::LogAnswer;
 use gate_days::LogRefusal;
 use hints::Input;
+use limits::Source;
 use printing::Printed;
 use printing::input;
 use streams::Outcome;
@@ -46,7 +47,7 @@ fn log_refused(s: &[u8], name: usize, refusal: LogRefusal, record: usize) -> End
 }
 
 fn answer_farm(view: View, s: &[u8], name: usize) -> Ended {
-    match printing::print_view(view, s) {
+    match printing::print_view(view, Source::StandardInput, s) {
         Printed::Listed => Ended::Printed,
         Printed::Refused(refusal, record) => farm_refused(s, name, refusal, record),
         Printed::Broken => messages::unwritten(),

@@ -7,6 +7,7 @@ use Rattle.base.specs.Wrote.{Wrote}
 use Rattle.base.proofs.Clash.{clash}
 use Rattle.farm.specs.declared.Refusal.{Refusal}
 use Rattle.farm.specs.Refusals.{number}
+use Rattle.limits.specs.declared.Source.{Source}
 use Rattle.refusal_line.specs.Lines.{refusalLine}
 use Rattle.refusal_line.specs.Rooms.{lineRoom}
 use Rattle.written.specs.declared.Written.{Written}
@@ -14,22 +15,23 @@ use Rattle.written.specs.declared.Written.the-variants.{Length, Refused}
 use Rattle.views.specs.declared.View.{View}
 use Rattle.views.specs.Program.{outputOf, PutFile, listed, refused, PutOutput}
 
-pub prints-listed : (v : View) (s old mid : List ℕ) (put : Written) → PutFile v s old mid put → (n : ℕ)
-    → put ≡ Length n → PutOutput v s old mid (record { ended = Length n; length = n })
+pub prints-listed : (source : Source) (v : View) (s old mid : List ℕ) (put : Written) → PutFile source v s old mid put
+    → (n : ℕ)
+    → put ≡ Length n → PutOutput source v s old mid (record { ended = Length n; length = n })
 unfolding outputOf
-prints-listed v s old mid (Length m) (listed k w h) n e =
+prints-listed source v s old mid (Length m) (listed k w h) n e =
     let d : m ≡ n = cc in
     record { bytes = rw (k, ← d) w; room = omega (arith, d); ended = rw k }
-prints-listed v s old mid (Refused refusal m) (refused k) n e = clash cc
+prints-listed source v s old mid (Refused refusal m) (refused k) n e = clash cc
 
-pub prints-refused : (v : View) (s old mid : List ℕ) (put : Written) → PutFile v s old mid put
+pub prints-refused : (source : Source) (v : View) (s old mid : List ℕ) (put : Written) → PutFile source v s old mid put
     → (refusal : Refusal) (n : ℕ)
     → put ≡ Refused refusal n → (new : List ℕ) (k : ℕ)
     → Wrote mid 0 (refusalLine (number refusal) n) new k → k ≤ lineRoom
-    → PutOutput v s old new (record { ended = Refused refusal n; length = k })
+    → PutOutput source v s old new (record { ended = Refused refusal n; length = k })
 unfolding outputOf
-prints-refused v s old mid (Length m) (listed r w h) refusal n e new k w′ b = clash cc
-prints-refused v s old mid (Refused f m) (refused r) refusal n e new k w′ b =
+prints-refused source v s old mid (Length m) (listed r w h) refusal n e new k w′ b = clash cc
+prints-refused source v s old mid (Refused f m) (refused r) refusal n e new k w′ b =
     let c : f ≡ refusal = cc in
     let d : m ≡ n = cc in
     record { bytes = rw (r, c, d) w′; room = omega (arith, b); ended = rw (r, c, d) }

@@ -11,6 +11,9 @@ use Rattle.farm.specs.declared.Refusal.{Refusal}
 use Rattle.farm.specs.declared.Checked.{Checked}
 use Rattle.farm.specs.declared.Checked.the-variants as checks
 use Rattle.farm.specs.Refusals.{number}
+use Rattle.limits.specs.declared.Source.{Source}
+use Rattle.limits.specs.declared.Source.the-variants.{StandardInput}
+use Rattle.limits.specs.Limits.{limitsOf}
 use Rattle.reader.specs.Files.{readOf}
 use Rattle.written.specs.declared.Written.{Written}
 use Rattle.written.specs.declared.Written.the-variants.{Length, Refused}
@@ -25,21 +28,21 @@ abbrev pub printed : View → Checked → Farm → List ℕ
 printed view checks.Accepted f = viewed view f
 printed view (checks.Refused refusal record′) f = refusalLine (number refusal) record′
 
-unfoldable pub outputOf : View → List ℕ → List ℕ
-outputOf view s = printed view (readOf s .checked) (readOf s .farm)
+unfoldable pub outputOf : Source → View → List ℕ → List ℕ
+outputOf source view s = printed view (readOf (limitsOf source) s .checked) (readOf (limitsOf source) s .farm)
 
--- "each herd, then the totals"
+-- "from standard input", "each herd, then the totals"
 abbrev pub programOutput : List ℕ → List ℕ
-programOutput s = outputOf Figures s
+programOutput s = outputOf StandardInput Figures s
 
 -- ---- how the code says that a file is listed or refused; no reader has to believe it
 
-pub data PutFile (view : View) (s old : List ℕ) : List ℕ → Written → Type 0 where
-  listed : {new : List ℕ} {n : ℕ} → readOf s .checked ≡ checks.Accepted
-      → Wrote old 0 (viewed view (readOf s .farm)) new n
-      → n ≤ viewRoom → PutFile view s old new (Length n)
-  refused : {refusal : Refusal} {n : ℕ} → readOf s .checked ≡ checks.Refused refusal n
-      → PutFile view s old old (Refused refusal n)
+pub data PutFile (source : Source) (view : View) (s old : List ℕ) : List ℕ → Written → Type 0 where
+  listed : {new : List ℕ} {n : ℕ} → readOf (limitsOf source) s .checked ≡ checks.Accepted
+      → Wrote old 0 (viewed view (readOf (limitsOf source) s .farm)) new n
+      → n ≤ viewRoom → PutFile source view s old new (Length n)
+  refused : {refusal : Refusal} {n : ℕ} → readOf (limitsOf source) s .checked ≡ checks.Refused refusal n
+      → PutFile source view s old old (Refused refusal n)
 
 -- ---- what the program prints was put from the front of the buffer on, and how reading ended is told
 
@@ -47,7 +50,7 @@ abbrev pub endedOf : Checked → ℕ → Written
 endedOf checks.Accepted n = Length n
 endedOf (checks.Refused refusal record′) n = Refused refusal record′
 
-pub record PutOutput (view : View) (s old new : List ℕ) (r : Output) : Type 0 where
-  pub bytes : Wrote old 0 (outputOf view s) new (r .length)
+pub record PutOutput (source : Source) (view : View) (s old new : List ℕ) (r : Output) : Type 0 where
+  pub bytes : Wrote old 0 (outputOf source view s) new (r .length)
   pub room : r .length ≤ viewRoom
-  pub ended : r .ended ≡ endedOf (readOf s .checked) (r .length)
+  pub ended : r .ended ≡ endedOf (readOf (limitsOf source) s .checked) (r .length)

@@ -2,6 +2,7 @@
 use crate::View;
 use crate::farms;
 use farm::Checked;
+use limits::Source;
 use written::Written;
 ghost use Prim.Native.Nat.{_≤_};
 ghost use lib.ListN.{length};
@@ -9,11 +10,11 @@ ghost use Rattle.views.specs.Rooms.{viewRoom};
 ghost use Rattle.views.specs.Program.{PutFile};
 
 // The view of the file's farm; or the refusal, and nothing is written.
-pub fn put_file(s: &[u8], out: &mut [u8], view: View) -> Written
+pub fn put_file(source: Source, s: &[u8], out: &mut [u8], view: View) -> Written
     requires { ⌜ viewRoom ≤ length (now out) ⌝ }
-    ensures { λ r. ⌜ PutFile view (now (s .entry)) (now (out .entry)) (now (out .exit)) r ⌝ }
+    ensures { λ r. ⌜ PutFile source view (now (s .entry)) (now (out .entry)) (now (out .exit)) r ⌝ }
 {
-    let answer = farm_file::read(s);
+    let answer = farm_file::read(source, s);
     let checked = answer.checked;
     match checked {
         Checked::Accepted => Written::Length(farms::put_view(out, answer.farm, view)),

@@ -3,17 +3,18 @@
 use crate::Output;
 use crate::View;
 use crate::files;
+use limits::Source;
 use written::Written;
 ghost use Prim.Native.Nat.{_≤_};
 ghost use lib.ListN.{length};
 ghost use Rattle.views.specs.Rooms.{viewRoom};
 ghost use Rattle.views.specs.Program.{PutOutput};
 
-pub fn put_output(s: &[u8], out: &mut [u8], view: View) -> Output
+pub fn put_output(source: Source, s: &[u8], out: &mut [u8], view: View) -> Output
     requires { ⌜ viewRoom ≤ length (now out) ⌝ }
-    ensures { λ r. ⌜ PutOutput view (now (s .entry)) (now (out .entry)) (now (out .exit)) r ⌝ }
+    ensures { λ r. ⌜ PutOutput source view (now (s .entry)) (now (out .entry)) (now (out .exit)) r ⌝ }
 {
-    match files::put_file(s, out, view) {
+    match files::put_file(source, s, out, view) {
         Written::Length(n) => Output {
             ended: Written::Length(n),
             length: n,

@@ -1,5 +1,6 @@
 -- Files on both sides of the rules, computed from the definitions under one statement: the pigs of 01, a whole file of
--- each other kind, its row 10, and a file for each refusal of reading. Assumes nothing.
+-- each other kind, its row 10, and a file for each refusal of reading, all from standard input; and files on both sides
+-- of other limits. Assumes nothing.
 use Prim.Native.Nat.{ℕ, zero, suc, _+_, _-_, _/_, _%_}
 use Prim.Native.String.{String}
 use mathlib.Core.Path.{_≡_, refl, ap}
@@ -37,6 +38,9 @@ use Rattle.farm.specs.declared.Refusal.the-variants.{
 }
 use Rattle.farm.specs.Limits.{slots}
 use Rattle.farm.specs.Labels.{byteOk, labelOk, sameLabel, labelOf}
+use Rattle.limits.specs.declared.Limits.{Limits}
+use Rattle.limits.specs.declared.Source.the-variants.{StandardInput}
+use Rattle.limits.specs.Limits.{limitsOf}
 use Rattle.herd_tests.specs.Tests.{lacks, earlierLabel}
 use Rattle.farm.specs.Herds.{noSlot}
 use Rattle.reader.specs.declared.FileAnswer.{FileAnswer}
@@ -44,7 +48,7 @@ use Rattle.number_values.specs.Numbers.{signedRead}
 use Rattle.values.specs.Values.{isStandard, valueOf}
 use Rattle.progress.specs.Herds.{withInput, newHerd}
 use Rattle.reader.specs.Files.{refused, accepted, closed, recordTests, taken, finished, readFrom, readOf}
-use Rattle.rules_theorems.specs.Rules.{farmOf, KeepsRules}
+use Rattle.rules_theorems.specs.Rules.{allowed, farmOf, KeepsRules}
 use Rattle.rules_theorems.proofs.Accepts.{accepts-exactly}
 
 -- ---- files
@@ -343,21 +347,55 @@ others =
 abbrev pub examples : List Example
 examples = refusals ++ others
 
-pub worked : map (λ (e : Example). readOf (e .file)) examples ≡ map (λ (e : Example). e .answer) examples
-unfolding readOf readFrom recordTests taken closed finished readingOf readingFrom atStart inPlain inQuotes pastQuote
-    pastCR labelOf labelOk byteOk sameLabel sameBytes lower lowered findInput findAmong firstRow isRow valueOf
+pub worked : map (λ (e : Example). readOf (limitsOf StandardInput) (e .file)) examples
+    ≡ map (λ (e : Example). e .answer) examples
+unfolding limitsOf readOf readFrom recordTests taken closed finished readingOf readingFrom atStart inPlain inQuotes
+    pastQuote pastCR labelOf labelOk byteOk sameLabel sameBytes lower lowered findInput findAmong firstRow isRow valueOf
     isStandard numberOf anyNumberOf zeroFrom wholeFrom pointFrom fractionFrom findName findText firstFrom isName newHerd
     withInput lacks earlierLabel signedRead part
 worked = refl
 
-pub refusals-worked : map (λ (e : Example). readOf (e .file)) refusals ≡ map (λ (e : Example). e .answer) refusals
+pub refusals-worked : map (λ (e : Example). readOf (limitsOf StandardInput) (e .file)) refusals
+    ≡ map (λ (e : Example). e .answer) refusals
 refusals-worked = ap (take (length refusals)) worked
 
 -- the pigs of 01 keep the rules
-pub pigs-keep : KeepsRules pigs (farmOf (pigHerd ∷ []))
-pigs-keep = accepts-exactly pigs (farmOf (pigHerd ∷ [])) .0
+pub pigs-keep : KeepsRules (allowed StandardInput) pigs (farmOf (pigHerd ∷ []))
+pigs-keep = accepts-exactly StandardInput pigs (farmOf (pigHerd ∷ [])) .0
     (ap (λ (l : List FileAnswer). getD l 13 (accepted (farmOf []))) worked)
 
 -- the herds of each kind are read
-pub four-kinds-read : readOf fourKinds ≡ accepted (farmOf fourHerds)
+pub four-kinds-read : readOf (limitsOf StandardInput) fourKinds ≡ accepted (farmOf fourHerds)
 four-kinds-read = ap (λ (l : List FileAnswer). getD l 19 (accepted (farmOf []))) worked
+
+-- ---- within other limits: so many bytes, and so many herds
+
+pub record Limited : Type 0 where
+  pub limits : Limits
+  pub file : List ℕ
+  pub answer : FileAnswer
+
+infix 4 _within_and_reads_
+abbrev _within_and_reads_ : List ℕ → ℕ → ℕ → FileAnswer → Limited
+f within b and h reads a = record { limits = record { bytes = b; herds = h }; file = f; answer = a }
+
+abbrev pub limited : List Limited
+limited =
+    ([] within 0 and 0 reads accepted (farmOf []))
+    ∷ (bytes "\n" within 1 and 0 reads refused 1 RecordBroken)
+    ∷ (bytes "\n" within 0 and 9 reads refused 0 FileTooLong)
+    ∷ (pigs within 1000 and 0 reads refused 1 NoRoomForHerd)
+    ∷ (pigs within 1000 and 1 reads accepted (farmOf (pigHerd ∷ [])))
+    ∷ (pigs ++ deerFile within 2000 and 1 reads refused 9 NoRoomForHerd)
+    ∷ (pigs ++ deerFile within 2000 and 2 reads accepted (farmOf (pigHerd ∷ deerHerd ∷ [])))
+    ∷ (herdsFrom 10 12 within 1000 and 12 reads refused 1 InputMissing)
+    ∷ (herdsFrom 10 13 within 1000 and 12 reads refused 13 NoRoomForHerd)
+    ∷ []
+
+pub worked-within : map (λ (e : Limited). readOf (e .limits) (e .file)) limited
+    ≡ map (λ (e : Limited). e .answer) limited
+unfolding readOf readFrom recordTests taken closed finished readingOf readingFrom atStart inPlain inQuotes pastQuote
+    pastCR labelOf labelOk byteOk sameLabel sameBytes lower lowered findInput findAmong firstRow isRow valueOf
+    isStandard numberOf anyNumberOf zeroFrom wholeFrom pointFrom fractionFrom findName findText firstFrom isName newHerd
+    withInput lacks earlierLabel signedRead part
+worked-within = refl

@@ -42,13 +42,13 @@ returns-2 c =
     let w = c .before .before in
     let k = w .before .before .before in
     let p = k .before .before .before .before in
-    whole-handed _ _ _ _ _ (search needs) (p .put-file2 .ensures) _ (search (needs, k .before .n .given)) _ _ _
+    whole-handed _ _ _ _ _ _ (search needs) (p .put-file2 .ensures) _ (search (needs, k .before .n .given)) _ _ _
     (w .hand-over .ensures)
 
 returns-3 : tie.Need-returns-3
 returns-3 c =
     let p = c .before .before .before .before in
-    whole-refused _ _ _ _ _ (search needs) (p .put-file2 .ensures) _ _ (search (needs, c .before .refusal .given)) _
+    whole-refused _ _ _ _ _ _ (search needs) (p .put-file2 .ensures) _ _ (search (needs, c .before .refusal .given)) _
 
 pub file-view-spec : {M : Type 1} → statement M
 file-view-spec =

@@ -4,6 +4,7 @@ use Prim.Native.Nat.{_-_}
 use mathlib.Core.Path.{_≡_}
 use lib.ListN.{length}
 use borrow.Author.Needs.{needs}
+use Rattle.farm.specs.Limits.{herdsMost}
 use Rattle.farm.proofs.Left.{length-mapped}
 use Rattle.model.proofs.AnswerSteps.{Adding, Turned, adding-steps, turned}
 use Rattle.farm_sums.proofs.sum_of.Statement.{statement}
@@ -15,8 +16,8 @@ Inv-loop farm count sum₀ i₀ sum i = Adding farm i sum
 abbrev μ-loop : tie.MeasureT-loop
 μ-loop farm count sum₀ i₀ sum i = count - i
 
--- the farm has room for 64 herds
-long : (c : tie.Start Inv-loop μ-loop) → length (c .args .t1 .herds) ≡ 64
+-- how many herds the farm has room for
+long : (c : tie.Start Inv-loop μ-loop) → length (c .args .t1 .herds) ≡ herdsMost
 long c = search (needs, length-mapped)
 
 no-figures-requires : tie.Need-no-figures-requires Inv-loop μ-loop

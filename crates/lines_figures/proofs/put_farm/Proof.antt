@@ -3,6 +3,7 @@
 use Prim.Native.Nat.{_-_}
 use mathlib.Core.Path.{_≡_}
 use lib.ListN.{length}
+use Rattle.farm.specs.Limits.{herdsMost}
 use Rattle.farm.proofs.Left.{length-mapped}
 use Rattle.lines_figures.proofs.FarmSteps.{Listing, has-room, asks, ends, farm-steps}
 use borrow.Author.Needs.{needs}
@@ -15,8 +16,8 @@ Inv-loop out₀ farm count sum₀ at₀ i₀ out sum at i = Listing farm out₀ 
 abbrev μ-loop : tie.MeasureT-loop
 μ-loop out₀ farm count sum₀ at₀ i₀ out sum at i = count - i
 
--- the farm has room for 64 herds
-long : (c : tie.Start Inv-loop μ-loop) → length (c .args .t2 .herds) ≡ 64
+-- how many herds the farm has room for
+long : (c : tie.Start Inv-loop μ-loop) → length (c .args .t2 .herds) ≡ herdsMost
 long c = search (needs, length-mapped)
 
 no-figures-requires : tie.Need-no-figures-requires Inv-loop μ-loop

@@ -1,15 +1,16 @@
 -- `test_kilograms::of_file` is safe and ends. Assumes nothing.
 use Prim.Native.Nat.{_≤_, _-_}
+use Rattle.farm.specs.Limits.{herdsMost}
 use borrow.Author.Needs.{needs}
 use Rattle.farm.proofs.Left.{length-mapped}
 use Rattle.test_kilograms.proofs.of_file.Statement.{statement}
 use Rattle.test_kilograms.proofs.of_file.Tie as tie
 
 abbrev Inv-loop : tie.InvT-loop
-Inv-loop s f i₀ i = i ≤ 64
+Inv-loop s f i₀ i = i ≤ herdsMost
 
 abbrev μ-loop : tie.MeasureT-loop
-μ-loop s f i₀ i = 64 - i
+μ-loop s f i₀ i = herdsMost - i
 
 read-farm-requires : tie.Need-read-farm-requires Inv-loop μ-loop
 read-farm-requires c κs = search needs

@@ -8,10 +8,11 @@ use Rattle.reader.proofs.files.read_records.Statement.{statement}
 use Rattle.reader.proofs.files.read_records.Tie as tie
 
 abbrev Inv-loop : tie.InvT-loop
-Inv-loop s place₀ farm₀ labels₀ c₀ number₀ place farm labels c number = Reached s place farm (labels .of) c number
+Inv-loop s most place₀ farm₀ labels₀ c₀ number₀ place farm labels c number =
+    Reached most s place farm (labels .of) c number
 
 abbrev μ-loop : tie.MeasureT-loop
-μ-loop s place₀ farm₀ labels₀ c₀ number₀ place farm labels c number = length s - place .at
+μ-loop s most place₀ farm₀ labels₀ c₀ number₀ place farm labels c number = length s - place .at
 
 pub read-records-spec : {M : Type 1} → statement M
 read-records-spec =
