@@ -2,10 +2,11 @@
 use Prim.Native.Nat.{ℕ, _+_, _≤_, _<_}
 use mathlib.Core.Path.{_≡_, sym, ap, _∙_}
 use mathlib.Core.Bool.{Bool, true, false, not}
-use mathlib.Core.List.{List, [], _∷_, _++_}
+use mathlib.Core.List.{List, [], _∷_, _++_, map-append}
+use native.Mathlib.Numerals.{add-one}
 use native.Mathlib.Omega.{arith}
-use lib.ListN.{length, getD, take, drop, set}
-use lib.Seq.{take-set-le}
+use lib.ListN.{length, getD, take, drop}
+use lib.Seq.{take-suc}
 use borrow.Author.Tests.{lt-ltb, le-ltb}
 use Rattle.base.specs.Pick.{pick}
 use Rattle.base.specs.First.{first}
@@ -16,11 +17,13 @@ use Rattle.farm.specs.declared.Label.{Label}
 use Rattle.farm.specs.declared.Herd.{Herd}
 use Rattle.farm.specs.declared.Farm.{Farm}
 use Rattle.farm.specs.declared.Refusal.{Refusal}
-use Rattle.farm.specs.declared.Refusal.the-variants.{NoRoomForHerd}
+use Rattle.farm.specs.declared.Refusal.the-variants.{BadLabel, EarlierLabel, NoRoomForHerd}
 use Rattle.farm.specs.declared.Checked.{Checked}
 use Rattle.farm.specs.declared.Checked.the-variants.{Accepted, Refused}
-use Rattle.checks.specs.Checks.{herdTests, herdsTests, herdsOf, checkFarm}
-use Rattle.farm.proofs.Left.{taken-at, taken-end, taken-stored}
+use Rattle.farm.specs.Labels.{labelOk}
+use Rattle.farm.proofs.Left.{taken-at, taken-end}
+use Rattle.herd_tests.specs.Tests.{labelsOf, earlierLabel}
+use Rattle.checks.specs.Checks.{inputTests, herdTests, herdsTests, herdsOf, checkFarm}
 use Rattle.checks.proofs.Tests.{first-append, Refusing, refusing, quiet-passes, accepted-quiet, refused-first}
 
 -- ---- a herd: the tests in their order
@@ -36,9 +39,12 @@ pub ruleset flags = (flag-true, flag-false, flag-not-true, flag-not-false)
 
 -- ---- a farm: i herds were accepted
 
--- the tests of a herd refuse
+-- the tests of a herd's inputs refuse, and so do all of a herd
+inputs-refusing : (h : Herd) → Each Refusing (inputTests h)
+inputs-refusing h = more refusing (more refusing none)
+
 pub herd-refusing : (earlier : List Label) (h : Herd) → Each Refusing (herdTests earlier h)
-herd-refusing earlier h = more refusing (more refusing (more refusing (more refusing none)))
+herd-refusing earlier h = more refusing (more refusing (inputs-refusing h))
 
 module _ (f : Farm) where
   pub no-room : herdsMost < f .count → Refused NoRoomForHerd 0 ≡ checkFarm f
@@ -49,43 +55,57 @@ module _ (f : Farm) where
   unfolding checkFarm
   farm-start h = simp (le-ltb herdsMost (f .count) h)
 
-  module _ (ls : List Label) (i : ℕ)
-      (inv : first (herdsTests (take i ls) (drop i (herdsOf f))) Accepted ≡ checkFarm f) where
-    module _ (long : length (f .herds) ≡ herdsMost) (room : f .count ≤ herdsMost) (b : i < f .count) (d : Herd)
-        (r : Checked)
-        (e : r ≡ first (herdTests (take i (set ls i (getD (f .herds) i d .label))) (getD (f .herds) i d))
-        Accepted) where
-      abbrev after : Checked
-      after = first (herdsTests (take i ls ++ (getD (f .herds) i d .label ∷ [])) (drop (i + 1) (herdsOf f))) Accepted
+  module _ (i : ℕ) (inv : first (herdsTests (labelsOf (take i (f .herds))) (drop i (herdsOf f))) Accepted ≡ checkFarm f)
+    where
+      module _ (long : length (f .herds) ≡ herdsMost) (room : f .count ≤ herdsMost) (b : i < f .count) (d : Herd) where
+        abbrev h : Herd
+        h = getD (f .herds) i d
 
-      next-herd : first (herdTests (take i ls) (getD (f .herds) i d)) after ≡ checkFarm f
-      next-herd =
-          let j : i < length (f .herds) = omega arith in
-          let h = getD (f .herds) i d in
-          sym (first-append (herdTests (take i ls) h)
-          (herdsTests (take i ls ++ (h .label ∷ [])) (drop (i + 1) (herdsOf f))) Accepted)
-          ∙ sym (ap (λ (hs : List Herd). first (herdsTests (take i ls) hs) Accepted)
-          (taken-at (f .count) (f .herds) i d b j))
-          ∙ inv
+        abbrev before : List Label
+        before = labelsOf (take i (f .herds))
 
-      -- the herd's own label is stored behind the labels that it is compared with
-      compared : r ≡ first (herdTests (take i ls) (getD (f .herds) i d)) Accepted
-      compared = rw (take-set-le i ls i (getD (f .herds) i d .label) (omega arith)) at e
+        -- what the tests of the herds behind this one give
+        abbrev after : Checked
+        after = first (herdsTests (labelsOf (take (i + 1) (f .herds))) (drop (i + 1) (herdsOf f))) Accepted
 
-      pub herd-accepted : length ls ≡ herdsMost → r ≡ Accepted
-          → first (herdsTests (take (i + 1) (set ls i (getD (f .herds) i d .label))) (drop (i + 1) (herdsOf f)))
-          Accepted ≡ checkFarm f
-      herd-accepted long′ t =
-          let j : i < length ls = omega arith in
-          let q = accepted-quiet (herd-refusing (take i ls) (getD (f .herds) i d)) (sym compared ∙ t) in
-          rw (taken-stored ls i (getD (f .herds) i d .label) j) (sym (quiet-passes q after) ∙ next-herd)
+        next-herd : first (herdTests before h) after ≡ checkFarm f
+        next-herd =
+            let j : i < length (f .herds) = omega arith in
+            let e : labelsOf (take (i + 1) (f .herds)) ≡ before ++ (h .label ∷ []) =
+            rw (add-one, take-suc (f .herds) i d j, map-append) in
+            ap (λ (ls : List Label).
+            first (herdTests before h) (first (herdsTests ls (drop (i + 1) (herdsOf f))) Accepted)) e
+            ∙ sym (first-append (herdTests before h)
+            (herdsTests (before ++ (h .label ∷ [])) (drop (i + 1) (herdsOf f))) Accepted)
+            ∙ sym (ap (λ (hs : List Herd). first (herdsTests before hs) Accepted)
+            (taken-at (f .count) (f .herds) i d b j))
+            ∙ inv
 
-      pub herd-refused : {refusal : Refusal} {place : ℕ} → r ≡ Refused refusal place
-          → Refused refusal place ≡ checkFarm f
-      herd-refused t = sym (refused-first (herd-refusing (take i ls) (getD (f .herds) i d)) (sym compared ∙ t) after)
-          ∙ next-herd
+        module _ (ok : Bool) (o : ok ≡ labelOk (h .label)) where
+          pub herd-labelled-badly : not ok ≡ true → Refused BadLabel 0 ≡ checkFarm f
+          herd-labelled-badly t = sym (rw (sym o, t)) ∙ next-herd
 
-    pub herds-accepted : f .count ≤ i → Accepted ≡ checkFarm f
-    herds-accepted b = rw (taken-end (f .count) (f .herds) i b) at inv
+          module _ (good : not ok ≡ false) where
+            pub herd-labelled-again : (r : Bool) → r ≡ earlierLabel (take i (f .herds)) (h .label) → r ≡ true
+                → Refused EarlierLabel 0 ≡ checkFarm f
+            unfolding earlierLabel
+            herd-labelled-again r e t = sym (rw (sym o, good, sym e ∙ t)) ∙ next-herd
 
-pub ruleset farm-steps = (no-room, farm-start, herd-accepted, herd-refused, herds-accepted)
+            module _ (new : earlierLabel (take i (f .herds)) (h .label) ≡ false) (r : Checked)
+                (e : r ≡ first (inputTests h) Accepted) where
+              own : first (inputTests h) after ≡ checkFarm f
+              unfolding earlierLabel
+              own = sym (rw (sym o, good, new)) ∙ next-herd
+
+              pub herd-accepted : r ≡ Accepted → after ≡ checkFarm f
+              herd-accepted t = sym (quiet-passes (accepted-quiet (inputs-refusing h) (sym e ∙ t)) after) ∙ own
+
+              pub herd-refused : {refusal : Refusal} {place : ℕ} → r ≡ Refused refusal place
+                  → Refused refusal place ≡ checkFarm f
+              herd-refused t = sym (refused-first (inputs-refusing h) (sym e ∙ t) after) ∙ own
+
+      pub herds-accepted : f .count ≤ i → Accepted ≡ checkFarm f
+      herds-accepted b = rw (taken-end (f .count) (f .herds) i b) at inv
+
+pub ruleset farm-steps =
+    (no-room, farm-start, herd-labelled-badly, herd-labelled-again, herd-accepted, herd-refused, herds-accepted)

@@ -5,14 +5,11 @@ use farm::HERDS_MOST;
 use farm::Herd;
 use farm::Refusal;
 use farm::labels;
-use farm::labels::Labels;
+use farm::prints;
 ghost use mathlib.Core.Path.{_≡_};
-ghost use Prim.Native.Nat.{_≤_};
-ghost use lib.ListN.{take};
 ghost use Rattle.base.specs.First.{first};
 ghost use Rattle.farm.specs.declared.Checked.the-variants.{Accepted};
-ghost use Rattle.farm.specs.Limits.{herdsMost};
-ghost use Rattle.checks.specs.Checks.{inputTests, herdTests, checkHerd, checkFarm};
+ghost use Rattle.checks.specs.Checks.{inputTests, checkHerd, checkFarm};
 
 // The checks of a herd's inputs: 12, then 7.
 fn check_inputs(h: Herd) -> Checked
@@ -37,21 +34,8 @@ pub fn check_herd(h: Herd) -> Checked
     check_inputs(h)
 }
 
-// A herd that stands after those of the first `place` labels: 4, 8, 12, 7.
-fn check_after(labels: Labels, place: usize, h: Herd) -> Checked
-    requires { ⌜ place ≤ herdsMost ⌝ }
-    ensures { λ r. ⌜ r ≡ first (herdTests (take place (labels .of)) h) Accepted ⌝ }
-{
-    if !labels::label_ok(h.label) {
-        return Checked::Refused(Refusal::BadLabel, 0);
-    }
-    if herd_tests::earlier_label(labels, place, h.label) {
-        return Checked::Refused(Refusal::EarlierLabel, 0);
-    }
-    check_inputs(h)
-}
-
-// A farm: 9, then herd by herd.
+// A farm: 9, then herd by herd 4, 8, 12, 7. A label is compared with those before it only where one of them has its
+// print: to hand the herds over copies them all.
 pub fn check_farm(farm: Farm) -> Checked
     ensures { λ r. ⌜ r ≡ checkFarm farm ⌝ }
 {
@@ -59,13 +43,21 @@ pub fn check_farm(farm: Farm) -> Checked
     if HERDS_MOST < count {
         return Checked::Refused(Refusal::NoRoomForHerd, 0);
     }
-    let mut labels = labels::no_labels();
+    let mut prints = [0u32; HERDS_MOST];
     let mut i = 0;
     while i < count {
         let h = farm.herds[i];
-        let label = h.label;
-        labels.of[i] = label;
-        match check_after(labels, i, h) {
+        if !labels::label_ok(h.label) {
+            return Checked::Refused(Refusal::BadLabel, 0);
+        }
+        let print = prints::print_of(h.label);
+        if herd_tests::has_print(&prints, i, print) {
+            if herd_tests::earlier_label(farm.herds, i, h.label) {
+                return Checked::Refused(Refusal::EarlierLabel, 0);
+            }
+        }
+        prints[i] = print;
+        match check_inputs(h) {
             Checked::Accepted => {
                 i += 1;
             }

@@ -1,5 +1,5 @@
 -- 01, The farm file: "The label has 1 to 16 bytes from 32 to 126, byte 34 excepted." And the label that a text is, when
--- two labels are one, and labels that say nothing. To be believed.
+-- two labels are one, and a label that says nothing. To be believed.
 use Prim.Native.Nat.{ℕ}
 use mathlib.Core.List.{List, [], _∷_, _++_}
 use mathlib.Core.Bool.{Bool, true, not, _&&_}
@@ -7,8 +7,7 @@ use lib.ListN.{length, take, replicate}
 use lib.Dec.{leb, eqb}
 use Rattle.base.specs.Part.{sameBytes}
 use Rattle.farm.specs.declared.Label.{Label}
-use Rattle.farm.specs.declared.labels.Labels.{Labels}
-use Rattle.farm.specs.Limits.{labelMost, herdsMost}
+use Rattle.farm.specs.Limits.{labelMost}
 
 unfoldable pub byteOk : ℕ → Bool
 byteOk b = leb 32 b && (leb b 126 && not (eqb b 34))
@@ -34,9 +33,6 @@ sameLabel a b = eqb (a .len) (b .len) && (leb (a .len) labelMost && sameBytes (t
 unfoldable pub labelOf : List ℕ → Label
 labelOf s = record { bytes = take labelMost (s ++ replicate labelMost 0); len = length s }
 
--- a label and labels that say nothing
+-- a label that says nothing
 abbrev pub noLabel : Label
 noLabel = record { bytes = replicate labelMost 0; len = 0 }
-
-abbrev pub noLabels : Labels
-noLabels = record { of = replicate herdsMost noLabel }

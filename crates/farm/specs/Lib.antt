@@ -1,4 +1,5 @@
 pub mod Limits
 pub mod Labels
+pub mod Prints
 pub mod Herds
 pub mod Refusals

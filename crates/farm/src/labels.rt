@@ -1,14 +1,8 @@
 // Labels: 1 to 16 bytes from 32 to 126, byte 34 excepted; two are one label where the bytes in use are the same.
-use crate::HERDS_MOST;
 use crate::LABEL_MOST;
 use crate::Label;
 ghost use mathlib.Core.Path.{_≡_};
-ghost use Rattle.farm.specs.Labels.{byteOk, labelOk, sameLabel, labelOf, noLabel, noLabels};
-
-// Labels of herds, in their order, apart from the rest of a farm: they are handed over for each herd.
-pub struct Labels {
-    pub of: [Label; HERDS_MOST],
-}
+ghost use Rattle.farm.specs.Labels.{byteOk, labelOk, sameLabel, labelOf, noLabel};
 
 const LOWEST: u8 = 32;
 
@@ -79,20 +73,12 @@ pub fn label_of(s: &[u8]) -> Label
     }
 }
 
-// A label and labels that say nothing.
+// A label that says nothing.
 pub fn no_label() -> Label
     ensures { λ r. ⌜ r ≡ noLabel ⌝ }
 {
     Label {
         bytes: [0u8; LABEL_MOST],
         len: 0,
-    }
-}
-
-pub fn no_labels() -> Labels
-    ensures { λ r. ⌜ r ≡ noLabels ⌝ }
-{
-    Labels {
-        of: [no_label(); HERDS_MOST],
     }
 }

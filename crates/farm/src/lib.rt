@@ -3,6 +3,7 @@
 use inputs::Kind;
 
 pub mod labels; // when a label is good, and when two are one
+pub mod prints; // a number that labels share which are one
 pub mod herds; // herds and farms that say nothing
 
 // How many bytes a label, how many slots a herd and how many herds a farm has room for.

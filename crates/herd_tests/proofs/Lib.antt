@@ -1,3 +1,4 @@
 pub mod SlotSteps
 pub mod LabelSteps
-pub mod LabelsSoFar
+pub mod PrintSteps
+pub mod PrintsSoFar

@@ -1,15 +1,11 @@
-// A herd that follows the one being read: whether its label is new and there is room for it, and how many herds there
-// are and which lacks an input with the one that was being read.
-use farm::Checked;
+// A herd that follows the one being read: whether there is room for it, and how many herds there are and which lacks an
+// input with the one that was being read.
 use farm::Herd;
-use farm::Label;
-use farm::Refusal;
-use farm::labels::Labels;
 ghost use mathlib.Core.Path.{_≡_};
 ghost use Prim.Native.Nat.{_<_};
-ghost use lib.ListN.{take};
+ghost use lib.Dec.{leb};
 ghost use Rattle.farm.specs.Limits.{herdsMost};
-ghost use Rattle.next_herd.specs.Farms.{lackingWith, herdsSoFar, newLabelChecked};
+ghost use Rattle.next_herd.specs.Farms.{lackingWith, herdsSoFar};
 
 // The first record of the first herd that lacks an input: `before` where one of those before this herd does.
 pub fn lacking_with(before: usize, herd: Herd, first: usize) -> usize
@@ -35,23 +31,10 @@ pub fn herds_so_far(count: usize, first: usize) -> usize
     count + 1
 }
 
-// A record of another label than the herd being read, the farm having these labels and room for `most` herds: 8, or 9.
-pub fn check_new_label(
-    labels: Labels,
-    count: usize,
-    first: usize,
-    label: Label,
-    number: usize,
-    most: usize,
-) -> Checked
+// Has the farm as many herds as it may have, `most`, with the one being read? Then another label is 9.
+pub fn is_full(count: usize, first: usize, most: usize) -> bool
     requires { ⌜ count < herdsMost ⌝ }
-    ensures { λ r. ⌜ r ≡ newLabelChecked most (take count (labels .of)) (herdsSoFar count first) label number ⌝ }
+    ensures { λ r. ⌜ r ≡ leb most (herdsSoFar count first) ⌝ }
 {
-    if herd_tests::earlier_label(labels, count, label) {
-        return Checked::Refused(Refusal::EarlierLabel, number);
-    }
-    if most <= herds_so_far(count, first) {
-        return Checked::Refused(Refusal::NoRoomForHerd, number);
-    }
-    Checked::Accepted
+    most <= herds_so_far(count, first)
 }

@@ -1,12 +1,11 @@
 -- The code looks at 3 to 7, then at the label: where it is that of the herd being read at 10 and 11, else at 8 and 9.
 -- That gives the first that applies of 3 to 11 as they are listed, since 8 and 9 are of another label and 10 and 11 of
 -- the herd's own. Assumes nothing.
-use Prim.Native.Nat.{ℕ, _<_}
+use Prim.Native.Nat.{ℕ}
 use mathlib.Core.Path.{_≡_, refl, sym, ap, _∙_, subst}
 use mathlib.Core.Bool.{Bool, true, false, true≢false, not, _&&_}
 use mathlib.Core.List.{List, [], _∷_}
 use lib.Dec.{leb}
-use borrow.Author.Tests.{leb-false}
 use Rattle.base.specs.Pick.{pick}
 use Rattle.base.specs.First.{Test, _when_, first}
 use Rattle.grammar.specs.Reading.{Parts}
@@ -17,12 +16,10 @@ use Rattle.farm.specs.declared.Given.{Given}
 use Rattle.farm.specs.declared.Herd.{Herd}
 use Rattle.farm.specs.declared.Refusal.{Refusal}
 use Rattle.farm.specs.declared.Refusal.the-variants.{EarlierLabel, NoRoomForHerd, OtherKind, GivenAlready}
-use Rattle.farm.specs.declared.Checked.{Checked}
-use Rattle.farm.specs.declared.Checked.the-variants.{Accepted, Refused}
 use Rattle.farm.specs.Labels.{labelOk}
 use Rattle.farm.specs.Herds.{noHerd}
 use Rattle.farm.proofs.LabelTexts.{no-label}
-use Rattle.herd_tests.specs.Tests.{hasLabel, labelsOf, earlierLabel}
+use Rattle.herd_tests.specs.Tests.{earlierLabel}
 use Rattle.checks.specs.Checks.{herdsOf}
 use Rattle.records.specs.declared.RecordRead.{RecordRead}
 use Rattle.records.specs.declared.RecordRead.the-variants as reads
@@ -30,7 +27,6 @@ use Rattle.progress.specs.declared.Effect.{Effect}
 use Rattle.progress.specs.declared.Effect.the-variants.{Adds, Begins, Wrong}
 use Rattle.records.specs.Entries.{labelIn, kindIn, slotIn, givenIn, recordRead, entryOf}
 use Rattle.progress.specs.Herds.{withInput, newHerd, hasInput, after, addingTo, effectBy, effectOf}
-use Rattle.next_herd.specs.Farms.{newLabelChecked}
 use Rattle.records.proofs.RecordReads.{faults, decided, read-first, read-gives, input-good}
 use Rattle.reader.specs.declared.FileAnswer.{FileAnswer}
 use Rattle.reader.specs.Files.{Progress, refused, closed, isCurrent, recordTests, taken}
@@ -125,22 +121,14 @@ module _ (most n : ℕ) (p : Progress) (x : Parts) where
 
 -- ---- another label: 8 and 9
 
-pub data Admits (most n : ℕ) (p : Progress) (l : Label) : Checked → Type 0 where
-  refuses : {refusal : Refusal} {k : ℕ} → ((z : FileAnswer) → first (newTests most n p l) z ≡ refused k refusal)
-      → Admits most n p l (Refused refusal k)
-  accepts : ((z : FileAnswer) → first (newTests most n p l) z ≡ z) → closed p .farm .count < most
-      → Admits most n p l Accepted
+module _ (most n : ℕ) (p : Progress) (l : Label) (z : FileAnswer) where
+  pub labelled-again : earlierLabel (herdsOf (p .farm)) l ≡ true
+      → first (newTests most n p l) z ≡ refused n EarlierLabel
+  labelled-again e = rw e
 
-pub admits : (most n : ℕ) (p : Progress) (l : Label)
-    → Admits most n p l (newLabelChecked most (labelsOf (herdsOf (p .farm))) (closed p .farm .count) l n)
-unfolding newLabelChecked earlierLabel
-admits most n p l = go (hasLabel (labelsOf (herdsOf (p .farm))) l) (leb most (closed p .farm .count)) (λ z. refl) refl
-  where
-    go : (earlier full : Bool)
-        → ((z : FileAnswer) → first (newTests most n p l) z
-        ≡ pick earlier (refused n EarlierLabel) (pick full (refused n NoRoomForHerd) z))
-        → leb most (closed p .farm .count) ≡ full
-        → Admits most n p l (pick earlier (Refused EarlierLabel n) (pick full (Refused NoRoomForHerd n) Accepted))
-    go true full h e = Admits.refuses h
-    go false true h e = Admits.refuses h
-    go false false h e = Admits.accepts h (leb-false most (closed p .farm .count) e)
+  module _ (new : earlierLabel (herdsOf (p .farm)) l ≡ false) where
+    pub farm-full : leb most (closed p .farm .count) ≡ true → first (newTests most n p l) z ≡ refused n NoRoomForHerd
+    farm-full e = rw (new, e)
+
+    pub begins-another : leb most (closed p .farm .count) ≡ false → first (newTests most n p l) z ≡ z
+    begins-another e = rw (new, e)

@@ -15,7 +15,7 @@ use Rattle.next_herd.specs.Farms.{lackingWith, herdsSoFar}
 use Rattle.reader.specs.declared.files.Current.{Current}
 use Rattle.reader.specs.declared.FileAnswer.{FileAnswer}
 use Rattle.reader.specs.Files.{Progress, nothingRead, refused, accepted, lackingNow, closed, finished}
-use Rattle.reader.specs.Steps.{progress, Underway}
+use Rattle.reader.proofs.Progress.{progress, Underway}
 
 -- ---- a refusal
 
@@ -63,5 +63,3 @@ module _ (f : Farm) (c : Current) (u : Underway (progress f c)) {k : ℕ}
       → accepted (stored f (c .herd) n) ≡ finished (progress f c)
   unfolding finished
   farm-read e q = simp (finished, sym lacking-is, eq-eqb k 0 e, closed-farm u) (cc)
-
-pub ruleset finished-steps = (input-missing, farm-read)

@@ -1,3 +1,4 @@
+pub mod Progress
 pub mod FileSteps
 pub mod Effects
 pub mod LoopSteps

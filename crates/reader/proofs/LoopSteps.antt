@@ -1,43 +1,51 @@
 -- The loop over a file's records: what is read from here on, X, is what is read from the front. Each step opens the
 -- reading by what stands at the place. Assumes nothing.
 use Prim.Native.Nat.{ℕ, _+_, _-_, _≤_, _<_}
-use mathlib.Core.Path.{_≡_, sym, ap, _∙_}
+use mathlib.Core.Path.{_≡_, refl, sym, ap, _∙_}
+use mathlib.Core.Bool.{Bool, true, false}
 use mathlib.Core.List.{List}
 use native.Mathlib.Omega.{arith}
-use lib.Dec.{lit<}
-use lib.ListN.{length, take, drop, set, length-set}
+use lib.Dec.{leb, lit<}
+use lib.ListN.{length, take, drop, set, replicate, length-set, length-replicate}
+use borrow.Author.Tests.{leb-false}
 use Rattle.base.specs.First.{first}
 use Rattle.csv.specs.declared.ReaderPlace.{ReaderPlace}
 use Rattle.csv.specs.declared.Step.{Step}
 use Rattle.grammar.specs.Reading.{Parts, readingOf}
 use Rattle.csv.specs.Places.{partsAt}
 use Rattle.csv.proofs.Steps.{Says, says, end-read}
-use Rattle.farm.specs.declared.Label.{Label}
 use Rattle.farm.specs.declared.Herd.{Herd}
 use Rattle.farm.specs.declared.Farm.{Farm}
-use Rattle.farm.specs.declared.labels.Labels.{Labels}
 use Rattle.farm.specs.declared.Refusal.{Refusal}
-use Rattle.farm.specs.declared.Refusal.the-variants.{RecordBroken}
-use Rattle.farm.specs.declared.Checked.{Checked}
-use Rattle.farm.specs.declared.Checked.the-variants.{Accepted, Refused}
-use Rattle.farm.specs.Labels.{noLabels}
-use Rattle.herd_tests.specs.Tests.{labelsOf}
-use Rattle.checks.specs.Checks.{herdsOf}
+use Rattle.farm.specs.declared.Refusal.the-variants.{RecordBroken, EarlierLabel, NoRoomForHerd, InputMissing}
+use Rattle.farm.specs.Prints.{printOf}
 use Rattle.farm.specs.Limits.{herdsMost}
-use Rattle.farm.specs.Herds.{noHerd, noFarm}
-use Rattle.herd_tests.proofs.LabelsSoFar.{labels-stored}
+use Rattle.farm.specs.Herds.{noHerd}
+use Rattle.herd_tests.specs.Tests.{earlierLabel, printsOf}
+use Rattle.herd_tests.proofs.PrintsSoFar.{prints-stored}
 use Rattle.progress.specs.declared.Effect.{Effect}
 use Rattle.progress.specs.declared.Effect.the-variants.{Adds, Wrong, Begins, Ends}
 use Rattle.places.specs.declared.PlaceRead.{PlaceRead}
 use Rattle.places.specs.Places.{readBy, readAt}
-use Rattle.next_herd.specs.Farms.{lackingWith, herdsSoFar, newLabelChecked}
+use Rattle.next_herd.specs.Farms.{lackingWith, herdsSoFar}
 use Rattle.next_herd.proofs.FarmSteps.{one-counted}
 use Rattle.reader.specs.declared.files.Current.{Current}
 use Rattle.reader.specs.declared.FileAnswer.{FileAnswer}
-use Rattle.reader.specs.Files.{Progress, refused, nothingRead, recordTests, taken, closed, finished, readFrom}
-use Rattle.reader.specs.Steps.{progress, Underway}
-use Rattle.reader.proofs.Effects.{newTests, beginning, withCurrent, EffectSays, effect-says, Admits, admits}
-use Rattle.reader.proofs.FileSteps.{none-yet, stored, closed-farm, closed-lacking}
+use Rattle.reader.specs.Files.{
+  Progress,
+  refused,
+  accepted,
+  nothingRead,
+  recordTests,
+  taken,
+  closed,
+  finished,
+  readFrom,
+}
+use Rattle.reader.proofs.Progress.{progress, Underway}
+use Rattle.reader.proofs.Effects.{newTests, beginning, withCurrent, EffectSays, effect-says}
+use Rattle.reader.proofs.Effects.{labelled-again, farm-full, begins-another}
+use Rattle.reader.proofs.FileSteps.{none-yet, stored, closed-farm, closed-lacking, input-missing, farm-read}
 
 -- what is read from a place on, where the n-th record comes
 abbrev pub onFrom : ℕ → List ℕ → ReaderPlace → ℕ → Progress → FileAnswer
@@ -90,34 +98,35 @@ module _ (most : ℕ) (s : List ℕ) (place : ReaderPlace) (n : ℕ) (p : Progre
 
 -- ---- how far the loop is
 
--- at a place where the n-th record comes: the farm has room for the herd being read, the first of the labels are those
--- of its herds, and what is read from here on is what is read from the front
-pub record Reached (most : ℕ) (s : List ℕ) (place : ReaderPlace) (f : Farm) (ls : List Label) (c : Current)
-    (n : ℕ) : Type 0 where
+-- at a place where the n-th record comes: there is room for the herd being read, the first of the prints are those of
+-- the herds' labels, and what is read from here on is what is read from the front
+pub record Reached (most : ℕ) (s : List ℕ) (place : ReaderPlace) (hs : List Herd) (count : ℕ) (ps : List ℕ)
+    (c : Current) (n : ℕ) : Type 0 where
   pub limit : most ≤ herdsMost
   pub inside : place .at ≤ length s
   pub numbered : (0 < n) × (n ≤ place .at + 1)
-  pub room : f .count < herdsMost
-  pub underway : Underway (progress f c)
-  pub herds-long : length (f .herds) ≡ herdsMost
-  pub labels-long : length ls ≡ herdsMost
-  pub labelled : take (f .count) ls ≡ labelsOf (herdsOf f)
-  pub reads : onFrom most s place n (progress f c) ≡ readFrom most 1 nothingRead (readingOf s)
+  pub room : count < herdsMost
+  pub underway : Underway (progress (record { herds = hs; count = count }) c)
+  pub herds-long : length hs ≡ herdsMost
+  pub prints-long : length ps ≡ herdsMost
+  pub printed : take count ps ≡ printsOf (take count hs)
+  pub reads : onFrom most s place n (progress (record { herds = hs; count = count }) c)
+      ≡ readFrom most 1 nothingRead (readingOf s)
 
-pub at-front : (most : ℕ) → most ≤ herdsMost → (s : List ℕ) {place : ReaderPlace} → place .at ≡ 0 → {f : Farm}
-    → f ≡ noFarm → {ls : Labels}
-    → ls ≡ noLabels → {h : Herd} → h ≡ noHerd
-    → Reached most s place f (ls .of) (record { herd = h; first = 0; lacking = 0 }) 1
-at-front most limit s e q l w =
+pub at-front : (most : ℕ) → most ≤ herdsMost → (s : List ℕ) {place : ReaderPlace} → place .at ≡ 0 → {h : Herd}
+    → h ≡ noHerd → {g : Herd} → g ≡ noHerd
+    → Reached most s place (replicate herdsMost h) 0 (replicate herdsMost 0)
+    (record { herd = g; first = 0; lacking = 0 }) 1
+at-front most limit s e {h} q w =
     record {
       limit = limit;
       inside = omega arith;
       numbered = (omega arith, omega arith);
-      room = rw q (lit< tt);
+      room = lit< tt;
       underway = Underway.not-yet (rw (q, w));
-      herds-long = rw q;
-      labels-long = rw l;
-      labelled = rw q;
+      herds-long = length-replicate herdsMost h;
+      prints-long = length-replicate {A = ℕ} herdsMost 0;
+      printed = refl;
       reads = rw (e, q, w);
     }
 
@@ -128,20 +137,31 @@ data Taken : Effect → Type 0 where
   on-adds : Taken Adds
   on-begins : Taken Begins
 
-module _ (most : ℕ) (s : List ℕ) (place : ReaderPlace) (f : Farm) (ls : List Label) (c : Current) (n : ℕ)
-    (x : Reached most s place f ls c n)
-    {m : PlaceRead} (w : m ≡ readAt s place (c .herd)) where
+module _ (most : ℕ) (s : List ℕ) (place : ReaderPlace) (hs : List Herd) (count : ℕ) (ps : List ℕ) (c : Current) (n : ℕ)
+    (x : Reached most s place hs count ps c n) {m : PlaceRead} (w : m ≡ readAt s place (c .herd)) where
+  -- the farm of the herds that are closed
+  abbrev f : Farm
+  f = record { herds = hs; count = count }
+
   abbrev X : FileAnswer
   X = readFrom most 1 nothingRead (readingOf s)
 
   place-is : {u : Effect} → m .effect ≡ u → PlaceSays most s place n (progress f c) u (m .herd) (m .next)
   place-is z = rw (sym w, z) at (place-says most s place n (progress f c))
 
-  pub read-through : m .effect ≡ Ends → {r : FileAnswer} → r ≡ finished (progress f c) → r ≡ X
-  read-through z {r} v = go (place-is z)
-    where
-      go : PlaceSays most s place n (progress f c) Ends (m .herd) (m .next) → r ≡ X
-      go (PlaceSays.ends e) = v ∙ sym e ∙ x .reads
+  module _ (z : m .effect ≡ Ends) {k : ℕ} (q : k ≡ lackingWith (c .lacking) (c .herd) (c .first)) where
+    read-through : {r : FileAnswer} → r ≡ finished (progress f c) → r ≡ X
+    read-through {r} v = go (place-is z)
+      where
+        go : PlaceSays most s place n (progress f c) Ends (m .herd) (m .next) → r ≡ X
+        go (PlaceSays.ends e) = v ∙ sym e ∙ x .reads
+
+    pub read-lacking : (k ≡ 0 → ⊥) → {r : FileAnswer} → r ≡ refused k InputMissing → r ≡ X
+    read-lacking some v = read-through (input-missing f c (x .underway) q some v)
+
+    pub read-whole : k ≡ 0 → {j : ℕ} → j ≡ herdsSoFar count (c .first)
+        → accepted (record { herds = set hs count (c .herd); count = j }) ≡ X
+    read-whole none v = read-through (farm-read f c (x .underway) q none v)
 
   pub read-wrong : {refusal : Refusal} → m .effect ≡ Wrong refusal → {r : FileAnswer} → r ≡ refused n refusal → r ≡ X
   read-wrong {refusal} z {r} v = go (place-is z)
@@ -161,8 +181,8 @@ module _ (most : ℕ) (s : List ℕ) (place : ReaderPlace) (f : Farm) (ls : List
     pub adds-less : length s - m .next .at < length s - place .at
     adds-less = omega (arith, past-it Taken.on-adds z)
 
-    pub added : Reached most s (m .next) f ls (record { herd = m .herd; first = c .first; lacking = c .lacking })
-        (n + 1)
+    pub added : Reached most s (m .next) hs count ps
+        (record { herd = m .herd; first = c .first; lacking = c .lacking }) (n + 1)
     added =
         let y = past-it Taken.on-adds z in
         record {
@@ -172,8 +192,8 @@ module _ (most : ℕ) (s : List ℕ) (place : ReaderPlace) (f : Farm) (ls : List
           room = x .room;
           underway = go (place-is z) (x .underway);
           herds-long = x .herds-long;
-          labels-long = x .labels-long;
-          labelled = x .labelled;
+          prints-long = x .prints-long;
+          printed = x .printed;
           reads = on (place-is z);
         }
       where
@@ -187,66 +207,64 @@ module _ (most : ℕ) (s : List ℕ) (place : ReaderPlace) (f : Farm) (ls : List
         go (PlaceSays.adds some e past fits) (Underway.not-yet k) = absurd (some (ap (λ (p : Progress). p .herd) k))
 
   -- a record of another label
-  module _ (z : m .effect ≡ Begins) {b : Checked}
-      (v : b ≡ newLabelChecked most (take (f .count) ls) (herdsSoFar (f .count) (c .first)) (m .herd .label) n) where
-    admits-is : {k : Checked} → b ≡ k → Admits most n (progress f c) (m .herd .label) k
-    admits-is y =
-        let e : newLabelChecked most (labelsOf (herdsOf f)) (closed (progress f c) .farm .count) (m .herd .label) n
-        ≡ b =
-        rw (closed-farm (x .underway), sym (x .labelled)) (sym v) in
-        rw (e ∙ y) at (admits most n (progress f c) (m .herd .label))
-
-    pub read-refused : {refusal : Refusal} {k : ℕ} → b ≡ Refused refusal k → {r : FileAnswer} → r ≡ refused k refusal
-        → r ≡ X
-    read-refused {refusal} {k} y {r} q = go (place-is z) (admits-is y)
+  module _ (z : m .effect ≡ Begins) where
+    pub read-earlier : {b : Bool} → b ≡ earlierLabel (take count hs) (m .herd .label) → b ≡ true
+        → {r : FileAnswer} → r ≡ refused n EarlierLabel → r ≡ X
+    read-earlier {b} q t {r} v = go (place-is z)
       where
-        go : PlaceSays most s place n (progress f c) Begins (m .herd) (m .next)
-            → Admits most n (progress f c) (m .herd .label) (Refused refusal k) → r ≡ X
-        go (PlaceSays.begins e past fits) (Admits.refuses h) = q ∙ sym (h _) ∙ sym e ∙ x .reads
+        go : PlaceSays most s place n (progress f c) Begins (m .herd) (m .next) → r ≡ X
+        go (PlaceSays.begins e past fits) =
+            v ∙ sym (labelled-again most n (progress f c) (m .herd .label) _ (sym q ∙ t)) ∙ sym e ∙ x .reads
 
     pub begins-less : length s - m .next .at < length s - place .at
     begins-less = omega (arith, past-it Taken.on-begins z)
 
-    pub begun : b ≡ Accepted → {k : ℕ} → k ≡ herdsSoFar (f .count) (c .first) → {lacking′ : ℕ}
-        → lacking′ ≡ lackingWith (c .lacking) (c .herd) (c .first)
-        → Reached most s (m .next) (stored f (c .herd) k) (set ls (f .count) (c .herd .label))
-        (record { herd = m .herd; first = n; lacking = lacking′ }) (n + 1)
-    begun y {k} q {lacking′} t =
-        let g = past-it Taken.on-begins z in
-        record {
-          limit = x .limit;
-          inside = g .1;
-          numbered = (omega arith, omega (arith, g, x .numbered));
-          room = roomy (admits-is y);
-          underway = Underway.reading (λ e. omega (arith, x .numbered));
-          herds-long = rw length-set (x .herds-long);
-          labels-long = rw length-set (x .labels-long);
-          labelled = labels (x .underway);
-          reads = on (place-is z) (admits-is y);
-        }
-      where
-        roomy : Admits most n (progress f c) (m .herd .label) Accepted → k < herdsMost
-        roomy (Admits.accepts h room) =
-            let below : k < most = rw q (rw (closed-farm (x .underway)) at room) in
-            omega (arith, x .limit)
+    module _ (new : earlierLabel (take count hs) (m .herd .label) ≡ false) {b : Bool}
+        (v : b ≡ leb most (herdsSoFar count (c .first))) where
+      so-far : {t : Bool} → b ≡ t → leb most (closed (progress f c) .farm .count) ≡ t
+      so-far y = rw (closed-farm (x .underway)) (sym v ∙ y)
 
-        labels : Underway (progress f c)
-            → take k (set ls (f .count) (c .herd .label)) ≡ labelsOf (take k (set (f .herds) (f .count) (c .herd)))
-        labels (Underway.not-yet e) = rw (q, none-yet e)
-        labels (Underway.reading k) =
-            rw (q, sym (one-counted (f .count) (c .first) k))
-            (labels-stored ls (f .herds) (f .count) (x .labelled) (x .labels-long) (x .herds-long) (x .room)
-            (c .herd))
+      pub read-full : b ≡ true → {r : FileAnswer} → r ≡ refused n NoRoomForHerd → r ≡ X
+      read-full y {r} q = go (place-is z)
+        where
+          go : PlaceSays most s place n (progress f c) Begins (m .herd) (m .next) → r ≡ X
+          go (PlaceSays.begins e past fits) =
+              q ∙ sym (farm-full most n (progress f c) (m .herd .label) _ new (so-far y)) ∙ sym e ∙ x .reads
 
-        is : progress (stored f (c .herd) k) (record { herd = m .herd; first = n; lacking = lacking′ })
-            ≡ beginning n (progress f c) (m .herd)
-        is = rw (t, q, closed-farm (x .underway), closed-lacking (x .underway))
+      pub begun : b ≡ false → {k : ℕ} → k ≡ herdsSoFar count (c .first) → {lacking′ : ℕ}
+          → lacking′ ≡ lackingWith (c .lacking) (c .herd) (c .first) → {p : ℕ} → p ≡ printOf (c .herd .label)
+          → Reached most s (m .next) (set hs count (c .herd)) k (set ps count p)
+          (record { herd = m .herd; first = n; lacking = lacking′ }) (n + 1)
+      begun y {k} q {lacking′} t {p} u =
+          let g = past-it Taken.on-begins z in
+          let below : k < most = rw q (leb-false most (herdsSoFar count (c .first)) (sym v ∙ y)) in
+          record {
+            limit = x .limit;
+            inside = g .1;
+            numbered = (omega arith, omega (arith, g, x .numbered));
+            room = omega (arith, x .limit);
+            underway = Underway.reading (λ e. omega (arith, x .numbered));
+            herds-long = rw length-set (x .herds-long);
+            prints-long = rw length-set (x .prints-long);
+            printed = prints (x .underway);
+            reads = on (place-is z);
+          }
+        where
+          prints : Underway (progress f c) → take k (set ps count p) ≡ printsOf (take k (set hs count (c .herd)))
+          prints (Underway.not-yet e) = rw (q, none-yet e)
+          prints (Underway.reading r) =
+              rw (q, sym (one-counted count (c .first) r))
+              (prints-stored ps hs count (x .printed) (x .prints-long) (x .herds-long) (x .room) (c .herd) u)
 
-        on : PlaceSays most s place n (progress f c) Begins (m .herd) (m .next)
-            → Admits most n (progress f c) (m .herd .label) Accepted
-            → onFrom most s (m .next) (n + 1)
-            (progress (stored f (c .herd) k) (record { herd = m .herd; first = n; lacking = lacking′ })) ≡ X
-        on (PlaceSays.begins e past fits) (Admits.accepts h room) = ap (onFrom most s (m .next) (n + 1)) is ∙ sym (h _)
-            ∙ sym e ∙ x .reads
+          is : progress (stored f (c .herd) k) (record { herd = m .herd; first = n; lacking = lacking′ })
+              ≡ beginning n (progress f c) (m .herd)
+          is = rw (t, q, closed-farm (x .underway), closed-lacking (x .underway))
 
-pub ruleset read-steps = (at-front, read-through, read-wrong, adds-less, added, read-refused, begins-less, begun)
+          on : PlaceSays most s place n (progress f c) Begins (m .herd) (m .next)
+              → onFrom most s (m .next) (n + 1)
+              (progress (stored f (c .herd) k) (record { herd = m .herd; first = n; lacking = lacking′ })) ≡ X
+          on (PlaceSays.begins e past fits) = ap (onFrom most s (m .next) (n + 1)) is
+              ∙ sym (begins-another most n (progress f c) (m .herd .label) _ new (so-far y)) ∙ sym e ∙ x .reads
+
+pub ruleset read-steps =
+    (at-front, read-lacking, read-whole, read-wrong, adds-less, added, read-earlier, begins-less, read-full, begun)

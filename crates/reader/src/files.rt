@@ -3,17 +3,17 @@ use crate::FileAnswer;
 use csv::ReaderPlace;
 use farm::Checked;
 use farm::Farm;
+use farm::HERDS_MOST;
 use farm::Herd;
 use farm::Refusal;
 use farm::herds;
-use farm::labels;
+use farm::prints;
 use progress::Effect;
 ghost use mathlib.Core.Path.{_≡_};
-ghost use Prim.Native.Nat.{_<_, _≤_};
+ghost use Prim.Native.Nat.{_≤_};
 ghost use Rattle.grammar.specs.Reading.{readingOf};
 ghost use Rattle.farm.specs.Limits.{herdsMost};
-ghost use Rattle.reader.specs.Files.{refused, nothingRead, finished, readFrom};
-ghost use Rattle.reader.specs.Steps.{Underway, progress};
+ghost use Rattle.reader.specs.Files.{refused, nothingRead, readFrom};
 
 // The herd being read, and the number of its first record, 0 where there is none yet; and of the herds before it, the
 // first record of the first that lacks an input, 0 where none does.
@@ -32,34 +32,17 @@ pub fn refused(record: usize, refusal: Refusal) -> FileAnswer
     }
 }
 
-// Read through: 12, or the farm.
-fn finished(mut farm: Farm, c: Current) -> FileAnswer
-    requires { ⌜ (farm .count < herdsMost) × Underway (progress farm c) ⌝ }
-    ensures { λ r. ⌜ r ≡ finished (progress farm c) ⌝ }
-{
-    let herd = c.herd;
-    let lacking = next_herd::lacking_with(c.lacking, herd, c.first);
-    if lacking != 0 {
-        return refused(lacking, Refusal::InputMissing);
-    }
-    let count = farm.count;
-    farm.herds[count] = herd;
-    farm.count = next_herd::herds_so_far(count, c.first);
-    FileAnswer {
-        checked: Checked::Accepted,
-        farm,
-    }
-}
-
-// The records from the front, of a farm that may have `most` herds. The farm is changed where it stands: to hand it
-// over and back would copy it for each herd.
+// The records from the front, of a farm that may have `most` herds; then 12. The herds are kept here, and handed back
+// once: to hand them on would copy them all. For the same reason a label is compared with those of the herds before it
+// only where one of them has its print.
 pub fn read_records(s: &[u8], most: usize) -> FileAnswer
     requires { ⌜ most ≤ herdsMost ⌝ }
     ensures { λ r. ⌜ r ≡ readFrom most 1 nothingRead (readingOf (now (s .entry))) ⌝ }
 {
     let mut place = ReaderPlace::front();
-    let mut farm = herds::no_farm();
-    let mut labels = labels::no_labels();
+    let mut herds = [herds::no_herd(); HERDS_MOST];
+    let mut count = 0;
+    let mut prints = [0u32; HERDS_MOST];
     let mut c = Current {
         herd: herds::no_herd(),
         first: 0,
@@ -72,7 +55,19 @@ pub fn read_records(s: &[u8], most: usize) -> FileAnswer
         let herd = read.herd;
         let after = number + 1;
         match effect {
-            Effect::Ends => return finished(farm, c),
+            Effect::Ends => {
+                let done = c.herd;
+                let lacking = next_herd::lacking_with(c.lacking, done, c.first);
+                if lacking != 0 {
+                    return refused(lacking, Refusal::InputMissing);
+                }
+                herds[count] = done;
+                count = next_herd::herds_so_far(count, c.first);
+                return FileAnswer {
+                    checked: Checked::Accepted,
+                    farm: Farm { herds, count },
+                };
+            }
             Effect::Wrong(refusal) => return refused(number, refusal),
             Effect::Adds => {
                 c.herd = herd;
@@ -81,24 +76,19 @@ pub fn read_records(s: &[u8], most: usize) -> FileAnswer
                 continue;
             }
             Effect::Begins => {
-                let count = farm.count;
-                let checked = next_herd::check_new_label(
-                    labels,
-                    count,
-                    c.first,
-                    herd.label,
-                    number,
-                    most,
-                );
-                if let Checked::Refused(refusal, record) = checked {
-                    return refused(record, refusal);
+                if herd_tests::has_print(&prints, count, prints::print_of(herd.label)) {
+                    if herd_tests::earlier_label(herds, count, herd.label) {
+                        return refused(number, Refusal::EarlierLabel);
+                    }
+                }
+                if next_herd::is_full(count, c.first, most) {
+                    return refused(number, Refusal::NoRoomForHerd);
                 }
                 let done = c.herd;
-                let label = done.label;
-                farm.herds[count] = done;
-                farm.count = next_herd::herds_so_far(count, c.first);
-                labels.of[count] = label;
-                let lacking = next_herd::lacking_with(c.lacking, c.herd, c.first);
+                let lacking = next_herd::lacking_with(c.lacking, done, c.first);
+                prints[count] = prints::print_of(done.label);
+                herds[count] = done;
+                count = next_herd::herds_so_far(count, c.first);
                 c = Current {
                     herd,
                     first: number,

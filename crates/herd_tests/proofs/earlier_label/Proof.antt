@@ -3,18 +3,17 @@ use Prim.Native.Nat.{_-_, _≤_}
 use mathlib.Core.Path.{_≡_}
 use lib.ListN.{take, drop}
 use borrow.Author.Needs.{needs}
-use Rattle.herd_tests.specs.Tests.{hasLabel}
-use Rattle.farm.proofs.Left.{length-mapped}
+use Rattle.herd_tests.specs.Tests.{earlierLabel}
 use Rattle.herd_tests.proofs.LabelSteps.{earlier-steps}
 use Rattle.herd_tests.proofs.earlier_label.Statement.{statement}
 use Rattle.herd_tests.proofs.earlier_label.Tie as tie
 
 abbrev Inv-loop : tie.InvT-loop
-Inv-loop upto l labels i₀ i =
-    (i ≤ upto) × (hasLabel (drop i (take upto (labels .of))) l ≡ hasLabel (take upto (labels .of)) l)
+Inv-loop upto l herds i₀ i =
+    (i ≤ upto) × (earlierLabel (drop i (take upto herds)) l ≡ earlierLabel (take upto herds) l)
 
 abbrev μ-loop : tie.MeasureT-loop
-μ-loop upto l labels i₀ i = upto - i
+μ-loop upto l herds i₀ i = upto - i
 
 pub earlier-label-spec : {M : Type 1} → statement M
 earlier-label-spec =
@@ -26,8 +25,8 @@ earlier-label-spec =
     (λ c. search needs)
     (λ c. search needs)
     (λ c κs. search needs)
-    (λ c. search (needs, earlier-steps, length-mapped))
+    (λ c. search (needs, earlier-steps))
     (λ c. search needs)
     (λ c. search needs)
-    (λ c. search (needs, earlier-steps, length-mapped))
+    (λ c. search (needs, earlier-steps))
     (λ c. search (needs, earlier-steps)))

@@ -1,5 +1,4 @@
--- How far the code has read a file: in two parts, the farm and the herd being read. It mirrors the code for its
--- contracts.
+-- How far the code has read a file: in two parts, the farm and the herd being read. Assumes nothing.
 use mathlib.Core.Path.{_≡_}
 use Rattle.farm.specs.declared.Farm.{Farm}
 use Rattle.reader.specs.declared.files.Current.{Current}
