@@ -16,7 +16,9 @@ ghost use Prim.Native.Nat.{_≤_};
 ghost use lib.ListN.{length};
 ghost use Rattle.farm.specs.declared.Checked.the-variants.{Accepted};
 ghost use Rattle.checks.specs.Checks.{checkFarm};
+ghost use Rattle.limits.specs.declared.Source.the-variants.{StandardInput};
 ghost use Rattle.listing_room.specs.Bounds.{farmRoom};
+ghost use Rattle.views.specs.Rooms.{outputRoom};
 
 // The mode and how often.
 const HEAD: usize = 9;
@@ -134,7 +136,7 @@ fn whole_sum(sum: u64, turn: u64, file: &[u8], out: &mut [u8]) -> u64 {
 }
 
 fn listing_sum(sum: u64, turn: u64, farm: Farm, out: &mut [u8]) -> u64
-    requires { ⌜ (checkFarm farm ≡ Accepted) × (farmRoom ≤ length (now out)) ⌝ }
+    requires { ⌜ (checkFarm farm ≡ Accepted) × (farmRoom (farm .count) ≤ length (now out)) ⌝ }
 {
     let n = lines_figures::put_farm(out, farm);
     text_sum(sum, turn, out, n)
@@ -162,7 +164,7 @@ fn repeat_whole(times: u64, file: &[u8], out: &mut [u8]) -> u64 {
 }
 
 fn repeat_listing(times: u64, farm: Farm, out: &mut [u8]) -> u64
-    requires { ⌜ (checkFarm farm ≡ Accepted) × (farmRoom ≤ length (now out)) ⌝ }
+    requires { ⌜ (checkFarm farm ≡ Accepted) × (farmRoom (farm .count) ≤ length (now out)) ⌝ }
 {
     let mut sum = 0;
     let mut turn = times;
@@ -175,7 +177,7 @@ fn repeat_listing(times: u64, farm: Farm, out: &mut [u8]) -> u64
 
 // The farm is read once.
 fn listed(times: u64, file: &[u8], out: &mut [u8]) -> u64
-    requires { ⌜ farmRoom ≤ length (now out) ⌝ }
+    requires { ⌜ outputRoom StandardInput ≤ length (now out) ⌝ }
 {
     let answer = calls::read_farm(Source::StandardInput, file);
     let checked = answer.checked;
@@ -185,8 +187,8 @@ fn listed(times: u64, file: &[u8], out: &mut [u8]) -> u64
     }
 }
 
-fn room() -> [u8; calls::VIEW_ROOM] {
-    [0u8; calls::VIEW_ROOM]
+fn room() -> [u8; calls::INPUT_VIEW_ROOM] {
+    [0u8; calls::INPUT_VIEW_ROOM]
 }
 
 fn repeated(mode: Mode, times: u64, file: &[u8]) -> u64 {

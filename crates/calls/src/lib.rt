@@ -21,8 +21,10 @@ pub use herd_calls::herd_reason;
 pub use herd_calls::herd_view;
 pub use herd_calls::totals_listing;
 
-// Room for any view of any file.
-pub const VIEW_ROOM: usize = views::FARM_ROOM;
+// Room for any view of any file: from standard input, and a cooperative's.
+pub const INPUT_VIEW_ROOM: usize = views::INPUT_ROOM;
+
+pub const COOPERATIVE_VIEW_ROOM: usize = views::COOPERATIVE_ROOM;
 
 // The farm that a file says, or the refusal and a farm of no herds.
 pub fn read_farm(source: Source, s: &[u8]) -> FileAnswer
@@ -89,21 +91,14 @@ pub fn file_totals_listing(source: Source, s: &[u8], out: &mut [u8]) -> Written
     }
 }
 
-fn room() -> [u8; VIEW_ROOM] {
-    [0u8; VIEW_ROOM]
-}
-
-// What the view lists of a whole file: herd after herd, and behind the figures the totals. Where the buffer may be too
-// short, it is first put together in one of its own.
+// What the view lists of a whole file: herd after herd, and behind the figures the totals.
 pub fn file_view(view: View, source: Source, s: &[u8], out: &mut [u8]) -> Written
     ensures { λ r. ⌜ Called (fileCall source view (now (s .entry))) (now (out .entry)) (now (out .exit)) r ⌝ }
 {
-    if VIEW_ROOM <= out.len() {
-        return views::files::put_file(source, s, out, view);
-    }
-    let mut scratch = room();
-    match views::files::put_file(source, s, &mut scratch, view) {
-        Written::Length(n) => written::hand_over(out, &scratch, n),
-        Written::Refused(refusal, record) => Written::Refused(refusal, record),
+    let answer = farm_file::read(source, s);
+    let checked = answer.checked;
+    match checked {
+        Checked::Accepted => view_writing::write_view(out, answer.farm, view),
+        Checked::Refused(refusal, record) => Written::Refused(refusal, record),
     }
 }

@@ -28,9 +28,10 @@ use Rattle.rules_theorems.proofs.Accepts.{accepts-exactly}
 use Rattle.rules_theorems.proofs.Passing.{accepted-passes}
 use Rattle.written.specs.declared.Written.{Written}
 use Rattle.written.specs.declared.Written.the-variants.{Length, Refused}
-use Rattle.written.specs.Answer.{leaves, answers}
+use Rattle.written.specs.Answer.{leaves, answers, Answered}
 use Rattle.views.specs.declared.View.{View}
-use Rattle.contracts.specs.Listings.{Called, herdCall, totalsCall, fileHerdCall, fileTotalsCall}
+use Rattle.views.specs.Views.{viewed}
+use Rattle.contracts.specs.Listings.{Called, herdCall, totalsCall, fileHerdCall, fileTotalsCall, fileCall}
 
 -- what stands past the end does not matter inside a list
 inside : {A : Type 0} (l : List A) (i : ℕ) (d e : A) → i < length l → getD l i d ≡ getD l i e
@@ -55,7 +56,7 @@ module _ (source : Source) (s : List ℕ) (a : FileAnswer) (q : a ≡ readOf (li
         as-is : (k : Checked) → k ≡ checks.Accepted → record { checked = k; farm = a .farm } ≡ accepted (a .farm)
         as-is k w = rw w
 
-    passes : checkFarm (a .farm) ≡ checks.Accepted
+    pub passes : checkFarm (a .farm) ≡ checks.Accepted
     passes = accepted-passes source s (a .farm) as-accepted
 
     long : length (a .farm .herds) ≡ herdsMost
@@ -111,6 +112,12 @@ module _ (source : Source) (s : List ℕ) (a : FileAnswer) (q : a ≡ readOf (li
               rw as-accepted (rw passes at (w .answer));
         }
 
+    pub is-file-view : (v : View) (old new : List ℕ) (r : Written) → Answered (viewed v (a .farm)) old new r
+        → Called (fileCall source v s) old new r
+    unfolding fileCall
+    is-file-view v old new r w =
+        record { buffer = rw as-accepted (w .buffer); answer = rw as-accepted (w .answer) }
+
   module _ (refusal : Refusal) (at-record : ℕ) (e : a .checked ≡ checks.Refused refusal at-record) (old : List ℕ) where
     pub refusing : readOf (limitsOf source) s .checked ≡ checks.Refused refusal at-record
     refusing = rw q at e
@@ -123,5 +130,11 @@ module _ (source : Source) (s : List ℕ) (a : FileAnswer) (q : a ≡ readOf (li
     unfolding fileTotalsCall
     is-totals-unread = record { buffer = rw refusing; answer = rw refusing }
 
+    pub is-view-unread : (v : View) → Called (fileCall source v s) old old (Refused refusal at-record)
+    unfolding fileCall
+    is-view-unread v = record { buffer = rw refusing; answer = rw refusing }
+
 pub ruleset file-steps =
     (in-array, place-fits, is-file-herd, is-past-herds, is-file-totals, is-herd-unread, is-totals-unread)
+
+pub ruleset view-steps = (passes, is-file-view, is-view-unread)

@@ -38,7 +38,7 @@ pub record Listing (f : Farm) (old : List ℕ) (i : ℕ) (sum : Figures) (now : 
   pub adding : Adding f i sum
   pub written : ToCome old 0 (farmListing f) now (left f i) at
 
-module _ (f : Farm) (accepted : checkFarm f ≡ Accepted) (old : List ℕ) (room : farmRoom ≤ length old) where
+module _ (f : Farm) (accepted : checkFarm f ≡ Accepted) (old : List ℕ) (room : farmRoom (f .count) ≤ length old) where
   pub starts : (sum : Figures) → sum .grams ≡ zeros → Listing f old 0 sum old 0
   unfolding farmListing
   starts sum e = record { adding = adding-starts f accepted sum e; written = begun }
@@ -108,7 +108,7 @@ module _ (f : Farm) (accepted : checkFarm f ≡ Accepted) (old : List ℕ) (room
         has-totals-room = room-for (totalsListing t) [] rest
 
         pub ends : (new : List ℕ) (next : ℕ) → Wrote now at (totalsListing t) new next
-            → Wrote old 0 (farmListing f) new next × (next ≤ farmRoom)
+            → Wrote old 0 (farmListing f) new next × (next ≤ farmRoom (f .count))
         ends new next w =
             let left-over = subst (λ (l : List ℕ). ToCome old 0 (farmListing f) now l at) rest (inv .written) in
             let all = ended (gone-on left-over w) in

@@ -1,5 +1,5 @@
 // 01, The listing: an accepted herd's figures as lines, and an accepted farm's, "each herd, then the totals", into a
-// buffer that has room for them. Each herd's figures are worked out once, and what was checked is not checked again.
+// buffer that has room for as many. Each herd's figures are worked out once, and what was checked is not checked again.
 use farm::Farm;
 use farm::Herd;
 ghost use mathlib.Core.Path.{_≡_};
@@ -28,8 +28,9 @@ pub fn put_herd(out: &mut [u8], at: usize, h: Herd) -> usize
 
 // The listing of an accepted farm, from the front of the buffer on; the end of it.
 pub fn put_farm(out: &mut [u8], farm: Farm) -> usize
-    requires { ⌜ (checkFarm farm ≡ Accepted) × (farmRoom ≤ length (now out)) ⌝ }
-    ensures { λ r. ⌜ Wrote (now (out .entry)) 0 (farmListing farm) (now (out .exit)) r × (r ≤ farmRoom) ⌝ }
+    requires { ⌜ (checkFarm farm ≡ Accepted) × (farmRoom (farm .count) ≤ length (now out)) ⌝ }
+    ensures { λ r. ⌜ Wrote (now (out .entry)) 0 (farmListing farm) (now (out .exit)) r
+        × (r ≤ farmRoom (farm .count)) ⌝ }
 {
     let count = farm.count;
     let mut sum = sums::no_figures();

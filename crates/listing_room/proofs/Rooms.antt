@@ -100,23 +100,23 @@ module _ (l : List Figures) (room : length l ≤ herdsMost) (to : Each (λ (f : 
       short : (n : ℕ) → length (kilogramsOf (gramsAt (totalsOf l .grams) n)) ≤ totalRoom
       short n =
           let z = gramsAt (totalsOf l .grams) n in
-          omega (arith, kilograms-within 8 z (omega (arith, totals-most n)), sign-short z)
+          omega (arith, kilograms-within 9 z (omega (arith, totals-most n)), sign-short z)
 
 herds-most : {l : List Herd} → Each (λ h. checkHerd h ≡ Accepted) l
     → Each (λ (f : Figures). GramsTo most (f .grams)) (map herdFigures l)
 herds-most none = none
 herds-most (more {a} p ps) = more (figures-to (typedOf a) (typed-sound a p)) (herds-most ps)
 
--- a farm that is accepted has no more herds than there may be
-pub herds-few : (f : Farm) → checkFarm f ≡ Accepted → length (herdsOf f) ≤ herdsMost
-herds-few f e =
-    omega (arith, length-take (f .count) (f .herds), min-le-left (f .count) (length (f .herds)), farm-count f e)
+-- a farm has no more herds than it counts
+pub herds-counted : (f : Farm) → length (herdsOf f) ≤ f .count
+herds-counted f = omega (arith, length-take (f .count) (f .herds), min-le-left (f .count) (length (f .herds)))
 
 pub totals-fit : (f : Farm) → checkFarm f ≡ Accepted → length (totalsListing (farmAnswer f .totals)) ≤ totalsRoom
 unfolding farmAnswer
 totals-fit f e =
     let l = map herdFigures (herdsOf f) in
-    let few : length l ≤ herdsMost = omega (arith, length-map (herdsOf f) herdFigures, herds-few f e) in
+    let few : length l ≤ herdsMost =
+    omega (arith, length-map (herdsOf f) herdFigures, herds-counted f, farm-count f e) in
     rw e (totals-short _ (totals-amounts l few (herds-most (farm-each f e))))
 
 -- ---- a farm

@@ -6,7 +6,6 @@ use mathlib.Core.Bool.{Bool, true, false}
 use mathlib.Core.List.{List, [], _∷_, _++_, map}
 use lib.Text.{eqt}
 use Rattle.base.specs.Pick.{pick}
-use Rattle.farm.specs.Limits.{herdsMost}
 use Rattle.outputs.specs.Names.{texts}
 use Rattle.listing.specs.HerdLines.{
   grazing,
@@ -57,9 +56,9 @@ amountRoom without name =
 abbrev pub amountRooms : List String → List ℕ
 amountRooms without = map (amountRoom without) texts
 
--- as long as -128000000.000, 64 times as much, and below zero
+-- as long as -1024000000.000, 512 times as much, and below zero
 abbrev pub totalRoom : ℕ
-totalRoom = 14
+totalRoom = 15
 
 -- ---- listings
 
@@ -69,9 +68,9 @@ herdRoom = 1762
 
 -- the listing of any such farm's totals: eighteen lines
 abbrev pub totalsRoom : ℕ
-totalsRoom = 748
+totalsRoom = 766
 
--- a listing a herd, and the totals': that of any such farm; some farm nearly uses it up (`room-nearly-used` of crate
--- `promises`)
-abbrev pub farmRoom : ℕ
-farmRoom = herdsMost * herdRoom + totalsRoom
+-- a listing a herd, and the totals': that of any such farm of so many herds; some farm nearly uses it up
+-- (`room-nearly-used` of crate `promises`)
+abbrev pub farmRoom : ℕ → ℕ
+farmRoom herds = herds * herdRoom + totalsRoom

@@ -1,9 +1,9 @@
--- The room for a view: it is enough for every view of every accepted farm, and not much larger than it has to be, since
--- as many herds of pigs as there may be, whose labels have to be quoted and whose figures are large, come within a
--- kilobyte of it. Assumes nothing.
+-- The room for a view: it is enough for every view of every accepted farm, by how many herds it has, and not much
+-- larger than it has to be, since as many herds of pigs as standard input may have, whose labels have to be quoted and
+-- whose figures are large, come within a kilobyte of it. Assumes nothing.
 use Prim.Native.Nat.{ℕ, zero, suc, _+_, _*_, _^_, _/_, _%_, _≤_}
 use Prim.Native.String.{String}
-use mathlib.Core.Path.{_≡_, refl}
+use mathlib.Core.Path.{_≡_, refl, ap}
 use mathlib.Core.Bool.{Bool, true, false}
 use mathlib.Core.List.{List, [], _∷_, _++_, map}
 use native.Mathlib.Nat.{le-trans, mul-le-mul-left, pow-suc, one-le-pow}
@@ -26,7 +26,6 @@ use Rattle.farm.specs.declared.Slot.{Slot}
 use Rattle.farm.specs.declared.Herd.{Herd}
 use Rattle.farm.specs.declared.Farm.{Farm}
 use Rattle.farm.specs.declared.Checked.the-variants.{Accepted}
-use Rattle.farm.specs.Limits.{herdsMost}
 use Rattle.farm.specs.Herds.{noSlot}
 use Rattle.farm.specs.Labels.{text, byteOk, labelOk, sameLabel, labelOf}
 use Rattle.herd_tests.specs.Tests.{lacks}
@@ -34,7 +33,11 @@ use Rattle.fits.specs.Fits.{unfit}
 use Rattle.checks.specs.Checks.{herdsOf, checkHerd, checkFarm}
 use Rattle.checks.proofs.Accepts.{farm-each}
 use Rattle.limits.specs.declared.Source.{Source}
-use Rattle.rules_theorems.specs.Rules.{allowed, KeepsRules}
+use Rattle.limits.specs.declared.Source.the-variants.{StandardInput}
+use Rattle.limits.specs.declared.Limits.{Limits}
+use Rattle.limits.specs.Limits.{inputHerds}
+use Rattle.rules_theorems.specs.Rules.{allowed, farmOf, KeepsRules}
+use Rattle.rules_theorems.proofs.Allowed.{as-allowed}
 use Rattle.rules_theorems.proofs.Accepts.{accepts-exactly}
 use Rattle.rules_theorems.proofs.Passing.{accepted-passes}
 use Rattle.kinds.specs.Choices.{housingAt, scrubberAt, housingFloorAt, housingAirAt}
@@ -49,9 +52,8 @@ use Rattle.line_parts.specs.Fields.{hasComma, labelField, each}
 use Rattle.line_parts.proofs.Lengths.{sumOf}
 use Rattle.listing.specs.Listing.{moduleOf, herdLine, herdLines}
 use Rattle.listing.specs.Listing.{totalPath, totalLine, totalsListing}
-use Rattle.listing_room.specs.Bounds.{farmRoom}
 use Rattle.listing_room.proofs.Lengths.{line-length, each-fills}
-use Rattle.listing_room.proofs.Rooms.{all-fit, herds-few}
+use Rattle.listing_room.proofs.Rooms.{all-fit, herds-counted}
 use Rattle.lines_figures.specs.Lines.{listingOf, farmListing}
 use Rattle.lines_figures.proofs.Fits.{farm-fits}
 use Rattle.lines_notes.specs.Records.{herdNotes}
@@ -67,19 +69,20 @@ use Rattle.lines_reasons.proofs.Fits.{why-fits}
 use Rattle.views.specs.declared.View.{View}
 use Rattle.views.specs.declared.View.the-variants.{Figures, Notes, Cuts, Reasons, Sentences}
 use Rattle.views.specs.Views.{herdText, viewed}
-use Rattle.views.specs.Rooms.{viewRoom}
+use Rattle.views.specs.Rooms.{viewRoom, outputRoom}
 use Rattle.views.specs.Program.{outputOf}
+use Rattle.views.proofs.FileSteps.{room-of}
 use Rattle.promises.proofs.Commands.{prints-listed}
 
 -- ---- enough: for every view of an accepted farm
 
 -- `of` lists at most k bytes of a herd
 herds-fit : (of : Herd → List ℕ) (k : ℕ) → ((h : Herd) → checkHerd h ≡ Accepted → length (of h) ≤ k)
-    → (f : Farm) → checkFarm f ≡ Accepted → length (each of (herdsOf f)) ≤ k * herdsMost
+    → (f : Farm) → checkFarm f ≡ Accepted → length (each of (herdsOf f)) ≤ k * f .count
 herds-fit of k fit f e =
-    le-trans (all-fit of k (each-map fit (farm-each f e))) (mul-le-mul-left k (herds-few f e))
+    le-trans (all-fit of k (each-map fit (farm-each f e))) (mul-le-mul-left k (herds-counted f))
 
-pub view-fits : (v : View) (f : Farm) → checkFarm f ≡ Accepted → length (viewed v f) ≤ viewRoom
+pub view-fits : (v : View) (f : Farm) → checkFarm f ≡ Accepted → length (viewed v f) ≤ viewRoom (f .count)
 unfolding viewed herdText
 view-fits Figures f e = farm-fits f e
 view-fits Notes f e = omega (arith, herds-fit herdNotes longestRecord notes-fit f e)
@@ -92,14 +95,22 @@ module _ (source : Source) (s : List ℕ) (f : Farm) (keeps : KeepsRules (allowe
   passes : checkFarm f ≡ Accepted
   passes = accepted-passes source s f (accepts-exactly source s f .1 keeps)
 
-  pub views-have-room : (v : View) → length (outputOf source v s) ≤ viewRoom
-  views-have-room v = rw (prints-listed source v s f keeps) (view-fits v f passes)
+  few : f .count ≤ allowed source .herds
+  few = omega (arith, ap (λ (g : Farm). g .count) (keeps .says .is), keeps .says .most)
 
-  pub notes-have-room : length (outputOf source Notes s) ≤ longestRecord * herdsMost
+  pub views-have-room : (v : View) → length (outputOf source v s) ≤ outputRoom source
+  views-have-room v =
+      let most = ap (λ (l : Limits). l .herds) (as-allowed source) in
+      rw (prints-listed source v s f keeps)
+      (le-trans (view-fits v f passes) (room-of source (f .count) (omega (arith, few, most))))
+
+  pub notes-have-room : length (outputOf source Notes s) ≤ longestRecord * allowed source .herds
   unfolding viewed herdText
-  notes-have-room = rw (prints-listed source Notes s f keeps) (herds-fit herdNotes longestRecord notes-fit f passes)
+  notes-have-room =
+      rw (prints-listed source Notes s f keeps)
+      (le-trans (herds-fit herdNotes longestRecord notes-fit f passes) (mul-le-mul-left longestRecord few))
 
--- ---- nearly used up
+-- ---- nearly used up, of standard input
 
 abbrev slot : ℕ → Slot
 slot v = record { given = Value v }
@@ -122,7 +133,7 @@ herdsFrom i zero = []
 herdsFrom i (suc k) = herd i ∷ herdsFrom (suc i) k
 
 abbrev pub longFarm : Farm
-longFarm = record { herds = herdsFrom 0 herdsMost; count = herdsMost }
+longFarm = farmOf (herdsFrom 0 inputHerds)
 
 long-accepted : checkFarm longFarm ≡ Accepted
 unfolding checkFarm labelOk sameLabel sameBytes byteOk lacks unfit labelOf
@@ -208,13 +219,14 @@ totals-long =
         let z = total n longTotals in
         omega (arith, line-length [] (bytes totalPath) (bytes n) z, amount-least z)
 
-farm-long : herdsMost * 1756 + 639 ≤ length (farmListing longFarm)
+farm-long : inputHerds * 1756 + 639 ≤ length (farmListing longFarm)
 unfolding farmListing farmAnswer
 farm-long =
     let herds = each listingOf (herdsOf longFarm) in
     rw long-accepted
-    (omega (arith, length-append herds (totalsListing longTotals), herds-long 0 herdsMost, totals-long))
+    (omega (arith, length-append herds (totalsListing longTotals), herds-long 0 inputHerds, totals-long))
 
 -- an accepted farm's listing comes within a kilobyte of the room
-pub room-nearly-used : (checkFarm longFarm ≡ Accepted) × (farmRoom ≤ length (farmListing longFarm) + 1024)
+pub room-nearly-used : (checkFarm longFarm ≡ Accepted)
+    × (outputRoom StandardInput ≤ length (farmListing longFarm) + 1024)
 room-nearly-used = (long-accepted, omega (arith, farm-long))

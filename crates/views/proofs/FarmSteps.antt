@@ -27,6 +27,13 @@ use Rattle.views.specs.declared.View.the-variants.{Figures, Notes, Cuts,
 use Rattle.views.specs.Views.{herdText, viewed, isFigures}
 use Rattle.views.specs.Rooms.{herdViewRoom}
 
+-- the herds of a farm that the checks accept are accepted
+pub passes : (f : Farm) → checkFarm f ≡ Accepted → length (f .herds) ≡ herdsMost → (i : ℕ) → i < f .count → (d : Herd)
+    → checkHerd (getD (f .herds) i d) ≡ Accepted
+passes f accepted long i b d =
+    let l : i < length (herdsOf f) = omega (arith, length-take (f .count) (f .herds), farm-count f accepted) in
+    rw (← getD-take (f .count) (f .herds) i d b) (each-getD (herdsOf f) i d (farm-each f accepted) l)
+
 -- the texts of i herds were written
 pub record Putting (v : View) (f : Farm) (old : List ℕ) (i : ℕ) (now : List ℕ) (at : ℕ) : Type 0 where
   pub few : f .count ≤ herdsMost
@@ -34,21 +41,14 @@ pub record Putting (v : View) (f : Farm) (old : List ℕ) (i : ℕ) (now : List 
   pub written : ToCome old 0 (each (herdText v) (herdsOf f)) now (each (herdText v) (drop i (herdsOf f))) at
   pub short : at ≤ i * herdViewRoom
 
-module _ (v : View) (f : Farm) (accepted : checkFarm f ≡ Accepted) (old : List ℕ)
-    (room : herdsMost * herdViewRoom ≤ length old) where
+module _ (v : View) (f : Farm) (accepted : checkFarm f ≡ Accepted) (old : List ℕ) where
   pub starts : Putting v f old 0 old 0
   starts = record { few = farm-count f accepted; within = omega arith; written = begun; short = omega arith }
 
   module _ (i : ℕ) (now : List ℕ) (at : ℕ) (inv : Putting v f old i now at) where
     module _ (b : i < f .count) where
-      pub has-room : at + herdViewRoom ≤ length now
-      has-room = omega (arith, inv .short, inv .written .same, inv .few)
-
-      -- the herds of a farm that the checks accept are accepted
-      pub passes : length (f .herds) ≡ herdsMost → (d : Herd) → checkHerd (getD (f .herds) i d) ≡ Accepted
-      passes long d =
-          let l : i < length (herdsOf f) = omega (arith, length-take (f .count) (f .herds), inv .few) in
-          rw (← getD-take (f .count) (f .herds) i d b) (each-getD (herdsOf f) i d (farm-each f accepted) l)
+      pub has-room : f .count * herdViewRoom ≤ length old → at + herdViewRoom ≤ length now
+      has-room room = omega (arith, inv .short, inv .written .same)
 
       pub goes-on : length (f .herds) ≡ herdsMost → (d : Herd) (new : List ℕ) (next : ℕ)
           → Wrote now at (herdText v (getD (f .herds) i d)) new next → next ≤ at + herdViewRoom
@@ -63,10 +63,10 @@ module _ (v : View) (f : Farm) (accepted : checkFarm f ≡ Accepted) (old : List
             short = omega (arith, inv .short);
           }
 
-    pub ends : f .count ≤ i → Wrote old 0 (each (herdText v) (herdsOf f)) now at × (at ≤ herdsMost * herdViewRoom)
+    pub ends : f .count ≤ i → Wrote old 0 (each (herdText v) (herdsOf f)) now at × (at ≤ f .count * herdViewRoom)
     ends b = (
       all-entries-put (herdText v) (inv .written) (taken-end (f .count) (f .herds) i b),
-      omega (arith, inv .short, inv .within, inv .few),
+      omega (arith, inv .short, inv .within),
     )
 
 pub ruleset farm-steps = (starts, has-room, passes, goes-on)

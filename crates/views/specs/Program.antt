@@ -22,7 +22,7 @@ use Rattle.views.specs.declared.View.{View}
 use Rattle.views.specs.declared.View.the-variants.{Figures}
 use Rattle.views.specs.declared.Output.{Output}
 use Rattle.views.specs.Views.{viewed}
-use Rattle.views.specs.Rooms.{viewRoom}
+use Rattle.views.specs.Rooms.{outputRoom}
 
 abbrev pub printed : View → Checked → Farm → List ℕ
 printed view checks.Accepted f = viewed view f
@@ -40,7 +40,7 @@ programOutput s = outputOf StandardInput Figures s
 pub data PutFile (source : Source) (view : View) (s old : List ℕ) : List ℕ → Written → Type 0 where
   listed : {new : List ℕ} {n : ℕ} → readOf (limitsOf source) s .checked ≡ checks.Accepted
       → Wrote old 0 (viewed view (readOf (limitsOf source) s .farm)) new n
-      → n ≤ viewRoom → PutFile source view s old new (Length n)
+      → n ≤ outputRoom source → PutFile source view s old new (Length n)
   refused : {refusal : Refusal} {n : ℕ} → readOf (limitsOf source) s .checked ≡ checks.Refused refusal n
       → PutFile source view s old old (Refused refusal n)
 
@@ -52,5 +52,5 @@ endedOf (checks.Refused refusal record′) n = Refused refusal record′
 
 pub record PutOutput (source : Source) (view : View) (s old new : List ℕ) (r : Output) : Type 0 where
   pub bytes : Wrote old 0 (outputOf source view s) new (r .length)
-  pub room : r .length ≤ viewRoom
+  pub room : r .length ≤ outputRoom source
   pub ended : r .ended ≡ endedOf (readOf (limitsOf source) s .checked) (r .length)

@@ -11,7 +11,8 @@ ghost use Rattle.checks.specs.Checks.{checkFarm};
 ghost use Rattle.views.specs.Views.{viewed, isFigures};
 ghost use Rattle.views.specs.Rooms.{viewRoom};
 
-fn is_figures(view: View) -> bool
+// The totals stand behind the figures alone.
+pub fn is_figures(view: View) -> bool
     ensures { λ r. ⌜ r ≡ isFigures view ⌝ }
 {
     match view {
@@ -25,8 +26,9 @@ fn is_figures(view: View) -> bool
 
 // What the view lists of the farm, from the front of the buffer on; the end of it. The figures are added up on the way.
 pub fn put_view(out: &mut [u8], farm: Farm, view: View) -> usize
-    requires { ⌜ (checkFarm farm ≡ Accepted) × (viewRoom ≤ length (now out)) ⌝ }
-    ensures { λ r. ⌜ Wrote (now (out .entry)) 0 (viewed view farm) (now (out .exit)) r × (r ≤ viewRoom) ⌝ }
+    requires { ⌜ (checkFarm farm ≡ Accepted) × (viewRoom (farm .count) ≤ length (now out)) ⌝ }
+    ensures { λ r. ⌜ Wrote (now (out .entry)) 0 (viewed view farm) (now (out .exit)) r
+        × (r ≤ viewRoom (farm .count)) ⌝ }
 {
     if is_figures(view) {
         return lines_figures::put_farm(out, farm);

@@ -6,12 +6,12 @@ use limits::Source;
 use written::Written;
 ghost use Prim.Native.Nat.{_≤_};
 ghost use lib.ListN.{length};
-ghost use Rattle.views.specs.Rooms.{viewRoom};
+ghost use Rattle.views.specs.Rooms.{outputRoom};
 ghost use Rattle.views.specs.Program.{PutFile};
 
 // The view of the file's farm; or the refusal, and nothing is written.
 pub fn put_file(source: Source, s: &[u8], out: &mut [u8], view: View) -> Written
-    requires { ⌜ viewRoom ≤ length (now out) ⌝ }
+    requires { ⌜ outputRoom source ≤ length (now out) ⌝ }
     ensures { λ r. ⌜ PutFile source view (now (s .entry)) (now (out .entry)) (now (out .exit)) r ⌝ }
 {
     let answer = farm_file::read(source, s);

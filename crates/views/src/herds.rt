@@ -8,7 +8,6 @@ ghost use Prim.Native.Nat.{_+_, _*_, _≤_};
 ghost use lib.ListN.{length};
 ghost use Rattle.base.specs.Wrote.{Wrote};
 ghost use Rattle.farm.specs.declared.Checked.the-variants.{Accepted};
-ghost use Rattle.farm.specs.Limits.{herdsMost};
 ghost use Rattle.checks.specs.Checks.{checkHerd, checkFarm, herdsOf};
 ghost use Rattle.line_parts.specs.Fields.{each};
 ghost use Rattle.views.specs.Views.{herdText};
@@ -30,9 +29,9 @@ pub fn put_herd(out: &mut [u8], at: usize, h: Herd, view: View) -> usize
 
 // Herd after herd, from the front of the buffer on; the end of the last.
 pub fn put_herds(out: &mut [u8], farm: Farm, view: View) -> usize
-    requires { ⌜ (checkFarm farm ≡ Accepted) × (herdsMost * herdViewRoom ≤ length (now out)) ⌝ }
+    requires { ⌜ (checkFarm farm ≡ Accepted) × (farm .count * herdViewRoom ≤ length (now out)) ⌝ }
     ensures { λ r. ⌜ Wrote (now (out .entry)) 0 (each (herdText view) (herdsOf farm)) (now (out .exit)) r
-        × (r ≤ herdsMost * herdViewRoom) ⌝ }
+        × (r ≤ farm .count * herdViewRoom) ⌝ }
 {
     let count = farm.count;
     let mut at = 0;

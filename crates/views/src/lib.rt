@@ -23,7 +23,12 @@ pub struct Output {
     pub length: usize,
 }
 
-// Room for any view of any herd that is accepted, and of any farm.
+// Room for any view of any herd that is accepted, and for what stands behind the herds.
 pub const HERD_ROOM: usize = listing_room::HERD_ROOM;
 
-pub const FARM_ROOM: usize = listing_room::FARM_ROOM;
+pub const BEHIND_ROOM: usize = listing_room::TOTALS_ROOM;
+
+// Room for any view of any file that is accepted: from standard input, and a cooperative's.
+pub const INPUT_ROOM: usize = limits::INPUT_HERDS * HERD_ROOM + BEHIND_ROOM;
+
+pub const COOPERATIVE_ROOM: usize = limits::COOPERATIVE_HERDS * HERD_ROOM + BEHIND_ROOM;

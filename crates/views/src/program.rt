@@ -7,11 +7,11 @@ use limits::Source;
 use written::Written;
 ghost use Prim.Native.Nat.{_≤_};
 ghost use lib.ListN.{length};
-ghost use Rattle.views.specs.Rooms.{viewRoom};
+ghost use Rattle.views.specs.Rooms.{outputRoom};
 ghost use Rattle.views.specs.Program.{PutOutput};
 
 pub fn put_output(source: Source, s: &[u8], out: &mut [u8], view: View) -> Output
-    requires { ⌜ viewRoom ≤ length (now out) ⌝ }
+    requires { ⌜ outputRoom source ≤ length (now out) ⌝ }
     ensures { λ r. ⌜ PutOutput source view (now (s .entry)) (now (out .entry)) (now (out .exit)) r ⌝ }
 {
     match files::put_file(source, s, out, view) {

@@ -1,7 +1,7 @@
 -- `bench_repeat::listed` is safe and ends: a farm that is read passes the record checks, so its listing may be put
 -- without them. Assumes nothing.
 use borrow.Author.Needs.{needs}
-use Rattle.views.proofs.FileSteps.{passes}
+use Rattle.views.proofs.FileSteps.{passes, has-room}
 use Rattle.bench_repeat.proofs.listed.Statement.{statement}
 use Rattle.bench_repeat.proofs.listed.Tie as tie
 
@@ -12,7 +12,7 @@ enum-told : tie.Need-enum-told
 enum-told c = search needs
 
 repeat-listing-requires : tie.Need-repeat-listing-requires
-repeat-listing-requires c κs = search (needs, passes)
+repeat-listing-requires c κs = search (needs, passes, has-room)
 
 enum-known-checked : tie.Need-enum-known-checked
 enum-known-checked c = search needs

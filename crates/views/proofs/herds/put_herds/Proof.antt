@@ -40,7 +40,7 @@ returns : tie.Need-returns Inv-loop μ-loop
 returns c =
     let l = c .before in
     let s = l .before .before in
-    ends _ _ (s .pre .0) _ (s .pre .1) _ _ _ (l .loop .inv) (c .loop-test .left)
+    ends _ _ (s .pre .0) _ _ _ _ (l .loop .inv) (c .loop-test .left)
 
 pub put-herds-spec : {M : Type 1} → statement M
 put-herds-spec =

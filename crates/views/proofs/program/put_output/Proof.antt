@@ -1,5 +1,6 @@
 -- `views::program::put_output` meets its contract: what was listed, or the line of the refusal. Assumes nothing.
-use Rattle.views.proofs.OutputSteps.{output-steps}
+use native.Mathlib.Omega.{arith}
+use Rattle.views.proofs.OutputSteps.{line-within, output-steps}
 use borrow.Author.Needs.{needs}
 use Rattle.views.proofs.program.put_output.Statement.{statement}
 use Rattle.views.proofs.program.put_output.Tie as tie
@@ -14,7 +15,9 @@ enum-known-refusal : tie.Need-enum-known-refusal
 enum-known-refusal c = search needs
 
 put-line-requires : tie.Need-put-line-requires
-put-line-requires c κs = search needs
+put-line-requires c κs =
+    let s = c .before .before .before .before .before .before .before .before .before .before in
+    omega (arith, s .pre, line-within (s .args .source))
 
 same-length : tie.Need-same-length
 same-length c = search needs

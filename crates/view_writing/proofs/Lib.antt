@@ -1,0 +1,4 @@
+pub mod Behind
+pub mod LengthSteps
+pub mod PartSteps
+pub mod WriteSteps
