@@ -3,11 +3,10 @@
 // whole lines. How the run ended goes as one digit, after all output, to the descriptor that --status-fd names.
 mod runs; // what each command does
 
+use asked::Asked;
+use asked::Command;
+use asked::Descriptor;
 use console::Ended;
-use console::asked;
-use console::asked::Asked;
-use console::asked::Command;
-use console::asked::Descriptor;
 use console::messages;
 use views::View;
 
