@@ -1,5 +1,5 @@
-// Standard input read to its end, and a text written to standard output: whole, or it is said that it failed. What to
-// do after a call of the system, crate `stream_steps` decides.
+// A stream read to its end, and a text written to standard output: whole, or it is said that it failed. What to do after
+// a call of the system, crate `stream_steps` decides.
 use libc::STDIN_FILENO;
 use libc::STDOUT_FILENO;
 use stream_steps::Moved;
@@ -17,10 +17,10 @@ pub enum Outcome {
 // How often in a row a call is made again before it counts as failed.
 const PATIENCE: usize = 20000000;
 
-fn read_some(into: &mut [u8]) -> Moved
+fn read_some(fd: i32, into: &mut [u8]) -> Moved
     ensures { λ r. ⌜ Counted (length (now (into .entry))) r ⌝ }
 {
-    let answer = libc::read(STDIN_FILENO, into);
+    let answer = libc::read(fd, into);
     stream_steps::meaning(answer, os::errno())
 }
 
@@ -31,12 +31,12 @@ fn write_some(text: &[u8]) -> Moved
     stream_steps::meaning(answer, os::errno())
 }
 
-fn read_step(into: &mut [u8], done: usize) -> Step
+fn read_step(fd: i32, into: &mut [u8], done: usize) -> Step
     requires { ⌜ done ≤ length (now into) ⌝ }
     ensures { λ r. ⌜ Going (Within (length (now (into .entry)))) done (length (now (into .entry))) r ⌝ }
 {
     let size = into.len();
-    let moved = read_some(&mut into[done..]);
+    let moved = read_some(fd, &mut into[done..]);
     stream_steps::after_read(done, size, moved)
 }
 
@@ -48,14 +48,14 @@ fn write_step(text: &[u8], done: usize) -> Step
     stream_steps::after_write(done, text.len(), moved)
 }
 
-// Standard input to its end, or until the buffer is full.
-pub fn read_all(into: &mut [u8]) -> Outcome
+// What the descriptor gives, to its end or until the buffer is full.
+pub fn read_from(fd: i32, into: &mut [u8]) -> Outcome
     ensures { λ r. ⌜ Within (length (now (into .exit))) r ⌝ }
 {
     let mut done = 0;
     let mut patience = PATIENCE;
     while patience > 0 {
-        match read_step(into, done) {
+        match read_step(fd, into, done) {
             Step::On(next) => {
                 done = next;
                 patience = PATIENCE;
@@ -69,6 +69,13 @@ pub fn read_all(into: &mut [u8]) -> Outcome
         }
     }
     Outcome::Broken
+}
+
+// The same of standard input.
+pub fn read_all(into: &mut [u8]) -> Outcome
+    ensures { λ r. ⌜ Within (length (now (into .exit))) r ⌝ }
+{
+    read_from(STDIN_FILENO, into)
 }
 
 // A text to standard output, all of it.

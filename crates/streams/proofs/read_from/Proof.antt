@@ -1,18 +1,18 @@
--- `streams::read_all` meets its contract, and ends: each turn goes further, or leaves less patience.
+-- `streams::read_from` meets its contract, and ends: each turn goes further, or leaves less patience.
 -- Assumes nothing.
 use Prim.Native.Nat.{_≤_}
 use mathlib.Core.Path.{_≡_}
 use lib.ListN.{length}
 use borrow.Author.Needs.{needs}
 use Rattle.streams.proofs.Moves.{left, turn-steps}
-use Rattle.streams.proofs.read_all.Statement.{statement}
-use Rattle.streams.proofs.read_all.Tie as tie
+use Rattle.streams.proofs.read_from.Statement.{statement}
+use Rattle.streams.proofs.read_from.Tie as tie
 
 abbrev Inv-loop : tie.InvT-loop
-Inv-loop into₀ done₀ patience₀ into done patience = (length into ≡ length into₀) × (done ≤ length into)
+Inv-loop fd into₀ done₀ patience₀ into done patience = (length into ≡ length into₀) × (done ≤ length into)
 
 abbrev μ-loop : tie.MeasureT-loop
-μ-loop into₀ done₀ patience₀ into done patience = left (length into) done patience
+μ-loop fd into₀ done₀ patience₀ into done patience = left (length into) done patience
 
 loop-holds : tie.Need-loop-holds Inv-loop μ-loop
 loop-holds c = search needs
@@ -68,8 +68,8 @@ same-length-3 c = search needs
 returns-3 : tie.Need-returns-3 Inv-loop μ-loop
 returns-3 c = search (needs, turn-steps)
 
-pub read-all-spec : {M : Type 1} → statement M
-read-all-spec =
+pub read-from-spec : {M : Type 1} → statement M
+read-from-spec =
     tie.close
     (tie.spec
     Inv-loop
