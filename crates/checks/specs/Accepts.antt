@@ -1,6 +1,6 @@
 -- What the checks of a record accept, said without the order of the tests (01, The farm file): a good label, every
--- input of the kind given a value of its form; at most 64 such herds, no two with one label. proofs/Accepts.antt shows
--- that the checks accept exactly these. To be believed.
+-- input of the kind given a value of its form; at most 512 such herds (02, W12), no two with one label.
+-- proofs/Accepts.antt shows that the checks accept exactly these. To be believed.
 use Prim.Native.Nat.{_≤_}
 use mathlib.Core.Path.{_≡_}
 use mathlib.Core.Bool.{true, false}

@@ -1,6 +1,7 @@
 -- 01, Refusal numbers: "A public call handed a record in place of a file checks it too, always with record 0. For a
 -- herd: 4 bad label, 12 an input missing, 7 one out of range or a `standard` that 6 forbids, in that order. For a farm:
--- 9 more than 64 herds, then herd by herd 4, 8 (label of an earlier herd), 12, 7." To be believed.
+-- 9 more than 64 herds, then herd by herd 4, 8 (label of an earlier herd), 12, 7." 02, W12, puts 512 for the 64: "9
+-- when the array or the 512 is full, also where a farm record is checked". To be believed.
 use mathlib.Core.Bool.{not}
 use mathlib.Core.List.{List, [], _∷_, _++_}
 use lib.ListN.{take}

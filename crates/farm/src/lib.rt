@@ -11,7 +11,7 @@ pub const LABEL_MOST: usize = 16;
 
 pub const SLOTS: usize = 9;
 
-pub const HERDS_MOST: usize = 64;
+pub const HERDS_MOST: usize = 512;
 
 // The bytes in use are the first `len`.
 pub struct Label {

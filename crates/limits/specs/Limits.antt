@@ -13,10 +13,10 @@ abbrev pub inputHerds : ℕ
 inputHerds = 64
 
 abbrev pub cooperativeBytes : ℕ
-cooperativeBytes = 65536
+cooperativeBytes = 262144
 
 abbrev pub cooperativeHerds : ℕ
-cooperativeHerds = 64
+cooperativeHerds = 512
 
 unfoldable pub limitsOf : Source → Limits
 limitsOf StandardInput = record { bytes = inputBytes; herds = inputHerds }

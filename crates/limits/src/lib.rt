@@ -19,9 +19,9 @@ pub const INPUT_BYTES: usize = 65536;
 
 pub const INPUT_HERDS: usize = 64;
 
-pub const COOPERATIVE_BYTES: usize = 65536;
+pub const COOPERATIVE_BYTES: usize = 262144;
 
-pub const COOPERATIVE_HERDS: usize = 64;
+pub const COOPERATIVE_HERDS: usize = 512;
 
 pub fn limits_of(source: Source) -> Limits
     ensures { λ r. ⌜ r ≡ limitsOf source ⌝ }

@@ -39,10 +39,11 @@ use Rattle.rules_theorems.specs.Lists.{Some, Apart, Pairs}
 abbrev pub labelMost : ℕ
 labelMost = 16
 
--- "at most 65,536 bytes" and "At most 64 herds": of a file from standard input, and of a cooperative's
+-- "at most 65,536 bytes" and "At most 64 herds", which "the program on standard input keeps" (02, W12); of a
+-- cooperative's file there "up to 512" herds, and "the file limit becomes 262,144 bytes"
 unfoldable pub allowed : Source → Limits
 allowed StandardInput = record { bytes = 65536; herds = 64 }
-allowed Cooperative = record { bytes = 65536; herds = 64 }
+allowed Cooperative = record { bytes = 262144; herds = 512 }
 
 -- ---- one record
 
