@@ -1,0 +1,4 @@
+pub mod ByValue
+pub mod SharedAgain
+pub mod LentArray
+pub mod Bodies
