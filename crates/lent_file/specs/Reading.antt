@@ -1,6 +1,6 @@
 -- 02, W12, a file read into a lent array: what it is read as and within which limits, what is answered, and what the
 -- array holds then. It mirrors the code for its contracts; what it means is said of a file's records in
--- proofs/Rules.antt, and proved there.
+-- `lent_theorems`, and proved there.
 use Prim.Native.Nat.{ℕ, min}
 use mathlib.Core.Path.{_≡_}
 use mathlib.Core.List.{List}
