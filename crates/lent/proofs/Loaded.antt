@@ -1,6 +1,6 @@
 -- The farm that an array is loaded as: it has the first herds of the array; where the array or the farm is too short
 -- for so many, its check gives 9 (02, W12), with record 0; and what was stored is loaded again. Assumes nothing.
-use mathlib.Core.Path.{_≡_, refl, sym, ap, _∙_}
+use mathlib.Core.Path.{_≡_, sym, ap, _∙_}
 use Prim.Native.Nat.{ℕ, _+_, _≤_, _<_}
 use native.Mathlib.Omega.{arith}
 use mathlib.Core.Bool.{Bool, true, false}

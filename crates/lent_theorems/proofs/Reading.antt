@@ -1,6 +1,6 @@
--- Reading into a lent array (02, W12): the first refusal that applies is answered and leaves the array as it was; a file
--- that keeps the rules puts the herds that its records say in front; nothing else is answered; and there is one answer
--- and one array. What is loaded again is the farm that the file says. Assumes nothing.
+-- Reading into a lent array (02, W12): the first refusal that applies is answered and leaves the array as it was; a
+-- file that keeps the rules puts the herds that its records say in front; nothing else is answered; and there is one
+-- answer and one array. What is loaded again is the farm that the file says. Assumes nothing.
 use Prim.Native.Nat.{ℕ, zero, suc, _-_, _≤_, min}
 use native.Mathlib.Numerals.{unary-clauses}
 use native.Mathlib.Omega.{arith}
@@ -22,7 +22,7 @@ use Rattle.limits.specs.Limits.{limitsOf}
 use Rattle.checks.specs.Checks.{herdsOf}
 use Rattle.reader.specs.declared.FileAnswer.{FileAnswer}
 use Rattle.reader.specs.Files.{refused, accepted, readOf}
-use Rattle.rules_theorems.specs.Rules.{allowed, farmOf, KeepsRules}
+use Rattle.rules_theorems.specs.Rules.{farmOf, KeepsRules}
 use Rattle.rules_theorems.specs.Refusals.{First}
 use Rattle.rules_theorems.proofs.Allowed.{as-allowed, allowed-fit}
 use Rattle.rules_theorems.proofs.Farms.{herds-of}

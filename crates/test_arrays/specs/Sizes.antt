@@ -1,0 +1,5 @@
+-- How many entries the short array of the tests has.
+use Prim.Native.Nat.{ℕ}
+
+abbrev pub short : ℕ
+short = 3
