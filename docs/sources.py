@@ -1,9 +1,9 @@
 """The sources that docs/tables makes: what the code needs beside the rows of a list, and so is not written by hand.
 
-From the lists of definitions come number constants, texts and where each starts; from docs/refusals.txt and
-docs/help.txt the texts of the program. A list is read where it stands in its crate's specs/, and what is no row of it
-is a fault, so that no row is passed over. The proofs hold what is made to the definitions, as if it were written by
-hand.
+From the lists of definitions come number constants, texts and where each starts; from docs/refusals.txt, docs/help.txt
+and the limits of crate `limits` the texts of the program. A list is read where it stands in its crate's specs/, and
+what is no row of it is a fault, so that no row is passed over. The proofs hold what is made to the definitions, as if
+it were written by hand.
 """
 
 import re
@@ -343,11 +343,39 @@ def cut_texts():
 # ---- refusals, and the texts of the program
 
 HELP_WIDTH = 80
+LIMITS = "limits/src/lib.rt"
+INPUT, COOPERATIVE = "INPUT", "COOPERATIVE"  # whose limits: standard input's, a cooperative's file's
+OPTION = "--cooperative"
+LIMIT = re.compile(r"\b(BYTES|HERDS)\b")
+
+
+def limit(name):
+    """A limit as it is read, 65,536."""
+    found = re.search(rf"^pub const {name}: usize = (\d+);$", (CRATES / LIMITS).read_text(), re.M)
+    if not found:
+        faults.append(f"crates/{LIMITS}: it has no limit {name}")
+    return f"{int(found[1]):,}" if found else "0"
+
+
+def within(whose, words):
+    """Words with the limits for BYTES and HERDS."""
+    return LIMIT.sub(lambda of: limit(f"{whose}_{of[1]}"), words)
 
 
 def refusal_rows():
+    """Number, words and record of each refusal, the words with no limits in them yet."""
     found = (ROOT / "docs" / "refusals.txt").read_text().splitlines()
     return [row.split(" | ") for row in found if not row.startswith("#")]
+
+
+def refusal_table():
+    """Number, words and record of each refusal, with both limits where it has one."""
+    rows = []
+    for number, words, record in refusal_rows():
+        for of in LIMIT.findall(words):
+            words += f"; with `{OPTION}` {limit(f'{COOPERATIVE}_{of}')}"
+        rows.append((number, within(INPUT, words), record))
+    return rows
 
 
 def help_pages():
@@ -368,11 +396,32 @@ def program_texts():
     if [int(row[0]) for row in refusals] != list(range(1, len(refusals) + 1)):
         faults.append("docs/refusals.txt: the numbers do not go up from 1")
     words = ["", *(row[1] for row in refusals)]
+    limited = [place for place, said in enumerate(words) if LIMIT.search(said)]
+    larger = {place: len(words) + i for i, place in enumerate(limited)}
+    said = [within(INPUT, of) for of in words] + [within(COOPERATIVE, words[place]) for place in limited]
     return source(
-        "The texts that the program prints beside its answers. Made by docs/tables from docs/refusals.txt and"
-        " docs/help.txt.",
-        text_table("WORDS", "WORDS_STARTS", words, "A refusal in words, by its number; there is none of the number 0."),
-        comment("The last number.") + constants([("REFUSALS", len(refusals))], "u64"),
+        "The texts that the program prints beside its answers. Made by docs/tables from docs/refusals.txt,"
+        " docs/help.txt and the limits of crate `limits`.",
+        text_table(
+            "WORDS",
+            "WORDS_STARTS",
+            said,
+            "A refusal in words, by its number; there is none of the number 0. Behind the last those of a cooperative's"
+            " file that name another limit.",
+        ),
+        comment("The last number, and the last place.")
+        + constants([("REFUSALS", len(refusals)), ("WORDS_LAST", len(said) - 1)]),
+        array(
+            "COOPERATIVE_WORDS",
+            "usize",
+            [larger.get(place, place) for place in range(len(words))],
+            "Where the words for a cooperative's file stand, by the refusal's number.",
+        ),
+        text(
+            "LARGER",
+            [within(COOPERATIVE, f"{OPTION} FILE takes up to BYTES bytes and HERDS herds")],
+            "What takes a file that is too large for standard input.",
+        ),
         text_table("PAGES", "PAGES_STARTS", list(pages.values()), "The pages of help, one for each command."),
         comment("The numbers of the pages, and the last of them.")
         + constants([*((name.upper(), place) for place, name in enumerate(pages)), ("PAGE_LAST", len(pages) - 1)]),

@@ -27,6 +27,14 @@ pub enum Descriptor {
     Nothing,
 }
 
+// What the words behind a command say of the file: is it a cooperative's, where its name stands, and where the words
+// end that say so.
+pub struct File {
+    pub cooperative: bool,
+    pub name: usize,
+    pub end: usize,
+}
+
 // Longer than any word that is asked for.
 const WORD_MOST: usize = 16;
 
@@ -68,6 +76,39 @@ pub fn is_status(i: usize) -> bool {
 
 pub fn is_words(i: usize) -> bool {
     is_word(i, b"--words")
+}
+
+pub fn is_cooperative(i: usize) -> bool {
+    is_word(i, b"--cooperative")
+}
+
+// Is it the word for standard input?
+pub fn is_input(i: usize) -> bool {
+    is_word(i, b"-")
+}
+
+// The words from this one on: a name, and --cooperative before or behind it.
+pub fn file_at(i: usize) -> File {
+    let second = after(i);
+    if is_cooperative(i) {
+        return File {
+            cooperative: true,
+            name: second,
+            end: after(second),
+        };
+    }
+    if is_cooperative(second) {
+        return File {
+            cooperative: true,
+            name: i,
+            end: after(second),
+        };
+    }
+    File {
+        cooperative: false,
+        name: i,
+        end: second,
+    }
 }
 
 fn view_of(word: &[u8]) -> Asked {

@@ -1,6 +1,7 @@
 // What is said on standard error, a whole line or two at a time; the pages of help; and the digit of the status.
 use crate::Ended;
 use libc::STDERR_FILENO;
+use limits::Source;
 use streams::Outcome;
 
 // What stands in the line, on standard error. Where that is closed or full, there is nobody to tell.
@@ -18,15 +19,25 @@ pub fn misused(what: &[u8], word: usize) -> Ended {
     Ended::Failed
 }
 
-// A file that is refused with a number and a record.
-pub fn refused(name: usize, number: u64, record: usize) {
+// A file that is refused with a number and a record, by the limits of where it comes from.
+pub fn refused(source: Source, name: usize, number: u64, record: usize) {
     let mut line = message_lines::room();
     let a = message_lines::add(&mut line, 0, b"urvendlo: ");
     let b = message_lines::add_name(&mut line, a, name);
     let c = message_lines::add(&mut line, b, b": ");
     let d = message_lines::add_record(&mut line, c, record);
-    let e = message_lines::add_refusal(&mut line, d, number);
+    let e = message_lines::add_refusal(&mut line, d, source, number);
     say(&line, e);
+}
+
+// That the option --cooperative takes larger files.
+pub fn larger() {
+    let mut line = message_lines::room();
+    let text = texts::LARGER;
+    let a = message_lines::add(&mut line, 0, b"urvendlo: ");
+    let b = message_lines::add(&mut line, a, &text);
+    let c = message_lines::add(&mut line, b, b"\n");
+    say(&line, c);
 }
 
 // That mending would make so many changes, and the command to try.

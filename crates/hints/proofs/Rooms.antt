@@ -1,29 +1,27 @@
--- Mending always has room in twice the file's length, so that what is read the second time is the mended file; and
+-- The mended file has room in twice the file's length, so that what is read the second time is the mended file; and
 -- nothing is said of a file that is too long. Assumes nothing.
-use Prim.Native.Nat.{ℕ, _-_, _*_, _<_, _≤_}
-use mathlib.Core.Path.{_≡_, refl, sym, ap, _∙_}
+use Prim.Native.Nat.{ℕ, _*_, _<_, _≤_}
+use mathlib.Core.Path.{_≡_, refl, ap, _∙_}
 use mathlib.Core.Bool.{Bool, true}
 use mathlib.Core.List.{List}
 use native.Mathlib.Omega.{arith}
-use lib.Dec.{leb, ltb}
-use lib.ListN.{length, take, drop}
-use lib.Seq.{take-at}
-use borrow.Author.Tests.{le-leb, lt-ltb}
+use lib.Dec.{ltb}
+use lib.ListN.{length, take, drop, length-drop}
+use borrow.Author.Tests.{lt-ltb}
 use Rattle.base.specs.Pick.{pick}
 use Rattle.base.specs.Part.{part}
-use Rattle.base.proofs.Clash.{clash}
-use Rattle.farm.specs.declared.Refusal.{Refusal}
-use Rattle.limits.specs.Limits.{inputBytes, limitsOf}
+use Rattle.base.specs.Wrote.{Wrote}
+use Rattle.base.proofs.Writes.{part-is}
+use Rattle.limits.specs.declared.Source.{Source}
+use Rattle.limits.specs.declared.Source.the-variants.{StandardInput, Cooperative}
+use Rattle.limits.specs.Limits.{inputBytes, cooperativeBytes, limitsOf}
 use Rattle.reader.specs.Files.{readOf}
 use Rattle.gate.specs.Logs.{logMost, readLog}
-use Rattle.mend.specs.declared.Answer.{Answer}
-use Rattle.mend.specs.declared.Answer.the-variants.{Mended, Refused}
 use Rattle.spreadsheet.specs.Faults.{marked}
-use Rattle.spreadsheet.specs.Mended.{entries, mendedOf, changesOf, changesFrom, textStart}
-use Rattle.mend.specs.Answer.{room, over, Mends}
-use Rattle.spreadsheet.proofs.Lengths.{entries-length}
-use Rattle.spreadsheet.proofs.Starts.{crs-few, change-many, changes-fit}
-use Rattle.mend.proofs.Rooms.{mended-long}
+use Rattle.spreadsheet.specs.Mended.{mendedOf, changesOf, textStart}
+use Rattle.spreadsheet.specs.Passed.{textFrom, crsFrom}
+use Rattle.spreadsheet.proofs.Lengths.{mended-length}
+use Rattle.spreadsheet.proofs.Starts.{start-inside, start-passed, crs-few}
 use Rattle.hints.specs.declared.Input.{Input}
 use Rattle.hints.specs.declared.Input.the-variants.{Farm, Log}
 use Rattle.reach.specs.declared.Reach.{Reach}
@@ -31,71 +29,59 @@ use Rattle.reach.specs.declared.Reach.the-variants.{TooLong}
 use Rattle.reach.specs.Reach.{reachOf, further}
 use Rattle.hints.specs.Hint.{farmReach, logReach, readTo, hintOf}
 
-abbrev first : Answer → ℕ
-first (Mended a b) = a
-first (Refused x a) = 0
+-- ---- the mended file, written
 
-abbrev second : Answer → ℕ
-second (Mended a b) = b
-second (Refused x a) = 0
+module _ (s : List ℕ) (m : Bool) (em : m ≡ marked s) (f : ℕ) (ef : f ≡ textStart m) where
+  text-is : textFrom s f ≡ mendedOf s
+  unfolding mendedOf
+  text-is = rw (ef, em)
 
-module _ (s : List ℕ) where
-  abbrev m : Bool
-  m = marked s
-
-  abbrev f : ℕ
-  f = textStart (marked s)
-
-  abbrev n : ℕ
-  n = length (changesFrom (take f s) (drop f s))
-
-  changes-short : length (changesOf s) ≤ length s
-  changes-short =
+  text-short : length (textFrom s f) ≤ 2 * length s
+  text-short =
       omega (
         arith,
-        changes-fit s m refl f refl n refl (pick m 1 0) refl,
-        change-many s m refl f refl n refl (pick m 1 0) refl,
+        mended-length (take f s) (drop f s),
+        length-drop f s,
+        crs-few s m em f ef (length (crsFrom s f)) refl,
       )
 
-  mended-short : length (mendedOf s) ≤ 2 * length s
-  mended-short = omega (arith, mended-long s m refl f refl n refl, crs-few s m refl f refl n refl)
+  module _ (out : List ℕ) where
+    pub text-fits : 2 * length s ≤ length out → length (textFrom s f) ≤ length out
+    text-fits h = omega (arith, text-short)
 
-  module _ (out list : List ℕ) (h : (2 * length s ≤ length out) × (2 * length s ≤ length list)) where
-    has-room : room s out list ≡ true
-    has-room =
-        let a : leb (length (mendedOf s)) (length out)
-        ≡ true = le-leb (length (mendedOf s)) (length out) (omega (arith, mended-short, h .0)) in
-        let b : leb (length (entries (changesOf s))) (length list)
-        ≡ true = le-leb (length (entries (changesOf s))) (length list)
-        (omega (arith, changes-short, entries-length (changesOf s), h .1)) in
-        rw (a, b)
+    pub text-put : (new : List ℕ) (r : ℕ) → Wrote out 0 (textFrom s f) new r → Wrote out 0 (mendedOf s) new r
+    text-put new r w = rw text-is at w
 
-    module _ (o l : List ℕ) (r : Answer) (w : Mends s out list o l r) where
-      said : r ≡ Mended (length (mendedOf s)) (length (changesOf s))
-      said = rw has-room at (w .answer)
+pub ruleset text-steps = (start-passed, text-fits, text-put)
 
-      pub hint-mended : (a b : ℕ) → r ≡ Mended a b → (i : Input) (p : List ℕ) → p ≡ part o 0 a → (x y : Reach)
-          → x ≡ readTo i s → y ≡ readTo i p → (k : ℕ) → k ≡ pick (further x y) b 0 → k ≡ hintOf i s
-      unfolding hintOf part
-      hint-mended a b e i p ep x y ex ey k ek =
-          let long : a ≡ length (mendedOf s) = ap first (sym e ∙ said) in
-          let many : b ≡ length (changesOf s) = ap second (sym e ∙ said) in
-          let file : o ≡ over (mendedOf s) out = rw has-room at (w .file) in
-          let n : ℕ = length (mendedOf s) in
-          let front = take-at (mendedOf s) (drop n out) (n - 0) (omega arith) in
-          let whole : p ≡ mendedOf s = ep ∙ (rw (long, file) front) in
-          ek ∙ (rw (ex, ey, many, whole))
+-- ---- and read
 
-      pub hint-refused : (x : Refusal) (a : ℕ) → r ≡ Refused x a → (i : Input) → 0 ≡ hintOf i s
-      hint-refused x a e i =
-          let d : Refused x a ≡ Mended (length (mendedOf s)) (length (changesOf s)) = sym e ∙ said in clash cc
+mended-short : (s : List ℕ) → length (mendedOf s) ≤ 2 * length s
+mended-short s =
+    omega (
+      arith,
+      ap length (text-is s (marked s) refl (textStart (marked s)) refl),
+      text-short s (marked s) refl (textStart (marked s)) refl,
+    )
+
+module _ (s out : List ℕ) (h : 2 * length s ≤ length out) (new : List ℕ) (a : ℕ) (w : Wrote out 0 (mendedOf s) new a)
+    where
+  pub hint-mended : (i : Input) (p : List ℕ) → p ≡ part new 0 a → (x y : Reach) → x ≡ readTo i s → y ≡ readTo i p
+      → (n : ℕ) → n ≡ length (changesOf s) → (k : ℕ) → k ≡ pick (further x y) n 0 → k ≡ hintOf i s
+  unfolding hintOf
+  hint-mended i p ep x y ex ey n en k ek =
+      let whole : p ≡ mendedOf s = ep ∙ part-is w (omega (arith, w .past, mended-short s)) in
+      ek ∙ (rw (ex, ey, en, whole))
 
 -- ---- too long
 
-module _ (s : List ℕ) (h : inputBytes < length s) where
-  farm-long : farmReach s ≡ TooLong
+module _ (s : List ℕ) (h : cooperativeBytes < length s) where
+  farm-long : (source : Source) → farmReach source s ≡ TooLong
   unfolding farmReach limitsOf readOf reachOf
-  farm-long = let e : ltb inputBytes (length s) ≡ true = lt-ltb inputBytes (length s) h in rw e
+  farm-long StandardInput =
+      let e : ltb inputBytes (length s) ≡ true = lt-ltb inputBytes (length s) (omega arith) in rw e
+  farm-long Cooperative =
+      let e : ltb cooperativeBytes (length s) ≡ true = lt-ltb cooperativeBytes (length s) h in rw e
 
   log-long : logReach s ≡ TooLong
   unfolding logReach readLog reachOf
@@ -103,5 +89,5 @@ module _ (s : List ℕ) (h : inputBytes < length s) where
 
   pub hint-long : (i : Input) → 0 ≡ hintOf i s
   unfolding hintOf
-  hint-long Farm = rw farm-long
+  hint-long (Farm source) = rw (farm-long source)
   hint-long Log = rw log-long

@@ -5,7 +5,7 @@ use mathlib.Core.List.{List}
 use Rattle.farm.specs.declared.Refusal.{Refusal}
 use Rattle.farm.specs.declared.Checked.the-variants as checks
 use Rattle.farm.specs.Refusals as farms
-use Rattle.limits.specs.declared.Source.the-variants.{StandardInput}
+use Rattle.limits.specs.declared.Source.{Source}
 use Rattle.limits.specs.Limits.{limitsOf}
 use Rattle.reader.specs.declared.FileAnswer.{FileAnswer}
 use Rattle.reader.specs.Files.{readOf}
@@ -22,14 +22,14 @@ use Rattle.reach.specs.declared.Reach.the-variants.{Through}
 use Rattle.reach.specs.Reach.{reachOf}
 use Rattle.hints.specs.Hint.{checkedReach, answerReach, farmReach, logReach, readTo}
 
-module _ (s : List ℕ) (a : FileAnswer) (e : a ≡ readOf (limitsOf StandardInput) s) where
-  pub farm-through : a .checked ≡ checks.Accepted → Through ≡ farmReach s
+module _ (source : Source) (s : List ℕ) (a : FileAnswer) (e : a ≡ readOf (limitsOf source) s) where
+  pub farm-through : a .checked ≡ checks.Accepted → Through ≡ farmReach source s
   unfolding farmReach
   farm-through c = ap checkedReach (sym c ∙ ap (λ (x : FileAnswer). x .checked) e)
 
   pub farm-refused : (refusal : Refusal) (n : ℕ) → a .checked ≡ checks.Refused refusal n → (k : ℕ)
       → k ≡ farms.number refusal
-      → (r : Reach) → r ≡ reachOf k n → r ≡ farmReach s
+      → (r : Reach) → r ≡ reachOf k n → r ≡ farmReach source s
   unfolding farmReach
   farm-refused refusal n c k ek r er =
       er ∙ ap (λ (x : ℕ). reachOf x n) ek ∙ ap checkedReach (sym c ∙ ap (λ (x : FileAnswer). x .checked) e)
@@ -45,8 +45,8 @@ module _ (s : List ℕ) (a : LogAnswer) (e : a ≡ readLog s) where
   log-refused refusal n c k ek r er = er ∙ ap (λ (x : ℕ). reachOf x n) ek ∙ ap answerReach (sym c ∙ e)
 
 module _ (i : Input) (s : List ℕ) (r : Reach) where
-  pub read-farm : i ≡ Farm → r ≡ farmReach s → r ≡ readTo i s
-  read-farm e h = rw e h
+  pub read-farm : (source : Source) → i ≡ Farm source → r ≡ farmReach source s → r ≡ readTo i s
+  read-farm source e h = rw e h
 
   pub read-log : i ≡ Log → r ≡ logReach s → r ≡ readTo i s
   read-log e h = rw e h

@@ -7,7 +7,7 @@ use Rattle.base.specs.Pick.{pick}
 use Rattle.farm.specs.declared.Checked.{Checked}
 use Rattle.farm.specs.declared.Checked.the-variants as checks
 use Rattle.farm.specs.Refusals as farms
-use Rattle.limits.specs.declared.Source.the-variants.{StandardInput}
+use Rattle.limits.specs.declared.Source.{Source}
 use Rattle.limits.specs.Limits.{limitsOf}
 use Rattle.reader.specs.Files.{readOf}
 use Rattle.gate.specs.declared.LogAnswer.{LogAnswer}
@@ -29,15 +29,15 @@ abbrev pub answerReach : LogAnswer → Reach
 answerReach (answers.Gives o) = Through
 answerReach (answers.Refused refusal n) = reachOf (gates.number refusal) n
 
-unfoldable pub farmReach : List ℕ → Reach
-farmReach s = checkedReach (readOf (limitsOf StandardInput) s .checked)
+unfoldable pub farmReach : Source → List ℕ → Reach
+farmReach source s = checkedReach (readOf (limitsOf source) s .checked)
 
 unfoldable pub logReach : List ℕ → Reach
 logReach s = answerReach (readLog s)
 
 -- how far a file is read
 abbrev pub readTo : Input → List ℕ → Reach
-readTo Farm s = farmReach s
+readTo (Farm source) s = farmReach source s
 readTo Log s = logReach s
 
 -- the number of changes, where mending brings reading further; else 0

@@ -4,31 +4,30 @@ use farm::Checked;
 use gate::LogAnswer;
 use gate::logs;
 use limits::Source;
-use mend::Answer;
 use reach::Reach;
 ghost use mathlib.Core.Path.{_≡_};
 ghost use Prim.Native.Nat.{_*_, _≤_};
 ghost use lib.ListN.{length};
+ghost use Rattle.base.specs.Wrote.{Wrote};
+ghost use Rattle.spreadsheet.specs.Mended.{mendedOf};
 ghost use Rattle.hints.specs.Hint.{farmReach, logReach, readTo, hintOf};
 
-// What a file is read as: a farm, or a gate's log.
+// What a file is read as: a farm, by the limits of where it comes from, or a gate's log.
 pub enum Input {
-    Farm,
+    Farm(Source),
     Log,
 }
 
-// The longest file that is read from standard input, and the longest log.
-const INPUT_MOST: usize = limits::INPUT_BYTES;
+// No file that is read is longer, whatever it is read as.
+const FILE_MOST: usize = limits::COOPERATIVE_BYTES;
 
 // Every byte may be a bare LF.
-const MENDED_MOST: usize = 2 * INPUT_MOST;
+const MENDED_MOST: usize = 2 * FILE_MOST;
 
-const LIST_MOST: usize = mend::ENTRY * INPUT_MOST;
-
-fn farm_reach(s: &[u8]) -> Reach
-    ensures { λ r. ⌜ r ≡ farmReach (now (s .entry)) ⌝ }
+fn farm_reach(source: Source, s: &[u8]) -> Reach
+    ensures { λ r. ⌜ r ≡ farmReach source (now (s .entry)) ⌝ }
 {
-    let answer = farm_file::read(Source::StandardInput, s);
+    let answer = farm_file::read(source, s);
     let checked = answer.checked;
     match checked {
         Checked::Accepted => Reach::Through,
@@ -55,43 +54,43 @@ fn read_to(input: Input, s: &[u8]) -> Reach
     ensures { λ r. ⌜ r ≡ readTo input (now (s .entry)) ⌝ }
 {
     match input {
-        Input::Farm => farm_reach(s),
+        Input::Farm(source) => farm_reach(source, s),
         Input::Log => log_reach(s),
     }
 }
 
-// The same by way of these slices.
-fn hint_by(input: Input, s: &[u8], out: &mut [u8], list: &mut [usize]) -> usize
-    requires { ⌜ (2 * length (now s) ≤ length (now out)) × (2 * length (now s) ≤ length (now list)) ⌝ }
+// The mended file from the front of the slice on, and its length. No list is asked for, which would be eight times as
+// long.
+fn put_mended(s: &[u8], out: &mut [u8]) -> usize
+    requires { ⌜ 2 * length (now s) ≤ length (now out) ⌝ }
+    ensures { λ r. ⌜ Wrote (now (out .entry)) 0 (mendedOf (now (s .entry))) (now (out .exit)) r ⌝ }
+{
+    let marked = spreadsheet::is_marked(s);
+    mend_writes::put_text(s, spreadsheet::text_start(marked), out)
+}
+
+// The same as `hint`, by way of this slice.
+fn hint_by(input: Input, s: &[u8], out: &mut [u8]) -> usize
+    requires { ⌜ 2 * length (now s) ≤ length (now out) ⌝ }
     ensures { λ r. ⌜ r ≡ hintOf input (now (s .entry)) ⌝ }
 {
     let before = read_to(input, s);
-    match mend::mend(s, out, list) {
-        Answer::Mended(n, changes) => reach::if_further(
-            before,
-            read_to(input, base::part_of(out, 0, n)),
-            changes,
-        ),
-        Answer::Refused(_, _) => 0,
-    }
+    let n = put_mended(s, out);
+    let after = read_to(input, base::part_of(out, 0, n));
+    reach::if_further(before, after, spreadsheet::change_count(s))
 }
 
 fn mended_room() -> [u8; MENDED_MOST] {
     [0u8; MENDED_MOST]
 }
 
-fn list_room() -> [usize; LIST_MOST] {
-    [0usize; LIST_MOST]
-}
-
 // How many changes mending makes in the file, where it helps; else 0.
 pub fn hint(input: Input, s: &[u8]) -> usize
     ensures { λ r. ⌜ r ≡ hintOf input (now (s .entry)) ⌝ }
 {
-    if INPUT_MOST < s.len() {
+    if FILE_MOST < s.len() {
         return 0;
     }
     let mut out = mended_room();
-    let mut list = list_room();
-    hint_by(input, s, &mut out, &mut list)
+    hint_by(input, s, &mut out)
 }

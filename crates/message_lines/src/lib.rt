@@ -1,5 +1,6 @@
 // A line for standard error, put together from its parts: texts, numbers, words of the command line as they are shown,
 // a refusal in words. What has no room is left out; there is room for every line that is said.
+use limits::Source;
 
 // Room for a line with a name in it, however it is quoted, and the words around it.
 const LINE_MOST: usize = quoting::BYTE_MOST * asked::NAME_MOST + quoting::AROUND_MOST + 512;
@@ -78,15 +79,30 @@ pub fn add_record(line: &mut [u8], at: usize, record: usize) -> usize {
     add(line, b, b": ")
 }
 
-// The refusal in words.
-pub fn add_refusal(line: &mut [u8], at: usize, number: u64) -> usize {
+// Where the words of a refusal stand, which name the limit that held.
+fn words_of(source: Source, number: usize) -> usize {
+    let cooperative = texts::COOPERATIVE_WORDS;
+    if texts::REFUSALS < number {
+        return 0;
+    }
+    match source {
+        Source::StandardInput => number,
+        Source::Cooperative => cooperative[number],
+    }
+}
+
+fn add_words(line: &mut [u8], at: usize, i: usize) -> usize {
     let words = texts::WORDS;
     let starts = texts::WORDS_STARTS;
-    if texts::REFUSALS < number {
+    if texts::WORDS_LAST < i {
         return at;
     }
-    let i = number as usize;
-    let a = add(line, at, base::part_of(&words, starts[i], starts[i + 1]));
+    add(line, at, base::part_of(&words, starts[i], starts[i + 1]))
+}
+
+// The refusal in words.
+pub fn add_refusal(line: &mut [u8], at: usize, source: Source, number: u64) -> usize {
+    let a = add_words(line, at, words_of(source, number as usize));
     let b = add(line, a, b" (refusal ");
     let c = add_number(line, b, number);
     add(line, c, b")\n")

@@ -1,5 +1,5 @@
-// A stream read to its end, and a text written to standard output: whole, or it is said that it failed. What to do after
-// a call of the system, crate `stream_steps` decides.
+// A stream read to its end, and a text written to standard output: whole, or it is said that it failed. What to do
+// after a call of the system, crate `stream_steps` decides.
 use libc::STDIN_FILENO;
 use libc::STDOUT_FILENO;
 use stream_steps::Moved;

@@ -1,7 +1,9 @@
-// The texts that the program prints beside its answers. Made by docs/tables from docs/refusals.txt and docs/help.txt.
+// The texts that the program prints beside its answers. Made by docs/tables from docs/refusals.txt, docs/help.txt and
+// the limits of crate `limits`.
 
-// A refusal in words, by its number; there is none of the number 0.
-pub const WORDS: [u8; 780] = *b"\
+// A refusal in words, by its number; there is none of the number 0. Behind the last those of a cooperative's file that
+// name another limit.
+pub const WORDS: [u8; 841] = *b"\
 the file has more than 65,536 bytes\
 a record breaks RFC 4180\
 a record has not four fields, or in a gate's log not three\
@@ -16,9 +18,11 @@ the input was given already in this herd\
 the file is read through, and a herd lacks an input\
 a lent buffer is shorter than what is to be written (library calls)\
 the date of a gate's log can't be read or is not the next one, or the log ends before 31 December\
+the file has more than 65,536 bytes\
+a new label after 64 herds\
 ";
 
-pub const WORDS_STARTS: [usize; 16] = [
+pub const WORDS_STARTS: [usize; 18] = [
     0,
     0,
     35,
@@ -35,13 +39,25 @@ pub const WORDS_STARTS: [usize; 16] = [
     616,
     683,
     780,
+    815,
+    841,
 ];
 
-// The last number.
-pub const REFUSALS: u64 = 14;
+// The last number, and the last place.
+pub const REFUSALS: usize = 14;
+
+pub const WORDS_LAST: usize = 16;
+
+// Where the words for a cooperative's file stand, by the refusal's number.
+pub const COOPERATIVE_WORDS: [usize; 15] = [0, 15, 2, 3, 4, 5, 6, 7, 8, 16, 10, 11, 12, 13, 14];
+
+// What takes a file that is too large for standard input.
+pub const LARGER: [u8; 56] = *b"\
+--cooperative FILE takes up to 65,536 bytes and 64 herds\
+";
 
 // The pages of help, one for each command.
-pub const PAGES: [u8; 3779] = *b"\
+pub const PAGES: [u8; 4091] = *b"\
 usage: urvendlo [COMMAND] [OPTION..] [FILE]\n\
 \n\
 Reads a farm file, which is FILE or standard input (also as -), and prints\n\
@@ -61,16 +77,19 @@ Reads a farm file, which is FILE or standard input (also as -), and prints\n\
 \x20 -o FILE  what is printed goes to FILE, all of it or nothing; a refused file\n\
 \x20          leaves FILE as it was\n\
 \x20 --words  of the command why: sentences in place of records\n\
+\x20 --cooperative\n\
+\x20          of figures, notes, cuts, chart and why: FILE, which has to be named,\n\
+\x20          may have up to 262,144 bytes and 512 herds; else 65,536 and 64\n\
 \x20 --       what follows is a file, whatever it is called\n\
 \n\
 The status is 0 where the answer was printed, 1 where the file was refused,\n\
 2 for wrong usage, unreadable input or failed output.\n\
 \n\
 The bare program, target/bin/urvendlo, needs neither ./urvendlo nor the kit:\n\
-urvendlo [--status-fd N] [COMMAND] [NAME] < FILE. NAME is for messages. The\n\
-digit of the status goes to the descriptor N; the program's own is always 0.\n\
-chart, version and -o are of ./urvendlo alone.\n\
-usage: urvendlo [figures] [-o FILE] [FILE]\n\
+urvendlo [--status-fd N] [COMMAND] [NAME] < FILE. NAME is for messages, and\n\
+with --cooperative it is opened. The digit of the status goes to the descriptor\n\
+N; the program's own is always 0. chart, version and -o are of ./urvendlo alone.\n\
+usage: urvendlo [figures] [-o FILE] [FILE | --cooperative FILE]\n\
 \n\
 A line a figure, herd after herd and then the totals: LABEL,MODULE,NAME and\n\
 kilograms of nitrogen a year, with three decimals. A refused file gets the\n\
@@ -78,7 +97,7 @@ line refused,NUMBER,RECORD, and standard error has it in words.\n\
 \n\
 \x20 $ urvendlo examples/farm.csv\n\
 \x20 Heifers,Livestock::OtherCattle::Excretion,n_excretion,960.000\n\
-usage: urvendlo notes [-o FILE] [FILE]\n\
+usage: urvendlo notes [-o FILE] [FILE | --cooperative FILE]\n\
 \n\
 A line a herd: LABEL and five times yes or no: N entered off its standard, TAN\n\
 entered off its standard, a free factor that is not 0, a share of the yard that\n\
@@ -86,20 +105,20 @@ is lowered, a factor of the housing that is above 1 and counts as 1.\n\
 \n\
 \x20 $ urvendlo notes examples/farm.csv\n\
 \x20 Heifers,no,no,no,yes,no\n\
-usage: urvendlo cuts [-o FILE] [FILE]\n\
+usage: urvendlo cuts [-o FILE] [FILE | --cooperative FILE]\n\
 \n\
 A line a division that is rounded down: LABEL,MODULE,NAME, what was cut off,\n\
 and the divisor.\n\
 \n\
 \x20 $ urvendlo cuts examples/odd.csv\n\
 \x20 Heifers,Livestock::OtherCattle::Excretion,tan_excretion,0,10000\n\
-usage: urvendlo chart [-o FILE] [FILE]\n\
+usage: urvendlo chart [-o FILE] [FILE | --cooperative FILE]\n\
 \n\
 The figures as an SVG, which any browser shows: of each herd a bar of its\n\
 nitrogen and a bar of its ammonia, by place. It needs Python 3.\n\
 \n\
 \x20 $ urvendlo chart -o farm.svg examples/farm.csv\n\
-usage: urvendlo why [--words] [-o FILE] [FILE]\n\
+usage: urvendlo why [--words] [-o FILE] [FILE | --cooperative FILE]\n\
 \n\
 A line a herd with a yard: LABEL, the reason (no_such_days, not_available,\n\
 as_chosen or lowered), the days with both yard and pasture, and the yard's\n\
@@ -135,16 +154,16 @@ The commit of this program, and the kit that proves it, where there is one.\n\
 
 pub const PAGES_STARTS: [usize; 11] = [
     0,
-    1443,
-    1798,
-    2130,
-    2365,
-    2593,
-    2916,
-    3148,
-    3431,
-    3678,
-    3779,
+    1650,
+    2026,
+    2379,
+    2635,
+    2884,
+    3228,
+    3460,
+    3743,
+    3990,
+    4091,
 ];
 
 // The numbers of the pages, and the last of them.

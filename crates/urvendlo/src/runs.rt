@@ -1,6 +1,7 @@
 // What each command does: the file is read, the answer printed, and of a refusal it is said what there is to say.
 use console::Ended;
 use console::messages;
+use console::named;
 use farm::Refusal;
 use gate::LogAnswer;
 use gate_days::LogRefusal;
@@ -14,11 +15,11 @@ ghost use Prim.Native.Nat.{_+_};
 ghost use mathlib.Core.Path.{_≡_};
 ghost use lib.ListN.{length};
 ghost use Rattle.gate.specs.Logs.{logMost};
+ghost use Rattle.limits.specs.Limits.{cooperativeBytes};
 ghost use Rattle.streams.specs.Within.{Within};
 
-// A refused file: the refusal in words, and the command `mend` where that helps.
-fn refused(kind: Input, s: &[u8], name: usize, number: u64, record: usize) -> Ended {
-    messages::refused(name, number, record);
+// The command `mend`, where it helps a refused file.
+fn hint(kind: Input, s: &[u8], name: usize) -> Ended {
     let changes = hints::hint(kind, s);
     if changes > 0 {
         messages::hinted(name, changes);
@@ -26,30 +27,41 @@ fn refused(kind: Input, s: &[u8], name: usize, number: u64, record: usize) -> En
     Ended::Refused
 }
 
-fn farm_refused(s: &[u8], name: usize, refusal: Refusal, record: usize) -> Ended {
-    refused(
-        Input::Farm,
-        s,
-        name,
-        refusal_numbers::number_of(refusal),
-        record,
-    )
+// The option --cooperative, where a farm file is too large without it.
+fn tell_larger(number: u64) {
+    if number == refusal_numbers::number_of(Refusal::FileTooLong) {
+        messages::larger();
+    }
+    if number == refusal_numbers::number_of(Refusal::NoRoomForHerd) {
+        messages::larger();
+    }
+}
+
+fn tell_if_larger(source: Source, number: u64) {
+    match source {
+        Source::StandardInput => tell_larger(number),
+        Source::Cooperative => {}
+    }
+}
+
+// A refused file: the refusal in words, and what may help.
+fn farm_refused(source: Source, s: &[u8], name: usize, refusal: Refusal, record: usize) -> Ended {
+    let number = refusal_numbers::number_of(refusal);
+    messages::refused(source, name, number, record);
+    tell_if_larger(source, number);
+    hint(Input::Farm(source), s, name)
 }
 
 fn log_refused(s: &[u8], name: usize, refusal: LogRefusal, record: usize) -> Ended {
-    refused(
-        Input::Log,
-        s,
-        name,
-        gate_days::faults::number_of(refusal),
-        record,
-    )
+    let number = gate_days::faults::number_of(refusal);
+    messages::refused(Source::StandardInput, name, number, record);
+    hint(Input::Log, s, name)
 }
 
-fn answer_farm(view: View, s: &[u8], name: usize) -> Ended {
-    match printing::print_view(view, Source::StandardInput, s) {
+fn answer_farm(view: View, source: Source, s: &[u8], name: usize) -> Ended {
+    match printing::print_view(view, source, s) {
         Printed::Listed => Ended::Printed,
-        Printed::Refused(refusal, record) => farm_refused(s, name, refusal, record),
+        Printed::Refused(refusal, record) => farm_refused(source, s, name, refusal, record),
         Printed::Broken => messages::unwritten(),
     }
 }
@@ -62,8 +74,42 @@ fn farm_room() -> [u8; input::INPUT_MOST] {
 pub fn of_farm(view: View, name: usize) -> Ended {
     let mut file = farm_room();
     match input::read_file(&mut file) {
-        Outcome::Whole(n) => answer_farm(view, base::part_of(&file, 0, n), name),
+        Outcome::Whole(n) => answer_farm(
+            view,
+            Source::StandardInput,
+            base::part_of(&file, 0, n),
+            name,
+        ),
         Outcome::Broken => messages::unread(),
+    }
+}
+
+// One byte more than a cooperative's file may have, so that a longer one is seen.
+const COOPERATIVE_MOST: usize = limits::COOPERATIVE_BYTES + 1;
+
+// The whole file of that name; or, of a longer one, so much that it is refused as too long.
+fn read_cooperative(name: usize, file: &mut [u8]) -> Outcome
+    requires { ⌜ length (now file) ≡ cooperativeBytes + 1 ⌝ }
+    ensures { λ r. ⌜ Within (length (now (file .exit))) r ⌝ }
+{
+    named::read_file(name, file)
+}
+
+fn cooperative_room() -> [u8; COOPERATIVE_MOST] {
+    [0u8; COOPERATIVE_MOST]
+}
+
+// A cooperative's file, by its name; where it cannot be read that is said.
+pub fn of_cooperative(view: View, name: usize) -> Ended {
+    let mut file = cooperative_room();
+    match read_cooperative(name, &mut file) {
+        Outcome::Whole(n) => answer_farm(
+            view,
+            Source::Cooperative,
+            base::part_of(&file, 0, n),
+            name,
+        ),
+        Outcome::Broken => Ended::Failed,
     }
 }
 

@@ -1,4 +1,4 @@
--- `hints::hint` meets its contract: nothing for a file that is too long, else by way of two slices that have room.
+-- `hints::hint` meets its contract: nothing for a file that is too long, else by way of a slice that has room.
 -- Assumes nothing.
 use Rattle.hints.proofs.Rooms.{hint-long}
 use borrow.Author.Needs.{needs}
@@ -11,14 +11,8 @@ returns c = search (needs, hint-long)
 mended-room-requires : tie.Need-mended-room-requires
 mended-room-requires c κs = search needs
 
-list-room-requires : tie.Need-list-room-requires
-list-room-requires c κs = search needs
-
 slice-aggregate-hint-by : tie.Need-slice-aggregate-hint-by
 slice-aggregate-hint-by c = search needs
-
-slice-aggregate-hint-by-2 : tie.Need-slice-aggregate-hint-by-2
-slice-aggregate-hint-by-2 c = search needs
 
 hint-by-requires : tie.Need-hint-by-requires
 hint-by-requires c κs = search needs
@@ -32,8 +26,6 @@ hint-spec =
     (tie.spec
     returns
     mended-room-requires
-    list-room-requires
     slice-aggregate-hint-by
-    slice-aggregate-hint-by-2
     hint-by-requires
     returns-2)

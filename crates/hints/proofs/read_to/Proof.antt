@@ -4,14 +4,14 @@ use borrow.Author.Needs.{needs}
 use Rattle.hints.proofs.read_to.Statement.{statement}
 use Rattle.hints.proofs.read_to.Tie as tie
 
-enum-told : tie.Need-enum-told
-enum-told c = search needs
+enum-known-input : tie.Need-enum-known-input
+enum-known-input c = search needs
 
 farm-reach-requires : tie.Need-farm-reach-requires
 farm-reach-requires c κs = search needs
 
-enum-told-2 : tie.Need-enum-told-2
-enum-told-2 c = search needs
+enum-told : tie.Need-enum-told
+enum-told c = search needs
 
 log-reach-requires : tie.Need-log-reach-requires
 log-reach-requires c κs = search needs
@@ -25,4 +25,4 @@ returns-2 c = search (needs, reach-steps)
 pub read-to-spec : {M : Type 1} → statement M
 read-to-spec =
     tie.close
-    (tie.spec enum-told farm-reach-requires enum-told-2 log-reach-requires returns returns-2)
+    (tie.spec enum-known-input farm-reach-requires enum-told log-reach-requires returns returns-2)
