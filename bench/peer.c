@@ -1,20 +1,32 @@
 // The yardstick of the benchmark: Urvendlo's job in plain C, written for speed, of all four kinds of herd. A farm file
 // on standard input; what `urvendlo figures` prints for it, its listing or its refusal, on standard output, in the same
-// bytes.
+// bytes. A letter says where a file comes from, which gives its limits: s for standard input, c for a cooperative.
 //
-//   peer           one farm file
-//   peer cases     farm files one after the other, each behind its length in four bytes, the lowest first: for each what
-//                  `figures`, `notes`, `cuts`, `why` and `why --words` print, as crates/test_vectors does
-//   peer repeat    a mode, how often in eight digits, and a farm file: repeats the work inside the process and prints one
-//                  checksum, as the program `bench_repeat` does. The mode is w for the whole job, r for reading alone, l
-//                  for what comes after reading: figures and listing
+//   peer [LETTER]  one farm file; without a letter one on standard input
+//   peer cases     farm files one after the other, each behind its length in four bytes, the lowest first, and a letter:
+//                  for each what `figures`, `notes`, `cuts`, `why` and `why --words` print, as crates/test_vectors does
+//   peer repeat    a mode, a letter, how often in eight digits, and a farm file: repeats the work inside the process and
+//                  prints one checksum, as the program `bench_repeat` does. The mode is w for the whole job, r for
+//                  reading alone, l for what comes after reading: figures and listing
 #include <stdint.h>
 #include <stdio.h>
 #include <stdlib.h>
 #include <string.h>
 #include <unistd.h>
 
-enum { FILE_MOST = 65536, HERDS_MOST = 64, SLOTS = 9, LABEL_MOST = 16 };
+enum { SLOTS = 9, LABEL_MOST = 16 };
+
+// The most bytes of a file and the most herds of its farm, from standard input and from a cooperative.
+enum { INPUT_BYTES = 65536, INPUT_HERDS = 64, COOPERATIVE_BYTES = 262144, COOPERATIVE_HERDS = 512 };
+
+struct limits {
+    uint32_t bytes, herds;
+};
+
+static struct limits limits_of(uint8_t letter) {
+    if (letter == 'c') return (struct limits){COOPERATIVE_BYTES, COOPERATIVE_HERDS};
+    return (struct limits){INPUT_BYTES, INPUT_HERDS};
+}
 
 // ---- the farm
 
@@ -41,7 +53,7 @@ struct herd {
 
 struct farm {
     uint32_t count;
-    struct herd herds[HERDS_MOST];
+    struct herd herds[COOPERATIVE_HERDS];
 };
 
 struct refusal {
@@ -373,9 +385,10 @@ static struct refusal refused(uint32_t number, uint32_t record) { return (struct
 
 static struct refusal accepted(void) { return refused(0, 0); }
 
-static __attribute__((noinline)) struct refusal read_farm(const uint8_t *file, size_t length, struct farm *farm) {
+static __attribute__((noinline)) struct refusal read_farm(const uint8_t *file, size_t length, struct limits limits,
+                                                           struct farm *farm) {
     farm->count = 0;
-    if (length > FILE_MOST) return refused(1, 0);
+    if (length > limits.bytes) return refused(1, 0);
     const uint8_t *p = file, *end = file + length;
     struct herd *herd = NULL;
     for (uint32_t record = 1; p != end; record++) {
@@ -397,7 +410,7 @@ static __attribute__((noinline)) struct refusal read_farm(const uint8_t *file, s
             for (uint32_t i = 0; i < farm->count; i++) {
                 if (has_label(&farm->herds[i], label, fields[0].length)) return refused(8, record);
             }
-            if (farm->count == HERDS_MOST) return refused(9, record);
+            if (farm->count == limits.herds) return refused(9, record);
             herd = &farm->herds[farm->count++];
             herd->label[0] = label[0];
             herd->label[1] = label[1];
@@ -904,8 +917,11 @@ static uint8_t *put_cuts(uint8_t *out, const struct herd *herd) {
 enum { LISTING_MOST = 4096 };
 
 static struct farm farm;
-static uint8_t output[(HERDS_MOST + 1) * LISTING_MOST];
-static uint8_t input_bytes[FILE_MOST + 1 + 9];
+static uint8_t output[(COOPERATIVE_HERDS + 1) * LISTING_MOST];
+
+// What stands before a farm file whose work is repeated.
+enum { HEAD = 10 };
+static uint8_t input_bytes[HEAD + COOPERATIVE_BYTES + 1];
 
 static size_t read_up_to(uint8_t *to, size_t most) {
     size_t done = 0;
@@ -933,14 +949,14 @@ static uint8_t *list_farm(uint8_t *out) {
 }
 
 // What a file is answered with, into the output; the end of it.
-static uint8_t *put_answer(const uint8_t *file, size_t length) {
-    struct refusal r = read_farm(file, length, &farm);
+static uint8_t *put_answer(const uint8_t *file, size_t length, struct limits limits) {
+    struct refusal r = read_farm(file, length, limits, &farm);
     if (r.number) return output + sprintf((char *)output, "refused,%u,%u\r\n", r.number, r.record);
     return list_farm(output);
 }
 
-static void answer(const uint8_t *file, size_t length) {
-    const uint8_t *end = put_answer(file, length);
+static void answer(const uint8_t *file, size_t length, struct limits limits) {
+    const uint8_t *end = put_answer(file, length, limits);
     write_all(output, (size_t)(end - output));
 }
 
@@ -988,8 +1004,9 @@ static uint8_t *put_why_in_words(uint8_t *out, const struct herd *herd) {
 }
 
 // What a command prints that lists each herd and no totals.
-static void answer_with(uint8_t *put(uint8_t *, const struct herd *), const uint8_t *file, size_t length) {
-    struct refusal r = read_farm(file, length, &farm);
+static void answer_with(uint8_t *put(uint8_t *, const struct herd *), const uint8_t *file, size_t length,
+                        struct limits limits) {
+    struct refusal r = read_farm(file, length, limits, &farm);
     uint8_t *end = output;
     if (r.number) end += sprintf((char *)output, "refused,%u,%u\r\n", r.number, r.record);
     else for (uint32_t i = 0; i < farm.count; i++) end = put(end, &farm.herds[i]);
@@ -1001,12 +1018,13 @@ static int run_cases(void) {
     uint8_t head[4];
     while (read_up_to(head, 4) == 4) {
         size_t length = head[0] | (size_t)head[1] << 8 | (size_t)head[2] << 16 | (size_t)head[3] << 24;
-        if (length > sizeof file || read_up_to(file, length) < length) return 1;
-        answer(file, length);
-        answer_with(put_notes, file, length);
-        answer_with(put_cuts, file, length);
-        answer_with(put_why, file, length);
-        answer_with(put_why_in_words, file, length);
+        if (length < 1 || length > sizeof file || read_up_to(file, length) < length) return 1;
+        struct limits limits = limits_of(file[0]);
+        answer(file + 1, length - 1, limits);
+        answer_with(put_notes, file + 1, length - 1, limits);
+        answer_with(put_cuts, file + 1, length - 1, limits);
+        answer_with(put_why, file + 1, length - 1, limits);
+        answer_with(put_why_in_words, file + 1, length - 1, limits);
     }
     return 0;
 }
@@ -1034,18 +1052,19 @@ static uint64_t read_sum(uint64_t sum, uint64_t turn, struct refusal r) {
 
 static int run_repeat(void) {
     size_t length = read_up_to(input_bytes, sizeof input_bytes);
-    if (length < 9) return 1;
+    if (length < HEAD) return 1;
     uint8_t mode = input_bytes[0];
+    struct limits limits = limits_of(input_bytes[1]);
     uint64_t times = 0, sum = 0;
-    for (int i = 1; i < 9; i++) times = times * 10 + (uint64_t)(input_bytes[i] - '0');
-    const uint8_t *file = input_bytes + 9;
-    length -= 9;
-    if (mode == 'l' && read_farm(file, length, &farm).number) return 1;
+    for (int i = 2; i < HEAD; i++) times = times * 10 + (uint64_t)(input_bytes[i] - '0');
+    const uint8_t *file = input_bytes + HEAD;
+    length -= HEAD;
+    if (mode == 'l' && read_farm(file, length, limits, &farm).number) return 1;
     for (uint64_t turn = times; turn > 0; turn--) {
         switch (mode) {
-        case 'r': sum = read_sum(sum, turn, read_farm(file, length, &farm)); break;
+        case 'r': sum = read_sum(sum, turn, read_farm(file, length, limits, &farm)); break;
         case 'l': sum = text_sum(sum, turn, list_farm(output)); break;
-        default: sum = text_sum(sum, turn, put_answer(file, length));
+        default: sum = text_sum(sum, turn, put_answer(file, length, limits));
         }
     }
     printf("%llu\n", (unsigned long long)sum);
@@ -1055,7 +1074,7 @@ static int run_repeat(void) {
 int main(int count, char **words) {
     if (count == 2 && strcmp(words[1], "cases") == 0) return run_cases();
     if (count == 2 && strcmp(words[1], "repeat") == 0) return run_repeat();
-    size_t length = read_up_to(input_bytes, FILE_MOST + 1);
-    answer(input_bytes, length);
+    struct limits limits = limits_of(count == 2 ? (uint8_t)words[1][0] : 's');
+    answer(input_bytes, read_up_to(input_bytes, limits.bytes + 1), limits);
     return 0;
 }

@@ -1,4 +1,4 @@
-"""The fixed list of files that the stored vectors are made of.
+"""The fixed list of farm files on standard input that the stored vectors are made of.
 
 Most groups go through a catalogue or a range from end to end; the last ones are
 thrown with a fixed seed.
@@ -28,7 +28,7 @@ from inputs import (
     module_path,
 )
 from model import HOURS_A_YEAR, c_grazing, housing_nh3_rate, k_grazing
-from reading import LONGEST_LABEL, MOST_BYTES, MOST_HERDS
+from reading import LONGEST_LABEL, STANDARD_INPUT
 from values import (
     AIR_SCRUBBERS,
     DAIRY_STANDARD_KILOGRAMS,
@@ -51,6 +51,12 @@ TOO_LONG_FILES = 16
 # The throws that have dairy cows too.
 SEED_WITH_COWS = 20241103
 RANDOM_FILES_WITH_COWS = 120
+
+MOST_BYTES, MOST_HERDS = STANDARD_INPUT.bytes, STANDARD_INPUT.herds
+
+# The farm files that the project shows, and the one of a cooperative among them.
+FOLDER = Path(__file__).resolve().parent.parent / "examples"
+COOPERATIVE_EXAMPLE = FOLDER / "cooperative.csv"
 
 # One herd of each kind to spoil.
 EXAMPLES = {
@@ -497,14 +503,14 @@ def longest_files(dice):
 
 
 def examples():
-    """The farm files that the project shows."""
-    folder = Path(__file__).resolve().parent.parent / "examples"
-    for path in sorted(folder.glob("*.csv")):
-        yield path.read_bytes()
+    """The farm files that the project shows, but for a cooperative's."""
+    for path in sorted(FOLDER.glob("*.csv")):
+        if path != COOPERATIVE_EXAMPLE:
+            yield path.read_bytes()
 
 
 def every_file():
-    """All files of the pack, in order."""
+    """All files that are read from standard input, in order."""
     dice, dice_with_cows = FarmDice(SEED, FIRST_KINDS), FarmDice(SEED_WITH_COWS)
     yield from examples()
     yield from edge_files()

@@ -29,7 +29,7 @@ from faults import (
     counting,
 )
 from inputs import LISTED, PIGS, STANDARD, module_path
-from reading import MOST_BYTES, MOST_HERDS
+from reading import STANDARD_INPUT
 
 # Spoiling a line of a farm: each changes the line that it is given.
 
@@ -177,9 +177,9 @@ def short_herds(dice, count):
     return lines
 
 
-def file_past_the_last_herd(dice):
+def file_past_the_last_herd(dice, limits=STANDARD_INPUT):
     """One record opens the herd too many, and often has another fault as well."""
-    lines = short_herds(dice, MOST_HERDS + 1)
+    lines = short_herds(dice, limits.herds + 1)
     fault = dice.pick((*FAULTS_OF_FIRST_RECORDS, *[None] * len(FAULTS_OF_FIRST_RECORDS)))
     if fault:
         put_fault(dice, lines, lines[-1], fault)
@@ -236,11 +236,11 @@ def random_file(dice):
     return dice.pick([way for times, way in WAYS for _ in range(times)])(dice)
 
 
-def too_long_file(dice):
+def too_long_file(dice, limits=STANDARD_INPUT):
     """A file of more bytes than may be read: a farm with padding before or behind it."""
     farm = farm_file(dice)
     over = dice.pick((1, 1, 1, 2, 3, 100))
     filler = dice.pick((b"A", b",", b"\r\n", b'"', b"\0", b"9", farm))
-    missing = MOST_BYTES + over - len(farm)
+    missing = limits.bytes + over - len(farm)
     padding = (filler * missing)[:missing]
     return dice.pick((farm + padding, padding + farm))

@@ -6,7 +6,7 @@ from pathlib import Path
 from dice import Dice
 from farms import number_text
 from gatelog import HOURS, MONTHS, dates_of
-from reading import MOST_BYTES
+from reading import STANDARD_INPUT
 
 SEED = 20221101
 RANDOM_LOGS = 60
@@ -184,7 +184,7 @@ def ends():
     quoted = ",".join(f'"{field}"' for field in ("2023-01-01", "1.5", "2"))
     yield quoted.encode() + b"\r\n" + file_of(year_of(2023)[1:])
     yield b'"2023-01-""01",0,0\r\n' + file_of(year_of(2023)[1:])
-    for size in (MOST_BYTES, MOST_BYTES + 1):
+    for size in (STANDARD_INPUT.bytes, STANDARD_INPUT.bytes + 1):
         yield (log + b"\r\n" + b"x" * size)[:size]
         yield b"x" * size
         yield file_of([["x", "1", "1"]]).ljust(size, b"0")

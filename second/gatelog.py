@@ -16,7 +16,7 @@ from math import floor
 from farmfile import RECORD_END, records
 from inputs import Number
 from listing import refusal
-from reading import MOST_BYTES, NO_RECORD, Refused
+from reading import NO_RECORD, STANDARD_INPUT, Refused
 
 FIELDS_A_RECORD = 3
 HOURS_A_DAY = 24
@@ -51,7 +51,7 @@ def dates_of(year):
 
 def read_log(log):
     """Give the days of a log (bytes), or raise its refusal."""
-    if len(log) > MOST_BYTES:
+    if len(log) > STANDARD_INPUT.bytes:
         raise Refused(1, NO_RECORD)
     days, dates = [], None
     for number, fields in enumerate(records(log.decode("latin-1")), start=1):

@@ -29,6 +29,11 @@ class Number:
         number = Fraction(int(whole + decimals), 10 ** len(decimals))
         return number if number <= self.most else None
 
+    def holds(self, value):
+        """Whether a value that was handed in, and not read, is such a number."""
+        whole = isinstance(value, (int, Fraction)) and Fraction(value * 10**self.decimals).denominator == 1
+        return whole and self.least <= value <= self.most
+
     @property
     def least(self):
         return 0
@@ -58,6 +63,9 @@ class OneOf:
     def read(self, text):
         return text if text in self.names else None
 
+    def holds(self, value):
+        return value in self.names
+
 
 @dataclass(frozen=True)
 class Input:
@@ -79,6 +87,10 @@ class Kind:
 
     def takes_standard(self, listed):
         return listed.name in self.standards
+
+    def may_have(self, listed, value):
+        """Whether a herd of this kind may have the value for an input."""
+        return self.takes_standard(listed) if value == STANDARD else listed.values.holds(value)
 
     def refused_standards(self):
         return [listed for listed in self.inputs if listed.has_standard and not self.takes_standard(listed)]

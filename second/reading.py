@@ -1,7 +1,7 @@
 """Reading a farm: the herds of a file, or its refusal.
 
 The checks stand in the order of the refusal table, so that the first one that
-fails is the one to give.
+fails is the one to give. How long a file and how large its farm may be is an argument.
 """
 
 from dataclasses import dataclass, field
@@ -9,12 +9,23 @@ from dataclasses import dataclass, field
 from farmfile import records
 from inputs import LISTED, STANDARD, is_standard
 
-MOST_BYTES = 65536
-MOST_HERDS = 64
 FIELDS_A_RECORD = 4
 LONGEST_LABEL = 16
 LABEL_BYTES = frozenset(map(chr, range(32, 127))) - {'"'}
 NO_RECORD = 0
+
+
+@dataclass(frozen=True)
+class Limits:
+    """The most bytes of a file, and the most herds of its farm."""
+
+    bytes: int
+    herds: int
+
+
+STANDARD_INPUT = Limits(bytes=65536, herds=64)
+# Request W12.
+COOPERATIVE = Limits(bytes=262144, herds=512)
 
 
 class Refused(Exception):
@@ -37,20 +48,20 @@ class Herd:
         return any(listed.name not in self.given for listed in self.kind.inputs)
 
 
-def read_farm(file):
+def read_farm(file, limits=STANDARD_INPUT):
     """Give the herds of a farm file (bytes) in file order, or raise its refusal."""
-    if len(file) > MOST_BYTES:
+    if len(file) > limits.bytes:
         raise Refused(1, NO_RECORD)
     herds = []
     for number, fields in enumerate(records(file.decode("latin-1")), start=1):
-        take_record(herds, number, fields)
+        take_record(herds, number, fields, limits.herds)
     for herd in herds:
         if herd.lacks_an_input():
             raise Refused(12, herd.first_record)
     return herds
 
 
-def take_record(herds, number, fields):
+def take_record(herds, number, fields, most_herds):
     """Put one record into the farm read so far, or raise its refusal."""
     if fields is None:
         raise Refused(2, number)
@@ -73,7 +84,7 @@ def take_record(herds, number, fields):
     if not herds or herds[-1].label != label:
         if any(herd.label == label for herd in herds):
             raise Refused(8, number)
-        if len(herds) == MOST_HERDS:
+        if len(herds) == most_herds:
             raise Refused(9, number)
         herds.append(Herd(label, kind, number))
     herd = herds[-1]

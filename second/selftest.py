@@ -11,15 +11,19 @@ from dataclasses import replace
 from fractions import Fraction
 from pathlib import Path
 
+import cooperative
+import cooperative_cases
 import damage
 import doubles
 import faults
 import gate_cases
 import gatelog
+import lent
 import mend
 import mend_cases
 import printed
 from arithmetic import BILLION, CUTS, EXACT, HALF, Cuts
+from cases import COOPERATIVE_EXAMPLE
 from cuts import cuts
 from dice import Dice
 from farms import FarmDice, farm_lines, file_of, herd_lines, line_for, new_labels, written
@@ -27,7 +31,7 @@ from inputs import CATTLE, DAIRY_COWS, HOURS, KINDS, KINDS_WITH_A_YARD, PIGS, RO
 from model import (
     Notes, c_grazing, figures, housing_nh3_rate, k_grazing, notes, pig_house_ammonia, share_into_yard
 )
-from reading import MOST_BYTES, MOST_HERDS, Refused, read_farm
+from reading import COOPERATIVE, STANDARD_INPUT, Limits, Refused, read_farm
 from totals import totals
 from urvendlo import CUTS_OFF, FIGURES, NOTES, WHY, WHY_WORDS, answer
 from values import DAYS_A_YEAR, YARD_SHARES
@@ -252,13 +256,18 @@ def herd(kind, texts, **changes):
     return read
 
 
-def refusal(file):
-    """Number and record of a file's refusal, or None if it is accepted."""
+def refusal_of(call, *arguments):
+    """Number and record of the refusal that a call raises, or None if it raises none."""
     try:
-        read_farm(file)
+        call(*arguments)
     except Refused as refused:
         return refused.number, refused.record
     return None
+
+
+def refusal(file, limits=STANDARD_INPUT):
+    """The same of reading a file."""
+    return refusal_of(read_farm, file, limits)
 
 
 def largest_roughage_herds():
@@ -360,13 +369,12 @@ class EdgeHerds(unittest.TestCase):
 
     def test_row_10_bytes(self):
         # No accepted farm is this long, so that it is read shows in the other refusal.
-        file = PIG_FILE[:-2].ljust(MOST_BYTES, b"r")
-        self.assertEqual(len(file), 65536)
+        file = PIG_FILE[:-2].ljust(65536, b"r")
         self.assertEqual(refusal(file), (7, 8))
         self.assertEqual(refusal(file + b"r"), (1, 0))
 
     def test_row_10_herds(self):
-        herds = [lines_of(PIGS, OUTDOOR_PIGS, f"P{i}") for i in range(MOST_HERDS + 1)]
+        herds = [lines_of(PIGS, OUTDOOR_PIGS, f"P{i}") for i in range(65)]
         self.assertEqual(len(read_farm(file_of(itertools.chain(*herds[:64])))), 64)
         self.assertEqual(refusal(file_of(itertools.chain(*herds))), (9, 64 * 8 + 1))
 
@@ -520,10 +528,13 @@ class Figures(unittest.TestCase):
         for number in range(FARMS):
             self.check_farm(read_farm(written(dice, farm_lines(dice, number))))
 
+    def test_cooperative(self):
+        self.check_farm(read_farm(COOPERATIVE_EXAMPLE.read_bytes(), COOPERATIVE))
+
     def test_largest_roughage_herds(self):
         herds = list(largest_roughage_herds())
-        for begin in range(0, len(herds), MOST_HERDS):
-            self.check_farm(herds[begin : begin + MOST_HERDS])
+        for begin in range(0, len(herds), COOPERATIVE.herds):
+            self.check_farm(herds[begin : begin + COOPERATIVE.herds])
 
     def check_farm(self, herds):
         """The herds of a farm one by one, and their totals."""
@@ -1183,7 +1194,7 @@ class Refusals(unittest.TestCase):
 
     def test_herd_too_many(self):
         dice = Dice(7)
-        herds = [herd_lines(dice, label, PIGS) for label in new_labels(dice, MOST_HERDS + 1)]
+        herds = [herd_lines(dice, label, PIGS) for label in new_labels(dice, STANDARD_INPUT.herds + 1)]
         self.assertIsNone(refusal(file_of(itertools.chain(*herds[:-1]))))
         self.assertEqual(refusal(file_of(itertools.chain(*herds)))[0], 9)
 
@@ -1284,6 +1295,159 @@ class Refusals(unittest.TestCase):
         self.assertEqual(refusal(open_herds), (12, 1))
 
 
+def whole_herds(count):
+    """As many whole herds, in few bytes."""
+    return file_of(cooperative_cases.shortest_herds(count))
+
+
+class Cooperatives(unittest.TestCase):
+    """Request W12: larger files and farms, by limits that are an argument."""
+
+    def test_herds(self):
+        """Herd 512 is taken and 513 is refused at its first record; from standard input herd 65 still is."""
+        records = len(ROUGHAGE.inputs)
+        self.assertEqual(len(read_farm(whole_herds(512), COOPERATIVE)), 512)
+        self.assertEqual(refusal(whole_herds(513), COOPERATIVE), (9, 512 * records + 1))
+        self.assertIsNone(refusal(whole_herds(65), COOPERATIVE))
+        self.assertEqual(refusal(whole_herds(65)), (9, 64 * records + 1))
+
+    def test_bytes(self):
+        """262,144 bytes are accepted, one more is refused, and from standard input 65,537 still are."""
+        lines = cooperative_cases.lean_herds(FarmDice(8), 512)
+        for size, expected in ((262144, None), (262145, (1, 0)), (262146, (1, 0))):
+            file = cooperative_cases.of_size(lines, size)
+            self.assertEqual((len(file), refusal(file, COOPERATIVE)), (size, expected))
+        lines = cooperative_cases.lean_herds(FarmDice(9), 130)
+        for size, expected in ((65536, (9, 529)), (65537, (1, 0))):
+            file = cooperative_cases.of_size(lines, size)
+            self.assertEqual((len(file), refusal(file)), (size, expected))
+            self.assertIsNone(refusal(file, COOPERATIVE))
+
+    def test_any_limits(self):
+        """Herds and bytes count by themselves, and no herd at all is a limit too."""
+        five = whole_herds(5)
+        for limits, expected in (
+            (Limits(len(five), 5), None),
+            (Limits(len(five) - 1, 5), (1, 0)),
+            (Limits(len(five), 4), (9, 29)),
+            (Limits(len(five), 0), (9, 1)),
+            (Limits(0, 0), (1, 0)),
+        ):
+            self.assertEqual(refusal(five, limits), expected)
+        self.assertEqual(read_farm(b"", Limits(0, 0)), [])
+
+    def test_order(self):
+        """8 comes before 9 and 9 before 10, at the last herd that there is room for as at any other."""
+        full = whole_herds(512)
+        animals = b"Livestock::OtherCattle::Excretion,animals,1\r\n"
+        for record, number in ((b"0," + animals, 8), (b"511," + animals, 10), (b"512," + animals, 9)):
+            self.assertEqual(refusal(full + record, COOPERATIVE), (number, 3585))
+
+    def test_limits_change_nothing_else(self):
+        """A file within both limits is answered alike."""
+        dice = FarmDice(10)
+        for _ in range(300):
+            file = damage.random_file(dice)
+            if refusal(file) is None or refusal(file)[0] != 9:
+                self.assertEqual(answer(file), answer(file, limits=COOPERATIVE))
+
+    def test_example(self):
+        """The stored file is the one that is made now, with its answer: 300 herds, of every kind."""
+        file = cooperative.cooperative()
+        self.assertEqual(COOPERATIVE_EXAMPLE.read_bytes(), file)
+        self.assertEqual(COOPERATIVE_EXAMPLE.with_suffix(".out").read_bytes(), answer(file, limits=COOPERATIVE))
+        herds = read_farm(file, COOPERATIVE)
+        self.assertEqual((len(herds), {read.kind for read in herds}), (300, set(KINDS)))
+
+
+class LentArrays(unittest.TestCase):
+    """Request W12: the farm's herds in an array that a caller lends, and a farm's record of an array and a count."""
+
+    def lent(self, length):
+        """An array with something in every entry."""
+        return [f"entry {i}" for i in range(length)]
+
+    def test_reading(self):
+        """The herds stand in front, and what the array holds beyond the last one stays."""
+        for herds, length in ((0, 0), (0, 3), (5, 5), (5, 6), (300, 300), (300, 400), (512, 512), (512, 600)):
+            array, file = self.lent(length), whole_herds(herds)
+            self.assertEqual(lent.read_into(file, array), herds)
+            self.assertEqual(array[:herds], read_farm(file, COOPERATIVE))
+            self.assertEqual(array[herds:], self.lent(length)[herds:])
+
+    def test_refused(self):
+        """After a refusal the whole array is as it was, however many herds were good."""
+        records = len(ROUGHAGE.inputs)
+        for file, length, expected in (
+            (whole_herds(5), 4, (9, 4 * records + 1)),
+            (whole_herds(1), 0, (9, 1)),
+            (whole_herds(300), 299, (9, 299 * records + 1)),
+            (whole_herds(513), 600, (9, 512 * records + 1)),
+            (whole_herds(300) + b"x", 512, (3, 300 * records + 1)),
+            (whole_herds(300) + b'"', 300, (2, 300 * records + 1)),
+            (whole_herds(300).removesuffix(b",3\r\n") + b",25\r\n", 300, (7, 300 * records)),
+            (whole_herds(300).rsplit(b"299,", 1)[0], 300, (12, 299 * records + 1)),
+            (b"x" * 262145, 512, (1, 0)),
+            (b"x" * 262145, 0, (1, 0)),
+            (b"x" * 262144, 0, (3, 1)),
+        ):
+            array = self.lent(length)
+            self.assertEqual(refusal_of(lent.read_into, file, array), expected)
+            self.assertEqual(array, self.lent(length))
+
+    def test_farm_record(self):
+        """What was read is a farm's record with the same totals; so is each beginning of it."""
+        file = COOPERATIVE_EXAMPLE.read_bytes()
+        array = self.lent(400)
+        count = lent.read_into(file, array)
+        worked = [figures(read, CUTS) for read in read_farm(file, COOPERATIVE)]
+        for herds in (0, 1, 299, count):
+            self.assertEqual(lent.farm_totals(array, herds), totals(worked[:herds]))
+
+    def test_count(self):
+        """A count beyond the array, or beyond 512, is 9 with record 0, before any herd is looked at."""
+        herds = read_farm(whole_herds(512), COOPERATIVE)
+        for array, count in ((self.lent(0), 1), (self.lent(5), 6), (self.lent(600), 513), (self.lent(600), 601)):
+            self.assertEqual(refusal_of(lent.farm_totals, array, count), (9, 0))
+        for array, count in (([], 0), (self.lent(5), 0), (herds[:5], 5), (herds, 512), (herds + self.lent(88), 512)):
+            self.assertIsNone(refusal_of(lent.farm_totals, array, count))
+
+    def test_herds_of_a_record(self):
+        """Herd by herd 4, 8, 12 and 7, always with record 0; beyond the count nothing is looked at."""
+
+        def changed(place, **changes):
+            herds = read_farm(whole_herds(3), COOPERATIVE)
+            herds[place] = replace(herds[place], **changes)
+            return herds
+
+        given = changed(0)[0].given
+        lacking = {name: value for name, value in given.items() if name != "grazing_days"}
+        beyond = {**given, "animals": 10001}
+        cattle = read_farm(file_of(lines_of(CATTLE, C)), COOPERATIVE)[0]
+        for herds, expected in (
+            (changed(0), None),
+            (changed(0, label=""), (4, 0)),
+            (changed(1, label="A" * 17), (4, 0)),
+            (changed(2, label="0"), (8, 0)),
+            (changed(1, given=lacking), (12, 0)),
+            (changed(1, given=beyond), (7, 0)),
+            (changed(1, given={**given, "animals": Fraction(1, 2)}), (7, 0)),
+            (changed(1, given={**given, "animals": STANDARD}), (7, 0)),
+            (changed(1, given={**given, "tan_fraction": STANDARD}), None),
+            (changed(1, given={**given, "animalcategory": "cow"}), (7, 0)),
+            (changed(1, given={**given, "free_correction_factor": -100}), None),
+            (changed(1, given={**given, "free_correction_factor": -101}), (7, 0)),
+            ([cattle], None),
+            ([replace(cattle, given={**cattle.given, "tan_fraction": STANDARD})], (7, 0)),
+            (changed(1, label="", given=lacking), (4, 0)),
+            (changed(1, label="0", given=lacking), (8, 0)),
+            (changed(1, given={**lacking, "animals": 10001}), (12, 0)),
+            ([changed(0, given=beyond)[0], *changed(1, label="")[1:]], (7, 0)),
+        ):
+            self.assertEqual(refusal_of(lent.farm_totals, herds, len(herds)), expected)
+        self.assertIsNone(refusal_of(lent.farm_totals, changed(2, label=""), 2))
+
+
 class GateLogs(unittest.TestCase):
     """Request W10, on logs that are written out from its text."""
 
@@ -1350,8 +1514,8 @@ class GateLogs(unittest.TestCase):
             (["x", "24", "0"], 14),
         ):
             self.expect_refusal(days[:4] + [fields], number, 5)
-        self.assertEqual(gatelog.answer(b"x" * MOST_BYTES), b"refused,3,1\r\n")
-        self.assertEqual(gatelog.answer(b"x" * (MOST_BYTES + 1)), b"refused,1,0\r\n")
+        self.assertEqual(gatelog.answer(b"x" * 65536), b"refused,3,1\r\n")
+        self.assertEqual(gatelog.answer(b"x" * 65537), b"refused,1,0\r\n")
 
     def test_ranges(self):
         """What comes out is a value that a farm file takes."""

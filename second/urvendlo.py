@@ -1,18 +1,20 @@
 #!/usr/bin/env python3
 """The program: a farm file on standard input, what a command prints for it on standard output.
 
-    urvendlo.py [COMMAND]   COMMAND is figures, which is also done without one, notes, cuts, why, or
-                            why --words
+    urvendlo.py [COMMAND]                       COMMAND is figures, which is also done without one, notes, cuts, why,
+                                                or why --words
+    urvendlo.py [COMMAND] --cooperative FILE    the same of a cooperative's file, which may be longer and have more herds
 """
 
 import sys
+from pathlib import Path
 
 from arithmetic import CUTS
 from cuts import cuts
 from listing import farm_listing, herd_cuts, herd_listing, herd_notes, refusal
 from listing import herd_why, herd_why_in_words
 from model import figures, notes
-from reading import Refused, read_farm
+from reading import COOPERATIVE, STANDARD_INPUT, Refused, read_farm
 from totals import totals
 from why import why
 
@@ -47,17 +49,25 @@ COMMANDS = {
     WHY: why_of,
     WHY_WORDS: why_in_words_of,
 }
+OF_A_COOPERATIVE = "--cooperative"
 
 
-def answer(file, command=FIGURES):
+def answer(file, command=FIGURES, limits=STANDARD_INPUT):
     """Give the bytes that a command prints for a farm file's bytes."""
     try:
-        herds = read_farm(file)
+        herds = read_farm(file, limits)
     except Refused as refused:
         return refusal(refused.number, refused.record).encode("ascii")
     return COMMANDS[command](herds).encode("ascii")
 
 
+def main(words):
+    if words[-2:-1] == [OF_A_COOPERATIVE]:
+        file, limits, words = Path(words[-1]).read_bytes(), COOPERATIVE, words[:-2]
+    else:
+        file, limits = sys.stdin.buffer.read(), STANDARD_INPUT
+    sys.stdout.buffer.write(answer(file, " ".join(words) or FIGURES, limits))
+
+
 if __name__ == "__main__":
-    asked = " ".join(sys.argv[1:]) or FIGURES
-    sys.stdout.buffer.write(answer(sys.stdin.buffer.read(), asked))
+    main(sys.argv[1:])

@@ -13,7 +13,8 @@ files and for each what every command prints, `test_gate`, logs of a pasture gat
 their answers, `test_mend`, files and what mending makes of them, and `test_kilograms`,
 farm files and their figures as doubles. In a program's
 folder `stdin` holds each file's length as 4 bytes, little-endian, and its bytes;
-`stdout` holds the outputs one after the other.
+`stdout` holds the outputs one after the other. In the pack of `test_vectors` a letter stands
+before each farm file, and counts to its length: where the file comes from, which gives its limits.
 """
 
 import argparse
@@ -22,11 +23,13 @@ from collections import Counter
 from pathlib import Path
 
 import cases
+import cooperative_cases
 import doubles
 import gate_cases
 import gatelog
 import mend
 import mend_cases
+from reading import COOPERATIVE, STANDARD_INPUT
 from urvendlo import COMMANDS, answer
 
 CRATES = Path(__file__).resolve().parent.parent / "crates"
@@ -34,9 +37,27 @@ LENGTH_BYTES = 4
 REFUSAL_FIELDS = 3
 
 
-def output(file):
-    """What the commands print for a file, one after the other."""
-    return b"".join(answer(file, command) for command in COMMANDS)
+# Where a farm file comes from.
+LETTERS = {STANDARD_INPUT: b"s", COOPERATIVE: b"c"}
+LIMITS = {letter: limits for limits, letter in LETTERS.items()}
+
+
+def every_farm():
+    """Each farm file behind its letter."""
+    for file in cases.every_file():
+        yield LETTERS[STANDARD_INPUT] + file
+    for limits, file in cooperative_cases.every_case():
+        yield LETTERS[limits] + file
+
+
+def farm_answer(farm, *command):
+    """What a command prints for a farm file that stands behind its letter."""
+    return answer(farm[1:], *command, limits=LIMITS[farm[:1]])
+
+
+def output(farm):
+    """What the commands print for it, one after the other."""
+    return b"".join(farm_answer(farm, command) for command in COMMANDS)
 
 
 class Pack:
@@ -48,12 +69,11 @@ class Pack:
         self.program, self.every_file, self.output, self.answer = program, every_file, output, answer
 
 
-FARMS = Pack("test_vectors", cases.every_file, output, answer)
+FARMS = Pack("test_vectors", every_farm, output, farm_answer)
 LOGS = Pack("test_gate", gate_cases.every_log, gatelog.answer, gatelog.answer)
 MENDED = Pack("test_mend", mend_cases.every_file, mend.counted, None)
 DOUBLES = Pack("test_kilograms", doubles.every_file, doubles.doubles, answer)
 PACKS = (FARMS, LOGS, MENDED, DOUBLES)
-FILES = FARMS.files
 
 
 def packed(files):
@@ -66,6 +86,13 @@ def unpacked(pack):
         begin = at + LENGTH_BYTES
         at = begin + int.from_bytes(pack[at:begin], "little")
         yield pack[begin:at]
+
+
+def stored_farms(limits):
+    """The farm files of the vectors that are read by these limits."""
+    for farm in unpacked(FARMS.files.read_bytes()):
+        if LIMITS[farm[:1]] == limits:
+            yield farm[1:]
 
 
 def write(pack):

@@ -1,23 +1,36 @@
 // The vectors of the second implementation, run through the library: of each file its figures, its notes, its cuts and
-// its reasons, in records and in sentences, are printed, as the commands print them. The expected output is what the
-// second implementation gives.
+// its reasons, in records and in sentences, are printed, as the commands print them. A letter before the file says where
+// it comes from. The expected output is what the second implementation gives.
 use limits::Source;
 use packs::Packed;
 use views::View;
 
 // Longer than any file of the vectors.
-const CASE_MOST: usize = 66000;
+const CASE_MOST: usize = 263000;
+
+// By the letter: c for a cooperative, else standard input.
+fn source_of(letter: &[u8]) -> Source {
+    if base::same(letter, b"c") {
+        return Source::Cooperative;
+    }
+    Source::StandardInput
+}
+
+// What each command prints.
+fn print_views(source: Source, file: &[u8]) {
+    printing::print_view(View::Figures, source, file);
+    printing::print_view(View::Notes, source, file);
+    printing::print_view(View::Cuts, source, file);
+    printing::print_view(View::Reasons, source, file);
+    printing::print_view(View::Sentences, source, file);
+}
 
 // One file, if there is one more.
 fn run_one(file: &mut [u8]) -> bool {
     match packs::next_file(file) {
         Packed::File(n) => {
-            let whole = base::part_of(file, 0, n);
-            printing::print_view(View::Figures, Source::StandardInput, whole);
-            printing::print_view(View::Notes, Source::StandardInput, whole);
-            printing::print_view(View::Cuts, Source::StandardInput, whole);
-            printing::print_view(View::Reasons, Source::StandardInput, whole);
-            printing::print_view(View::Sentences, Source::StandardInput, whole);
+            let source = source_of(base::part_of(file, 0, 1));
+            print_views(source, base::part_of(file, 1, n));
             true
         }
         Packed::End => false,

@@ -7,7 +7,7 @@ use Rattle.test_vectors.proofs.main.Statement.{statement}
 use Rattle.test_vectors.proofs.main.Tie as tie
 
 abbrev Inv-loop : tie.InvT-loop
-Inv-loop file₀ turns₀ file turns = 66000 ≡ length file
+Inv-loop file₀ turns₀ file turns = 263000 ≡ length file
 
 abbrev μ-loop : tie.MeasureT-loop
 μ-loop file₀ turns₀ file turns = turns
