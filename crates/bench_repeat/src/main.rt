@@ -1,7 +1,8 @@
-// The library's work, repeated inside one process, so that a benchmark can measure it. Standard input has a mode, how
-// often in eight digits, and a farm file. The mode is w for the whole job, as the program does it, r for reading alone,
-// l for what comes after reading: figures and listing. One checksum is printed: it takes little of each answer, so that
-// it costs nearly nothing and still needs the answer.
+// The library's work, repeated inside one process, so that a benchmark can measure it. Standard input has a mode, a
+// letter for where the file comes from, how often in eight digits, and a farm file. The mode is w for the whole job, as
+// the program does it, r for reading alone, l for what comes after reading: figures and listing. The letter is c for a
+// cooperative, else the file counts as one on standard input. One checksum is printed: it takes little of each answer, so
+// that it costs nearly nothing and still needs the answer.
 use farm::Checked;
 use farm::Farm;
 use farm::Given;
@@ -16,15 +17,15 @@ ghost use Prim.Native.Nat.{_≤_};
 ghost use lib.ListN.{length};
 ghost use Rattle.farm.specs.declared.Checked.the-variants.{Accepted};
 ghost use Rattle.checks.specs.Checks.{checkFarm};
-ghost use Rattle.limits.specs.declared.Source.the-variants.{StandardInput};
+ghost use Rattle.limits.specs.declared.Source.the-variants.{Cooperative};
 ghost use Rattle.listing_room.specs.Bounds.{farmRoom};
 ghost use Rattle.views.specs.Rooms.{outputRoom};
 
-// The mode and how often.
-const HEAD: usize = 9;
+// The mode, the letter, and how often.
+const HEAD: usize = 10;
 
-// They, and one byte more than a farm file may have.
-const INPUT_MOST: usize = HEAD + limits::INPUT_BYTES + 1;
+// They, and one byte more than a cooperative's file may have.
+const INPUT_MOST: usize = HEAD + limits::COOPERATIVE_BYTES + 1;
 
 // A herd of any kind has this many slots in use.
 const SLOTS_LEAST: u64 = 4;
@@ -66,6 +67,13 @@ fn mode_of(s: &[u8]) -> Mode {
         return Mode::Listing;
     }
     Mode::Whole
+}
+
+fn source_of(letter: &[u8]) -> Source {
+    if base::same(letter, b"c") {
+        return Source::Cooperative;
+    }
+    Source::StandardInput
 }
 
 // The checksum with one number more.
@@ -119,8 +127,8 @@ fn text_sum(sum: u64, turn: u64, out: &[u8], n: usize) -> u64 {
 }
 
 // One turn of reading, of the whole job, and of what comes after reading.
-fn read_sum(sum: u64, turn: u64, file: &[u8]) -> u64 {
-    let answer = calls::read_farm(Source::StandardInput, file);
+fn read_sum(sum: u64, turn: u64, source: Source, file: &[u8]) -> u64 {
+    let answer = farm_file::read(source, file);
     let checked = answer.checked;
     match checked {
         Checked::Accepted => farm_sum(sum, turn, answer.farm),
@@ -128,8 +136,8 @@ fn read_sum(sum: u64, turn: u64, file: &[u8]) -> u64 {
     }
 }
 
-fn whole_sum(sum: u64, turn: u64, file: &[u8], out: &mut [u8]) -> u64 {
-    match calls::file_view(View::Figures, Source::StandardInput, file, out) {
+fn whole_sum(sum: u64, turn: u64, source: Source, file: &[u8], out: &mut [u8]) -> u64 {
+    match calls::file_view(View::Figures, source, file, out) {
         Written::Length(n) => text_sum(sum, turn, out, n),
         Written::Refused(refusal, record) => refusal_sum(sum, refusal, record),
     }
@@ -143,21 +151,21 @@ fn listing_sum(sum: u64, turn: u64, farm: Farm, out: &mut [u8]) -> u64
 }
 
 // The turns count down.
-fn repeat_reading(times: u64, file: &[u8]) -> u64 {
+fn repeat_reading(times: u64, source: Source, file: &[u8]) -> u64 {
     let mut sum = 0;
     let mut turn = times;
     while turn > 0 {
-        sum = read_sum(sum, turn, file);
+        sum = read_sum(sum, turn, source, file);
         turn -= 1;
     }
     sum
 }
 
-fn repeat_whole(times: u64, file: &[u8], out: &mut [u8]) -> u64 {
+fn repeat_whole(times: u64, source: Source, file: &[u8], out: &mut [u8]) -> u64 {
     let mut sum = 0;
     let mut turn = times;
     while turn > 0 {
-        sum = whole_sum(sum, turn, file, out);
+        sum = whole_sum(sum, turn, source, file, out);
         turn -= 1;
     }
     sum
@@ -176,10 +184,10 @@ fn repeat_listing(times: u64, farm: Farm, out: &mut [u8]) -> u64
 }
 
 // The farm is read once.
-fn listed(times: u64, file: &[u8], out: &mut [u8]) -> u64
-    requires { ⌜ outputRoom StandardInput ≤ length (now out) ⌝ }
+fn listed(times: u64, source: Source, file: &[u8], out: &mut [u8]) -> u64
+    requires { ⌜ outputRoom Cooperative ≤ length (now out) ⌝ }
 {
-    let answer = calls::read_farm(Source::StandardInput, file);
+    let answer = farm_file::read(source, file);
     let checked = answer.checked;
     match checked {
         Checked::Accepted => repeat_listing(times, answer.farm, out),
@@ -187,27 +195,32 @@ fn listed(times: u64, file: &[u8], out: &mut [u8]) -> u64
     }
 }
 
-fn room() -> [u8; calls::INPUT_VIEW_ROOM] {
-    [0u8; calls::INPUT_VIEW_ROOM]
+fn room() -> [u8; calls::COOPERATIVE_VIEW_ROOM] {
+    [0u8; calls::COOPERATIVE_VIEW_ROOM]
 }
 
-fn repeated(mode: Mode, times: u64, file: &[u8]) -> u64 {
+fn repeated(mode: Mode, times: u64, source: Source, file: &[u8]) -> u64 {
     let mut out = room();
     match mode {
-        Mode::Whole => repeat_whole(times, file, &mut out),
-        Mode::Reading => repeat_reading(times, file),
-        Mode::Listing => listed(times, file, &mut out),
+        Mode::Whole => repeat_whole(times, source, file, &mut out),
+        Mode::Reading => repeat_reading(times, source, file),
+        Mode::Listing => listed(times, source, file, &mut out),
     }
 }
 
+fn input_room() -> [u8; INPUT_MOST] {
+    [0u8; INPUT_MOST]
+}
+
 fn main() {
-    let mut input = [0u8; INPUT_MOST];
+    let mut input = input_room();
     let n = io::read_full(STDIN_FILENO, &mut input);
     let mode = mode_of(base::part_of(&input, 0, 1));
-    let times = times_of(base::part_of(&input, 1, HEAD));
+    let source = source_of(base::part_of(&input, 1, 2));
+    let times = times_of(base::part_of(&input, 2, HEAD));
     io::print_decimal(
         STDOUT_FILENO,
-        repeated(mode, times, base::part_of(&input, HEAD, n)),
+        repeated(mode, times, source, base::part_of(&input, HEAD, n)),
     );
     io::write_all(STDOUT_FILENO, b"\n");
 }

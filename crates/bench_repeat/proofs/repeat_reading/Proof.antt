@@ -5,10 +5,10 @@ use Rattle.bench_repeat.proofs.repeat_reading.Statement.{statement}
 use Rattle.bench_repeat.proofs.repeat_reading.Tie as tie
 
 abbrev Inv-loop : tie.InvT-loop
-Inv-loop times file sum₀ turn₀ sum turn = Unit {0}
+Inv-loop times source file sum₀ turn₀ sum turn = Unit {0}
 
 abbrev μ-loop : tie.MeasureT-loop
-μ-loop times file sum₀ turn₀ sum turn = turn
+μ-loop times source file sum₀ turn₀ sum turn = turn
 
 loop-holds : tie.Need-loop-holds Inv-loop μ-loop
 loop-holds c = tt

@@ -7,10 +7,10 @@ use Rattle.bench_repeat.proofs.repeat_whole.Statement.{statement}
 use Rattle.bench_repeat.proofs.repeat_whole.Tie as tie
 
 abbrev Inv-loop : tie.InvT-loop
-Inv-loop times file out₀ sum₀ turn₀ out sum turn = length out ≡ length out₀
+Inv-loop times source file out₀ sum₀ turn₀ out sum turn = length out ≡ length out₀
 
 abbrev μ-loop : tie.MeasureT-loop
-μ-loop times file out₀ sum₀ turn₀ out sum turn = turn
+μ-loop times source file out₀ sum₀ turn₀ out sum turn = turn
 
 loop-holds : tie.Need-loop-holds Inv-loop μ-loop
 loop-holds c = search needs
