@@ -3,10 +3,11 @@
 // bytes. A letter says where a file comes from, which gives its limits: s for standard input, c for a cooperative.
 //
 //   peer [LETTER]  one farm file; without a letter one on standard input
-//   peer cases     farm files one after the other, each behind its length in four bytes, the lowest first, and a letter:
-//                  for each what `figures`, `notes`, `cuts`, `why` and `why --words` print, as crates/test_vectors does
-//   peer repeat    a mode, a letter, how often in eight digits, and a farm file: repeats the work inside the process and
-//                  prints one checksum, as the program `bench_repeat` does. The mode is w for the whole job, r for
+//   peer cases     farm files one after the other, each behind its length in four bytes, the lowest first, and a
+//                  letter: for each what `figures`, `notes`, `cuts`, `why` and `why --words` print, as
+//                  crates/test_vectors does
+//   peer repeat    a mode, a letter, how often in eight digits, and a farm file: repeats the work inside the process
+//                  and prints one checksum, as the program `bench_repeat` does. The mode is w for the whole job, r for
 //                  reading alone, l for what comes after reading: figures and listing
 #include <stdint.h>
 #include <stdio.h>
@@ -381,6 +382,14 @@ static int has_label(const struct herd *herd, const uint64_t label[2], size_t le
     return herd->label[0] == label[0] && herd->label[1] == label[1] && herd->label_length == length;
 }
 
+// The labels of a farm's herds, found by their bytes, among twice as many places as herds: a label has the first free
+// one from where its bytes put it, and there stands one more than the herd's number; 0 is free.
+enum { PLACE_BITS = 10, PLACES = 1 << PLACE_BITS };
+
+static uint32_t place_of(const uint64_t label[2]) {
+    return (uint32_t)((label[0] * 0x9E3779B97F4A7C15u + label[1] * 0xC2B2AE3D27D4EB4Fu) >> (64 - PLACE_BITS));
+}
+
 static struct refusal refused(uint32_t number, uint32_t record) { return (struct refusal){number, record}; }
 
 static struct refusal accepted(void) { return refused(0, 0); }
@@ -391,6 +400,7 @@ static __attribute__((noinline)) struct refusal read_farm(const uint8_t *file, s
     if (length > limits.bytes) return refused(1, 0);
     const uint8_t *p = file, *end = file + length;
     struct herd *herd = NULL;
+    uint16_t places[PLACES] = {0};
     for (uint32_t record = 1; p != end; record++) {
         struct text fields[4];
         size_t count;
@@ -407,11 +417,14 @@ static __attribute__((noinline)) struct refusal read_farm(const uint8_t *file, s
         uint64_t label[2] = {0, 0};
         memcpy(label, fields[0].at, fields[0].length);
         if (!herd || !has_label(herd, label, fields[0].length)) {
-            for (uint32_t i = 0; i < farm->count; i++) {
-                if (has_label(&farm->herds[i], label, fields[0].length)) return refused(8, record);
+            uint32_t place = place_of(label);
+            while (places[place]) {
+                if (has_label(&farm->herds[places[place] - 1], label, fields[0].length)) return refused(8, record);
+                place = (place + 1) % PLACES;
             }
             if (farm->count == limits.herds) return refused(9, record);
             herd = &farm->herds[farm->count++];
+            places[place] = (uint16_t)farm->count;
             herd->label[0] = label[0];
             herd->label[1] = label[1];
             herd->label_length = (uint32_t)fields[0].length;

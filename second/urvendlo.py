@@ -1,9 +1,9 @@
 #!/usr/bin/env python3
 """The program: a farm file on standard input, what a command prints for it on standard output.
 
-    urvendlo.py [COMMAND]                       COMMAND is figures, which is also done without one, notes, cuts, why,
-                                                or why --words
-    urvendlo.py [COMMAND] --cooperative FILE    the same of a cooperative's file, which may be longer and have more herds
+    urvendlo.py [COMMAND]                     COMMAND is figures, which is also done without one, notes, cuts, why,
+                                              or why --words
+    urvendlo.py [COMMAND] --cooperative FILE  the same of a cooperative's file, which may be longer and have more herds
 """
 
 import sys

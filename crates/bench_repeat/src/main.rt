@@ -1,8 +1,8 @@
 // The library's work, repeated inside one process, so that a benchmark can measure it. Standard input has a mode, a
 // letter for where the file comes from, how often in eight digits, and a farm file. The mode is w for the whole job, as
 // the program does it, r for reading alone, l for what comes after reading: figures and listing. The letter is c for a
-// cooperative, else the file counts as one on standard input. One checksum is printed: it takes little of each answer, so
-// that it costs nearly nothing and still needs the answer.
+// cooperative, else the file counts as one on standard input. One checksum is printed: it takes little of each answer,
+// so that it costs nearly nothing and still needs the answer.
 use farm::Checked;
 use farm::Farm;
 use farm::Given;

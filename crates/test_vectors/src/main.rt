@@ -1,6 +1,6 @@
 // The vectors of the second implementation, run through the library: of each file its figures, its notes, its cuts and
-// its reasons, in records and in sentences, are printed, as the commands print them. A letter before the file says where
-// it comes from. The expected output is what the second implementation gives.
+// its reasons, in records and in sentences, are printed, as the commands print them. A letter before the file says
+// where it comes from. The expected output is what the second implementation gives.
 use limits::Source;
 use packs::Packed;
 use views::View;
