@@ -3,7 +3,7 @@
 
 // A refusal in words, by its number; there is none of the number 0. Behind the last those of a cooperative's file that
 // name another limit.
-pub const WORDS: [u8; 841] = *b"\
+pub const WORDS: [u8; 843] = *b"\
 the file has more than 65,536 bytes\
 a record breaks RFC 4180\
 a record has not four fields, or in a gate's log not three\
@@ -18,8 +18,8 @@ the input was given already in this herd\
 the file is read through, and a herd lacks an input\
 a lent buffer is shorter than what is to be written (library calls)\
 the date of a gate's log can't be read or is not the next one, or the log ends before 31 December\
-the file has more than 65,536 bytes\
-a new label after 64 herds\
+the file has more than 262,144 bytes\
+a new label after 512 herds\
 ";
 
 pub const WORDS_STARTS: [usize; 18] = [
@@ -39,8 +39,8 @@ pub const WORDS_STARTS: [usize; 18] = [
     616,
     683,
     780,
-    815,
-    841,
+    816,
+    843,
 ];
 
 // The last number, and the last place.
@@ -52,8 +52,8 @@ pub const WORDS_LAST: usize = 16;
 pub const COOPERATIVE_WORDS: [usize; 15] = [0, 15, 2, 3, 4, 5, 6, 7, 8, 16, 10, 11, 12, 13, 14];
 
 // What takes a file that is too large for standard input.
-pub const LARGER: [u8; 56] = *b"\
---cooperative FILE takes up to 65,536 bytes and 64 herds\
+pub const LARGER: [u8; 58] = *b"\
+--cooperative FILE takes up to 262,144 bytes and 512 herds\
 ";
 
 // The pages of help, one for each command.
