@@ -4,34 +4,27 @@
 // to do stands in crate `contracts`, the demands in crate `promises`.
 use farm::Checked;
 use limits::Source;
-use reader::FileAnswer;
 use reasons::ReasonAnswer;
 use views::View;
 use written::Written;
 ghost use mathlib.Core.Path.{_≡_};
-ghost use Rattle.limits.specs.Limits.{limitsOf};
-ghost use Rattle.reader.specs.Files.{readOf};
 ghost use Rattle.contracts.specs.Listings.{Called, fileHerdCall, fileTotalsCall, fileCall};
 ghost use Rattle.contracts.specs.Reasons.{fileReason};
 
-// from a record
-pub use herd_calls::farm_totals;
+// from a herd's record
 pub use herd_calls::herd_figures;
 pub use herd_calls::herd_reason;
 pub use herd_calls::herd_view;
-pub use herd_calls::totals_listing;
+
+// from a farm's, which is a slice of herds and a count; and a file's herds read into such a slice
+pub use farm_calls::farm_totals;
+pub use farm_calls::totals_listing;
+pub use lent_file::read_into;
 
 // Room for any view of any file: from standard input, and a cooperative's.
 pub const INPUT_VIEW_ROOM: usize = views::INPUT_ROOM;
 
 pub const COOPERATIVE_VIEW_ROOM: usize = views::COOPERATIVE_ROOM;
-
-// The farm that a file says, or the refusal and a farm of no herds.
-pub fn read_farm(source: Source, s: &[u8]) -> FileAnswer
-    ensures { λ r. ⌜ r ≡ readOf (limitsOf source) (now (s .entry)) ⌝ }
-{
-    farm_file::read(source, s)
-}
 
 // Why the yard of a herd of a file has its share on days with both, by the herd's number, counted from 0; past the last
 // there is no herd.
@@ -86,7 +79,7 @@ pub fn file_totals_listing(source: Source, s: &[u8], out: &mut [u8]) -> Written
     let answer = farm_file::read(source, s);
     let checked = answer.checked;
     match checked {
-        Checked::Accepted => totals_listing(answer.farm, out),
+        Checked::Accepted => herd_calls::totals_by_value(answer.farm, out),
         Checked::Refused(refusal, record) => Written::Refused(refusal, record),
     }
 }

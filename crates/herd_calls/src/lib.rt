@@ -1,18 +1,18 @@
-// The calls on a record that is handed in: its figures and totals, why a yard has its share, and what a view lists of
-// it or its totals, into a lent buffer. A record of any content is answered, with exactly one refusal or with what is
-// asked for; what the checks refuse comes before 13.
+// The calls on a herd's record that is handed in: its figures, why a yard has its share, and what a view lists of it,
+// into a lent buffer; and the totals' listing of a farm by value, for the calls that have read or loaded one. A record
+// of any content is answered, with exactly one refusal or with what is asked for; what the checks refuse comes before
+// 13.
 mod writing; // into the lent buffer, or refusal 13
 
 use farm::Checked;
 use farm::Farm;
 use farm::Herd;
-use model::FarmAnswer;
 use model::HerdAnswer;
 use reasons::ReasonAnswer;
 use views::View;
 use written::Written;
 ghost use mathlib.Core.Path.{_≡_};
-ghost use Rattle.model.specs.Answers.{herdAnswer, farmAnswer};
+ghost use Rattle.model.specs.Answers.{herdAnswer};
 ghost use Rattle.reasons.specs.Answers.{reasonAnswer};
 ghost use Rattle.contracts.specs.Listings.{Called, herdCall, totalsCall};
 
@@ -21,13 +21,6 @@ pub fn herd_figures(h: Herd) -> HerdAnswer
     ensures { λ r. ⌜ r ≡ herdAnswer h ⌝ }
 {
     answers::herd_answer(h)
-}
-
-// A farm's totals in grams and in kilograms, or the refusal and zeros.
-pub fn farm_totals(f: Farm) -> FarmAnswer
-    ensures { λ r. ⌜ r ≡ farmAnswer f ⌝ }
-{
-    answers::farm_answer(f)
 }
 
 // Why a herd's yard has its share on days with both, from its record; or the refusal.
@@ -48,8 +41,8 @@ pub fn herd_view(view: View, h: Herd, out: &mut [u8]) -> Written
     }
 }
 
-// The totals' listing, from a farm's record.
-pub fn totals_listing(f: Farm, out: &mut [u8]) -> Written
+// The totals' listing of a farm by value.
+pub fn totals_by_value(f: Farm, out: &mut [u8]) -> Written
     ensures { λ r. ⌜ Called (totalsCall f) (now (out .entry)) (now (out .exit)) r ⌝ }
 {
     let answer = answers::farm_answer(f);

@@ -46,7 +46,7 @@ enum Call {
 }
 
 fn farm() -> Farm {
-    let answer = calls::read_farm(Source::StandardInput, &PIGS);
+    let answer = farm_file::read(Source::StandardInput, &PIGS);
     answer.farm
 }
 
@@ -55,10 +55,15 @@ fn write_herd(view: View, f: Farm, out: &mut [u8]) -> Written {
     calls::herd_view(view, h, out)
 }
 
+fn write_totals(f: Farm, out: &mut [u8]) -> Written {
+    let herds = f.herds;
+    test_totals::listing_through(herds, f.count, out)
+}
+
 fn write_by(call: Call, out: &mut [u8]) -> Written {
     match call {
         Call::Herd(view) => write_herd(view, farm(), out),
-        Call::Totals => calls::totals_listing(farm(), out),
+        Call::Totals => write_totals(farm(), out),
         Call::FileTotals => calls::file_totals_listing(Source::StandardInput, &PIGS, out),
         Call::FileHerd(view, herd) => calls::file_herd_view(
             view,

@@ -68,7 +68,8 @@ fn of_herd(h: Herd) {
 }
 
 fn of_totals(f: Farm) {
-    let answer = calls::farm_totals(f);
+    let herds = f.herds;
+    let answer = test_totals::totals_through(herds, f.count);
     let k = answer.kilograms;
     let mut i = 0;
     while i < total_names::COUNT {
@@ -78,7 +79,7 @@ fn of_totals(f: Farm) {
 }
 
 fn of_file(s: &[u8]) {
-    let answer = calls::read_farm(Source::StandardInput, s);
+    let answer = farm_file::read(Source::StandardInput, s);
     let f = answer.farm;
     let mut i = 0;
     while i < farm::HERDS_MOST {

@@ -2,6 +2,7 @@
 // good record's answer is 13.
 use farm::Farm;
 use farm::Herd;
+use model::FarmAnswer;
 use outputs::names;
 use outputs::total_names;
 use printing::tell;
@@ -25,8 +26,7 @@ fn herd_listing(h: Herd) {
     tell::line(&out);
 }
 
-fn totals(f: Farm) {
-    let answer = calls::farm_totals(f);
+fn totals(answer: FarmAnswer) {
     let checked = answer.checked;
     tell::checked_line(checked);
     let totals = answer.totals;
@@ -35,7 +35,8 @@ fn totals(f: Farm) {
 
 fn totals_listing(f: Farm) {
     let mut out = [b'#'; SHORT];
-    let written = calls::totals_listing(f, &mut out);
+    let herds = f.herds;
+    let written = test_totals::listing_through(herds, f.count, &mut out);
     tell::written_line(written);
     tell::line(&out);
 }
@@ -46,6 +47,11 @@ pub fn of_herd(h: Herd) {
 }
 
 pub fn of_farm(f: Farm) {
-    totals(f);
+    let herds = f.herds;
+    totals(test_totals::totals_through(herds, f.count));
     totals_listing(f);
+}
+
+pub fn of_few(herds: [Herd; test_totals::FEW], count: usize) {
+    totals(test_totals::totals_of_few(herds, count));
 }

@@ -22,6 +22,13 @@ fn farm_case(change: Change, other: Change, count: usize) {
     answers::of_farm(records::farm_of(first, second, count));
 }
 
+// S: the same in an array that is shorter than a farm may be; the totals alone.
+fn few_case(change: Change, other: Change, count: usize) {
+    let first = records::changed(records::pigs(), change);
+    let second = records::changed(records::pigs(), other);
+    answers::of_few(records::few_of(first, second), count);
+}
+
 fn run(line: &[u8; script::LINE]) {
     let change = script::change_at(line, script::FIRST);
     let other = script::change_at(line, script::SECOND);
@@ -31,6 +38,7 @@ fn run(line: &[u8; script::LINE]) {
     match kind {
         b'H' => herd_case(change, other),
         b'F' => farm_case(change, other, count),
+        b'S' => few_case(change, other, count),
         _ => farm_case(change, other, usize::MAX),
     }
 }

@@ -104,3 +104,10 @@ pub fn farm_of(first: Herd, second: Herd, count: usize) -> Farm {
     herds[1] = second;
     Farm { herds, count }
 }
+
+// The same as an array of few.
+pub fn few_of(first: Herd, second: Herd) -> [Herd; test_totals::FEW] {
+    let mut herds = [first; test_totals::FEW];
+    herds[1] = second;
+    herds
+}

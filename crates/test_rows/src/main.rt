@@ -112,7 +112,7 @@ fn room() -> [u8; BYTES] {
 fn read_herds(end: u8) {
     let mut file = room();
     let n = put_herds(&mut file, end);
-    let answer = calls::read_farm(Source::StandardInput, base::part_of(&file, 0, n));
+    let answer = farm_file::read(Source::StandardInput, base::part_of(&file, 0, n));
     let checked = answer.checked;
     tell::checked_line(checked);
     tell::number(answer.farm.count as u64);

@@ -11,8 +11,8 @@ read-requires c κs = search needs
 enum-told : tie.Need-enum-told
 enum-told c = search needs
 
-totals-listing-requires : tie.Need-totals-listing-requires
-totals-listing-requires c κs = search needs
+totals-by-value-requires : tie.Need-totals-by-value-requires
+totals-by-value-requires c κs = search needs
 
 enum-known-checked : tie.Need-enum-known-checked
 enum-known-checked c = search needs
@@ -32,7 +32,7 @@ file-totals-listing-spec =
     (tie.spec
     read-requires
     enum-told
-    totals-listing-requires
+    totals-by-value-requires
     enum-known-checked
     same-length
     returns

@@ -12,8 +12,8 @@ Inv-loop s f i₀ i = i ≤ herdsMost
 abbrev μ-loop : tie.MeasureT-loop
 μ-loop s f i₀ i = herdsMost - i
 
-read-farm-requires : tie.Need-read-farm-requires Inv-loop μ-loop
-read-farm-requires c κs = search needs
+read-requires : tie.Need-read-requires Inv-loop μ-loop
+read-requires c κs = search needs
 
 loop-holds : tie.Need-loop-holds Inv-loop μ-loop
 loop-holds c = search needs
@@ -48,7 +48,7 @@ of-file-spec =
     (tie.spec
     Inv-loop
     μ-loop
-    read-farm-requires
+    read-requires
     loop-holds
     mul-h
     element-copy-out-h

@@ -10,8 +10,8 @@ Inv-loop k i₀ i = i ≤ 18
 abbrev μ-loop : tie.MeasureT-loop
 μ-loop k i₀ i = 18 - i
 
-farm-totals-requires : tie.Need-farm-totals-requires Inv-loop μ-loop
-farm-totals-requires c κs = search needs
+totals-through-requires : tie.Need-totals-through-requires Inv-loop μ-loop
+totals-through-requires c κs = search needs
 
 loop-holds : tie.Need-loop-holds Inv-loop μ-loop
 loop-holds c = search needs
@@ -43,7 +43,7 @@ of-totals-spec =
     (tie.spec
     Inv-loop
     μ-loop
-    farm-totals-requires
+    totals-through-requires
     loop-holds
     mul-tell-bits
     element-copy-out-tell-bits

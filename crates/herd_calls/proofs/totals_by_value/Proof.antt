@@ -1,9 +1,9 @@
--- `herd_calls::totals_listing` meets its contract: what the record's checks refuse, then what the writer says.
+-- `herd_calls::totals_by_value` meets its contract: what the record's checks refuse, then what the writer says.
 -- Assumes nothing.
 use Rattle.contracts.proofs.RecordSteps.{totals-steps}
 use borrow.Author.Needs.{needs}
-use Rattle.herd_calls.proofs.totals_listing.Statement.{statement}
-use Rattle.herd_calls.proofs.totals_listing.Tie as tie
+use Rattle.herd_calls.proofs.totals_by_value.Statement.{statement}
+use Rattle.herd_calls.proofs.totals_by_value.Tie as tie
 
 farm-answer-requires : tie.Need-farm-answer-requires
 farm-answer-requires c κs = search needs
@@ -26,8 +26,8 @@ returns c = search (needs, totals-steps)
 returns-2 : tie.Need-returns-2
 returns-2 c = search (needs, totals-steps)
 
-pub totals-listing-spec : {M : Type 1} → statement M
-totals-listing-spec =
+pub totals-by-value-spec : {M : Type 1} → statement M
+totals-by-value-spec =
     tie.close
     (tie.spec
     farm-answer-requires
