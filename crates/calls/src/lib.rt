@@ -6,6 +6,7 @@ use farm::Checked;
 use limits::Source;
 use reasons::ReasonAnswer;
 use views::View;
+use views::farms;
 use written::Written;
 ghost use mathlib.Core.Path.{_≡_};
 ghost use Rattle.contracts.specs.Listings.{Called, fileHerdCall, fileTotalsCall, fileCall};
@@ -84,14 +85,21 @@ pub fn file_totals_listing(source: Source, s: &[u8], out: &mut [u8]) -> Written
     }
 }
 
-// What the view lists of a whole file: herd after herd, and behind the figures the totals.
+// What the view lists of a whole file: herd after herd, and behind the figures the totals. It is put straight into a
+// buffer that has room for every farm of as many herds.
 pub fn file_view(view: View, source: Source, s: &[u8], out: &mut [u8]) -> Written
     ensures { λ r. ⌜ Called (fileCall source view (now (s .entry))) (now (out .entry)) (now (out .exit)) r ⌝ }
 {
     let answer = farm_file::read(source, s);
     let checked = answer.checked;
     match checked {
-        Checked::Accepted => view_writing::write_view(out, answer.farm, view),
+        Checked::Accepted => {
+            let room = answer.farm.count * views::HERD_ROOM + views::BEHIND_ROOM;
+            if room <= out.len() {
+                return Written::Length(farms::put_view(out, answer.farm, view));
+            }
+            view_writing::write_view(out, answer.farm, view)
+        }
         Checked::Refused(refusal, record) => Written::Refused(refusal, record),
     }
 }

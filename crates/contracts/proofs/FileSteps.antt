@@ -1,6 +1,6 @@
 -- The steps of the writing calls on a file: a farm that is read passes the record checks, so what the calls on its
 -- records give is what the calls on the file give. Assumes nothing.
-use Prim.Native.Nat.{ℕ, zero, suc, _*_, _<_, _≤_}
+use Prim.Native.Nat.{ℕ, zero, suc, _+_, _*_, _<_, _≤_}
 use mathlib.Core.Path.{_≡_, refl, sym, ap, _∙_}
 use mathlib.Core.List.{List, [], _∷_}
 use native.Mathlib.Omega.{arith}
@@ -9,6 +9,7 @@ use lib.Seq.{getD-take}
 use borrow.Author.Tests.{lt-ltb, le-ltb, le-leb}
 use mir.Syntax.{w64}
 use mir.Val.{Fits}
+use Rattle.base.specs.Wrote.{Wrote}
 use Rattle.base.proofs.Each.{each-getD}
 use Rattle.farm.specs.Limits.{herdsMost}
 use Rattle.farm.specs.declared.Herd.{Herd}
@@ -29,8 +30,10 @@ use Rattle.rules_theorems.proofs.Passing.{accepted-passes}
 use Rattle.written.specs.declared.Written.{Written}
 use Rattle.written.specs.declared.Written.the-variants.{Length, Refused}
 use Rattle.written.specs.Answer.{leaves, answers, Answered}
+use Rattle.written.proofs.Answers.{written}
 use Rattle.views.specs.declared.View.{View}
 use Rattle.views.specs.Views.{viewed}
+use Rattle.views.specs.Rooms.{herdViewRoom, behindRoom, viewRoom}
 use Rattle.contracts.specs.Listings.{Called, herdCall, totalsCall, fileHerdCall, fileTotalsCall, fileCall}
 
 -- what stands past the end does not matter inside a list
@@ -118,6 +121,18 @@ module _ (source : Source) (s : List ℕ) (a : FileAnswer) (q : a ≡ readOf (li
     is-file-view v old new r w =
         record { buffer = rw as-accepted (w .buffer); answer = rw as-accepted (w .answer) }
 
+    -- straight into a buffer that has the room
+    pub herds-fit : Fits w64 (a .farm .count * herdViewRoom)
+    herds-fit = omega (arith, farm-count (a .farm) passes)
+
+    pub room-fits : Fits w64 (a .farm .count * herdViewRoom + behindRoom)
+    room-fits = omega (arith, farm-count (a .farm) passes)
+
+    pub is-file-put : (v : View) (old new : List ℕ) (r : ℕ) → viewRoom (a .farm .count) ≤ length old
+        → Wrote old 0 (viewed v (a .farm)) new r → r ≤ viewRoom (a .farm .count)
+        → Called (fileCall source v s) old new (Length r)
+    is-file-put v old new r room w h = is-file-view v old new (Length r) (written refl w (omega arith))
+
   module _ (refusal : Refusal) (at-record : ℕ) (e : a .checked ≡ checks.Refused refusal at-record) (old : List ℕ) where
     pub refusing : readOf (limitsOf source) s .checked ≡ checks.Refused refusal at-record
     refusing = rw q at e
@@ -137,4 +152,4 @@ module _ (source : Source) (s : List ℕ) (a : FileAnswer) (q : a ≡ readOf (li
 pub ruleset file-steps =
     (in-array, place-fits, is-file-herd, is-past-herds, is-file-totals, is-herd-unread, is-totals-unread)
 
-pub ruleset view-steps = (passes, is-file-view, is-view-unread)
+pub ruleset view-steps = (passes, herds-fit, room-fits, is-file-put, is-file-view, is-view-unread)

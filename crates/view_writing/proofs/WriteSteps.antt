@@ -1,6 +1,7 @@
--- A view into a buffer of any length: straight where it has the room, else in parts if they fit. Assumes nothing.
+-- A view put in parts, if they fit: behind the herds, which have m bytes, stand n, and these were put into a scratch.
+-- Assumes nothing.
 use Prim.Native.Nat.{ℕ, _+_, _*_, _≤_, _<_}
-use mathlib.Core.Path.{_≡_, refl, ap, _∙_}
+use mathlib.Core.Path.{_≡_, ap, _∙_}
 use mathlib.Core.List.{List, _++_}
 use native.Mathlib.Omega.{arith}
 use lib.ListN.{length, length-append}
@@ -20,26 +21,9 @@ use Rattle.written.proofs.Answers.{refused, written}
 use Rattle.line_parts.specs.Fields.{each}
 use Rattle.views.specs.declared.View.{View}
 use Rattle.views.specs.Views.{herdText, viewed}
-use Rattle.views.specs.Rooms.{herdViewRoom, behindRoom, viewRoom}
+use Rattle.views.specs.Rooms.{herdViewRoom, behindRoom}
 use Rattle.view_writing.specs.Behind.{behind}
 use Rattle.view_writing.proofs.Behind.{in-parts}
-
--- ---- straight
-
-module _ (f : Farm) (accepted : checkFarm f ≡ Accepted) where
-  pub herds-fit : Fits w64 (f .count * herdViewRoom)
-  herds-fit = omega (arith, farm-count f accepted)
-
-  pub room-fits : Fits w64 (f .count * herdViewRoom + behindRoom)
-  room-fits = omega (arith, farm-count f accepted)
-
-pub straight : (v : View) (f : Farm) (old new : List ℕ) (r : ℕ) → viewRoom (f .count) ≤ length old
-    → Wrote old 0 (viewed v f) new r → r ≤ viewRoom (f .count) → Answered (viewed v f) old new (Length r)
-straight v f old new r room w h = written refl w (omega arith)
-
-pub ruleset view-steps = (herds-fit, room-fits, straight)
-
--- ---- in parts: behind the herds, which have m bytes, stand n; they were put into a scratch
 
 module _ (v : View) (f : Farm) (accepted : checkFarm f ≡ Accepted) (scratch after : List ℕ) (n : ℕ)
     (w : Wrote scratch 0 (behind v f) after n) (short : n ≤ behindRoom) (m : ℕ)

@@ -1,13 +1,12 @@
-// A view of an accepted farm into a lent buffer of any length. Where the buffer has room for every farm of as many
-// herds, the view is put straight into it. Else its length is worked out first, herd by herd, and nothing is written
-// unless all of it fits. So no scratch grows with the herds: one has room for a herd, one for what stands behind them.
+// A view of an accepted farm into a lent buffer that may be too short for it. Its length is worked out first, herd by
+// herd, and nothing is written unless all of it fits. No scratch grows with the herds: one has room for a herd, one for
+// what stands behind them.
 mod lengths; // how long the herds' texts are
 mod parts; // herds, and what stands behind them, put where they just fit
 
 use farm::Farm;
 use farm::Refusal;
 use views::View;
-use views::farms;
 use written::Written;
 ghost use mathlib.Core.Path.{_≡_};
 ghost use Rattle.farm.specs.declared.Checked.the-variants.{Accepted};
@@ -15,8 +14,8 @@ ghost use Rattle.checks.specs.Checks.{checkFarm};
 ghost use Rattle.written.specs.Answer.{Answered};
 ghost use Rattle.views.specs.Views.{viewed};
 
-// Where the buffer may be too short.
-fn write_parts(out: &mut [u8], farm: Farm, view: View) -> Written
+// What the view lists of the farm, or refusal 13 where the buffer is shorter.
+pub fn write_view(out: &mut [u8], farm: Farm, view: View) -> Written
     requires { ⌜ checkFarm farm ≡ Accepted ⌝ }
     ensures { λ r. ⌜ Answered (viewed view farm) (now (out .entry)) (now (out .exit)) r ⌝ }
 {
@@ -28,16 +27,4 @@ fn write_parts(out: &mut [u8], farm: Farm, view: View) -> Written
     }
     let at = parts::put_herds(out, farm, view);
     Written::Length(base::put(out, at, base::part_of(&behind, 0, n)))
-}
-
-// What the view lists of the farm, or refusal 13 where the buffer is shorter.
-pub fn write_view(out: &mut [u8], farm: Farm, view: View) -> Written
-    requires { ⌜ checkFarm farm ≡ Accepted ⌝ }
-    ensures { λ r. ⌜ Answered (viewed view farm) (now (out .entry)) (now (out .exit)) r ⌝ }
-{
-    let room = farm.count * views::HERD_ROOM + views::BEHIND_ROOM;
-    if room <= out.len() {
-        return Written::Length(farms::put_view(out, farm, view));
-    }
-    write_parts(out, farm, view)
 }

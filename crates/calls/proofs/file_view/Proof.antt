@@ -1,4 +1,5 @@
--- `calls::file_view` meets its contract: a farm that is read passes the record checks. Assumes nothing.
+-- `calls::file_view` meets its contract: a farm that is read passes the record checks, and its view is put straight, or
+-- measured first. Assumes nothing.
 use Rattle.contracts.proofs.FileSteps.{view-steps}
 use borrow.Author.Needs.{needs}
 use Rattle.calls.proofs.file_view.Statement.{statement}
@@ -10,11 +11,14 @@ read-requires c κs = search needs
 enum-told : tie.Need-enum-told
 enum-told c = search needs
 
-write-view-requires : tie.Need-write-view-requires
-write-view-requires c κs = search (needs, view-steps)
+mul-room : tie.Need-mul-room
+mul-room c = search (needs, view-steps)
 
-enum-known-checked : tie.Need-enum-known-checked
-enum-known-checked c = search needs
+add-room : tie.Need-add-room
+add-room c = search (needs, view-steps)
+
+put-view-requires : tie.Need-put-view-requires
+put-view-requires c κs = search (needs, view-steps)
 
 same-length : tie.Need-same-length
 same-length c = search needs
@@ -22,8 +26,20 @@ same-length c = search needs
 returns : tie.Need-returns
 returns c = search (needs, view-steps)
 
+write-view-requires : tie.Need-write-view-requires
+write-view-requires c κs = search (needs, view-steps)
+
+enum-known-checked : tie.Need-enum-known-checked
+enum-known-checked c = search needs
+
+same-length-2 : tie.Need-same-length-2
+same-length-2 c = search needs
+
 returns-2 : tie.Need-returns-2
 returns-2 c = search (needs, view-steps)
+
+returns-3 : tie.Need-returns-3
+returns-3 c = search (needs, view-steps)
 
 pub file-view-spec : {M : Type 1} → statement M
 file-view-spec =
@@ -31,8 +47,13 @@ file-view-spec =
     (tie.spec
     read-requires
     enum-told
-    write-view-requires
-    enum-known-checked
+    mul-room
+    add-room
+    put-view-requires
     same-length
     returns
-    returns-2)
+    write-view-requires
+    enum-known-checked
+    same-length-2
+    returns-2
+    returns-3)

@@ -1,43 +1,55 @@
--- `view_writing::write_view` meets its contract: straight into a buffer that has the room, else in parts. Assumes
--- nothing.
-use Rattle.view_writing.proofs.WriteSteps.{view-steps}
+-- `view_writing::write_view` meets its contract: refusal 13 where the whole is longer than the buffer, else the herds
+-- and what stands behind them. Assumes nothing.
+use Rattle.view_writing.proofs.WriteSteps.{part-steps}
 use borrow.Author.Needs.{needs}
 use Rattle.view_writing.proofs.write_view.Statement.{statement}
 use Rattle.view_writing.proofs.write_view.Tie as tie
 
-mul-room : tie.Need-mul-room
-mul-room c = search (needs, view-steps)
+slice-aggregate-put-behind : tie.Need-slice-aggregate-put-behind
+slice-aggregate-put-behind c = search needs
 
-add-room : tie.Need-add-room
-add-room c = search (needs, view-steps)
+put-behind-requires : tie.Need-put-behind-requires
+put-behind-requires c κs = search needs
 
-put-view-requires : tie.Need-put-view-requires
-put-view-requires c κs = search needs
+herds-length-requires : tie.Need-herds-length-requires
+herds-length-requires c κs = search needs
+
+add-whole : tie.Need-add-whole
+add-whole c = search (needs, part-steps)
+
+returns : tie.Need-returns
+returns c = search (needs, part-steps)
+
+put-herds-requires : tie.Need-put-herds-requires
+put-herds-requires c κs = search (needs, part-steps)
+
+slice-aggregate-part-of : tie.Need-slice-aggregate-part-of
+slice-aggregate-part-of c = search needs
+
+part-of-requires : tie.Need-part-of-requires
+part-of-requires c κs = search needs
+
+put-requires : tie.Need-put-requires
+put-requires c κs = search (needs, part-steps)
 
 same-length : tie.Need-same-length
 same-length c = search needs
 
-returns : tie.Need-returns
-returns c = search (needs, view-steps)
-
-write-parts-requires : tie.Need-write-parts-requires
-write-parts-requires c κs = search needs
-
-same-length-2 : tie.Need-same-length-2
-same-length-2 c = search needs
-
 returns-2 : tie.Need-returns-2
-returns-2 c = search needs
+returns-2 c = search (needs, part-steps)
 
 pub write-view-spec : {M : Type 1} → statement M
 write-view-spec =
     tie.close
     (tie.spec
-    mul-room
-    add-room
-    put-view-requires
-    same-length
+    slice-aggregate-put-behind
+    put-behind-requires
+    herds-length-requires
+    add-whole
     returns
-    write-parts-requires
-    same-length-2
+    put-herds-requires
+    slice-aggregate-part-of
+    part-of-requires
+    put-requires
+    same-length
     returns-2)
