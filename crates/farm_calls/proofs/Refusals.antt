@@ -190,15 +190,15 @@ module _ (herds : List Herd) (count : ℕ) where
 -- ---- what stands behind the count says nothing
 
 module _ (a b : List Herd) (count : ℕ) (h : count ≤ length a) (k : count ≤ length b) (e : take count a ≡ take count b)
-    where
-  same-farm : farmIn a count ≡ farmIn b count
-  unfolding farmIn
-  same-farm = rw (le-ltb (length a) count h, le-ltb (length b) count k, e)
+  where
+    same-farm : farmIn a count ≡ farmIn b count
+    unfolding farmIn
+    same-farm = rw (le-ltb (length a) count h, le-ltb (length b) count k, e)
 
-  pub totals-of-the-first : totalsIn a count ≡ totalsIn b count
-  unfolding totalsIn
-  totals-of-the-first = rw same-farm
+    pub totals-of-the-first : totalsIn a count ≡ totalsIn b count
+    unfolding totalsIn
+    totals-of-the-first = rw same-farm
 
-  pub listing-of-the-first : listingIn a count ≡ listingIn b count
-  unfolding listingIn
-  listing-of-the-first = rw same-farm
+    pub listing-of-the-first : listingIn a count ≡ listingIn b count
+    unfolding listingIn
+    listing-of-the-first = rw same-farm

@@ -1,5 +1,5 @@
--- Demands 1, 2 and 3, of a farm's record that is handed in as a slice of herds and a count (02, W12): `totalsIn` is what
--- the call `farm_totals` gives, `listingIn` what `totals_listing` writes. For every slice and every count.
+-- Demands 1, 2 and 3, of a farm's record that is handed in as a slice of herds and a count (02, W12): `totalsIn` is
+-- what the call `farm_totals` gives, `listingIn` what `totals_listing` writes. For every slice and every count.
 -- Assumes nothing.
 use Prim.Native.Nat.{ℕ, _*_, _≤_, _<_}
 use mathlib.Core.Path.{_≡_, sym, ap, _∙_}

@@ -1,6 +1,5 @@
 -- Demand 2, of records and of files: what the calls `herd_figures` and `farm_totals` give where nothing is refused, and
--- what the three calls `read_farm`, `herd_figures` and `farm_totals` give of a file that keeps the rules.
--- To be believed.
+-- what reading and those two give of a file that keeps the rules. To be believed.
 use Prim.Native.Nat.{ℕ}
 use mathlib.Core.Path.{_≡_}
 use mathlib.Core.List.{List, map}
