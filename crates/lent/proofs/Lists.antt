@@ -7,17 +7,6 @@ use mathlib.Core.List.{List, [], _∷_}
 use lib.ListN.{length, getD, set}
 use Rattle.lent.specs.Laid.{laid}
 
-module _ {A : Type 0} where
-  pub getD-any : (l : List A) (i : ℕ) (d e : A) → i < length l → getD l i d ≡ getD l i e
-  getD-any [] i d e h = absurd (not-suc-le-zero h)
-  getD-any (x ∷ l) zero d e h = refl
-  getD-any (x ∷ l) (suc i) d e h = getD-any l i d e (le-of-suc-le-suc h)
-
-  pub set-behind : (l : List A) (i : ℕ) (a : A) → length l ≤ i → l ≡ set l i a
-  set-behind [] i a h = refl
-  set-behind (x ∷ l) zero a h = absurd (not-suc-le-zero h)
-  set-behind (x ∷ l) (suc i) a h = ap (λ (r : List A). x ∷ r) (set-behind l i a (le-of-suc-le-suc h))
-
 -- the first i of these over what was there
 abbrev pub upTo : {A : Type 0} → ℕ → List A → List A → List A
 upTo zero hs old = old

@@ -2,7 +2,7 @@
 -- stays as it was"; 9 "when the array or the 512 is full, also where a farm record is checked". To be believed.
 use Prim.Native.Nat.{ℕ, _+_}
 use mathlib.Core.List.{List, [], _∷_}
-use lib.ListN.{length, take, set, replicate}
+use lib.ListN.{length, take, replicate}
 use lib.Dec.{ltb}
 use Rattle.base.specs.Pick.{pick}
 use Rattle.farm.specs.declared.Herd.{Herd}
@@ -21,14 +21,14 @@ laid (h ∷ hs) (y ∷ old) = h ∷ laid hs old
 abbrev pub countIn : ℕ → ℕ → ℕ
 countIn len count = pick (ltb len count) (herdsMost + 1) count
 
--- a farm of so many herds that say nothing
-abbrev pub blankFarm : ℕ → ℕ → Farm
-blankFarm count len = record { herds = replicate herdsMost noHerd; count = countIn len count }
+-- the farm of so many herds that were in an array of so many entries
+abbrev pub farmFrom : List Herd → ℕ → ℕ → Farm
+farmFrom hs count len = record { herds = hs; count = countIn len count }
 
-abbrev pub withHerdAt : Farm → ℕ → Herd → Farm
-withHerdAt f i h = record { herds = set (f .herds) i h; count = f .count }
+-- room for a farm's herds
+abbrev pub blankHerds : List Herd
+blankHerds = replicate herdsMost noHerd
 
 -- the farm of the first `count` entries of an array
 unfoldable pub farmIn : List Herd → ℕ → Farm
-farmIn hs count =
-    record { herds = laid (take count hs) (replicate herdsMost noHerd); count = countIn (length hs) count }
+farmIn hs count = farmFrom (laid (take count hs) blankHerds) count (length hs)

@@ -6,11 +6,10 @@ use farm::Herd;
 use farm::herds;
 ghost use mathlib.Core.Path.{_≡_};
 ghost use Prim.Native.Nat.{min};
-ghost use lib.ListN.{length, getD};
+ghost use lib.ListN.{length};
 ghost use Rattle.farm.specs.Limits.{herdsMost};
-ghost use Rattle.farm.specs.Herds.{noHerd};
 ghost use Rattle.checks.specs.Checks.{herdsOf};
-ghost use Rattle.lent.specs.Laid.{laid, blankFarm, withHerdAt, farmIn};
+ghost use Rattle.lent.specs.Laid.{laid, blankHerds, farmFrom, farmIn};
 
 fn lesser(a: usize, b: usize) -> usize
     ensures { λ r. ⌜ r ≡ min a b ⌝ }
@@ -28,19 +27,6 @@ fn storable(farm: Farm, len: usize) -> usize
     lesser(lesser(farm.count, HERDS_MOST), len)
 }
 
-// A farm's herd by its place; past the last, one that says nothing.
-fn herd_at(farm: Farm, i: usize) -> Herd
-    ensures { λ r. ⌜ r ≡ getD (herdsOf farm) i noHerd ⌝ }
-{
-    if farm.count <= i {
-        return herds::no_herd();
-    }
-    if HERDS_MOST <= i {
-        return herds::no_herd();
-    }
-    farm.herds[i]
-}
-
 // How many of `count` herds in an array of `len` entries a farm takes.
 fn loadable(count: usize, len: usize) -> usize
     ensures { λ r. ⌜ r ≡ min (min count herdsMost) len ⌝ }
@@ -48,31 +34,30 @@ fn loadable(count: usize, len: usize) -> usize
     lesser(lesser(count, HERDS_MOST), len)
 }
 
-// A farm of `count` herds that say nothing yet; where an array of `len` entries is shorter, of more herds than any farm
+fn herds_of(farm: Farm) -> [Herd; HERDS_MOST]
+    ensures { λ r. ⌜ r ≡ farm .herds ⌝ }
+{
+    farm.herds
+}
+
+fn blank_herds() -> [Herd; HERDS_MOST]
+    ensures { λ r. ⌜ r ≡ blankHerds ⌝ }
+{
+    [herds::no_herd(); HERDS_MOST]
+}
+
+// The farm of `count` herds that were in an array of `len` entries; where that is shorter, of more herds than any farm
 // has, so that its check gives 9.
-fn blank_farm(count: usize, len: usize) -> Farm
-    ensures { λ r. ⌜ r ≡ blankFarm count len ⌝ }
+fn farm_from(herds: [Herd; HERDS_MOST], count: usize, len: usize) -> Farm
+    ensures { λ r. ⌜ r ≡ farmFrom herds count len ⌝ }
 {
     if len < count {
         return Farm {
-            herds: [herds::no_herd(); HERDS_MOST],
+            herds,
             count: HERDS_MOST + 1,
         };
     }
-    Farm {
-        herds: [herds::no_herd(); HERDS_MOST],
-        count,
-    }
-}
-
-// The farm with this herd at the place.
-fn with_herd_at(mut farm: Farm, i: usize, h: Herd) -> Farm
-    ensures { λ r. ⌜ r ≡ withHerdAt farm i h ⌝ }
-{
-    if i < HERDS_MOST {
-        farm.herds[i] = h;
-    }
-    farm
+    Farm { herds, count }
 }
 
 // The farm's herds go to the front of the array; every entry behind them stays.
@@ -80,10 +65,10 @@ pub fn store(herds: &mut [Herd], farm: Farm)
     ensures { λ _. ⌜ now (herds .exit) ≡ laid (herdsOf farm) (now (herds .entry)) ⌝ }
 {
     let n = storable(farm, herds.len());
+    let own = herds_of(farm);
     let mut i = 0;
     while i < n {
-        let h = herd_at(farm, i);
-        herds[i] = h;
+        herds[i] = own[i];
         i += 1;
     }
 }
@@ -93,12 +78,11 @@ pub fn load(herds: &[Herd], count: usize) -> Farm
     ensures { λ r. ⌜ r ≡ farmIn (now (herds .entry)) count ⌝ }
 {
     let n = loadable(count, herds.len());
-    let mut farm = blank_farm(count, herds.len());
+    let mut own = blank_herds();
     let mut i = 0;
     while i < n {
-        let h = herds[i];
-        farm = with_herd_at(farm, i, h);
+        own[i] = herds[i];
         i += 1;
     }
-    farm
+    farm_from(own, count, herds.len())
 }

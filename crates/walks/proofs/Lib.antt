@@ -1,4 +1,5 @@
 pub mod ByValue
 pub mod SharedAgain
+pub mod LocalArray
 pub mod LentArray
 pub mod Bodies
