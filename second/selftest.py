@@ -19,6 +19,7 @@ import faults
 import gate_cases
 import gatelog
 import lent
+import lent_cases
 import mend
 import mend_cases
 import printed
@@ -1446,6 +1447,31 @@ class LentArrays(unittest.TestCase):
         ):
             self.assertEqual(refusal_of(lent.farm_totals, herds, len(herds)), expected)
         self.assertIsNone(refusal_of(lent.farm_totals, changed(2, label=""), 2))
+
+    def test_entries_as_numbers(self):
+        """01's pigs: each number in units of its last decimal, each name by its place, and a slot that says nothing."""
+        (pigs,) = read_farm(PIG_FILE)
+        slots = [2, 10, 2, 13000, 2, 7000, 2, 4, 2, 2, 2, 0, 2, 1, 3, 0, 0, 0]
+        self.assertEqual(list(lent_cases.numbers_of(pigs)), [2, *b"P1", *[0] * 14, 2, *slots])
+        deer = herd(ROUGHAGE, DEER, free_correction_factor="-5", grazing_hours="12.5")
+        slots = [2, 0, 2, 10, 1, 0, 1, 0, 4, 5, 2, 0, 2, 125, *[0] * 4]
+        self.assertEqual(list(lent_cases.numbers_of(deer)), [1, *b"H", *[0] * 15, 0, *slots])
+
+    def test_every_entry_counts(self):
+        """The checksum is another where an entry is touched, left, moved, or another herd."""
+        first, second, third = read_farm(whole_herds(3), COOPERATIVE)
+        filler = lent_cases.FILLER
+        arrays = (
+            [first, second, filler, filler],
+            [first, second, filler, third],
+            [first, filler, filler, filler],
+            [first, filler, second, filler],
+            [second, first, filler, filler],
+            [first, third, filler, filler],
+            [first, first, filler, filler],
+            [filler] * 4,
+        )
+        self.assertEqual(len({lent_cases.entries_sum(array) for array in arrays}), len(arrays))
 
 
 class GateLogs(unittest.TestCase):

@@ -7,11 +7,13 @@
     vectors.py --which OFFSET --logs    the same of the gate's logs
     vectors.py --which OFFSET --mended  the same of the files that were mended
     vectors.py --which OFFSET --doubles the same of the farm files whose doubles are shown
+    vectors.py --which OFFSET --lent    the same of the farm files that are read into lent arrays
 
-The packs are the input and the expected output of four programs: `test_vectors`, farm
+The packs are the input and the expected output of five programs: `test_vectors`, farm
 files and for each what every command prints, `test_gate`, logs of a pasture gate and
-their answers, `test_mend`, files and what mending makes of them, and `test_kilograms`,
-farm files and their figures as doubles. In a program's
+their answers, `test_mend`, files and what mending makes of them, `test_kilograms`,
+farm files and their figures as doubles, and `test_lent`, farm files and what lent
+arrays hold after reading them. In a program's
 folder `stdin` holds each file's length as 4 bytes, little-endian, and its bytes;
 `stdout` holds the outputs one after the other. In the pack of `test_vectors` a letter stands
 before each farm file, and counts to its length: where the file comes from, which gives its limits.
@@ -20,6 +22,7 @@ before each farm file, and counts to its length: where the file comes from, whic
 import argparse
 import sys
 from collections import Counter
+from functools import partial
 from pathlib import Path
 
 import cases
@@ -27,6 +30,7 @@ import cooperative_cases
 import doubles
 import gate_cases
 import gatelog
+import lent_cases
 import mend
 import mend_cases
 from reading import COOPERATIVE, STANDARD_INPUT
@@ -73,7 +77,8 @@ FARMS = Pack("test_vectors", every_farm, output, farm_answer)
 LOGS = Pack("test_gate", gate_cases.every_log, gatelog.answer, gatelog.answer)
 MENDED = Pack("test_mend", mend_cases.every_file, mend.counted, None)
 DOUBLES = Pack("test_kilograms", doubles.every_file, doubles.doubles, answer)
-PACKS = (FARMS, LOGS, MENDED, DOUBLES)
+LENT = Pack("test_lent", lent_cases.every_file, lent_cases.output, partial(answer, limits=COOPERATIVE))
+PACKS = (FARMS, LOGS, MENDED, DOUBLES, LENT)
 
 
 def packed(files):
@@ -159,6 +164,7 @@ def main():
     of.add_argument("--logs", action="store_const", dest="pack", const=LOGS, default=FARMS, help="of the gate's logs")
     of.add_argument("--mended", action="store_const", dest="pack", const=MENDED, help="of the files that were mended")
     of.add_argument("--doubles", action="store_const", dest="pack", const=DOUBLES, help="of the doubles' farm files")
+    of.add_argument("--lent", action="store_const", dest="pack", const=LENT, help="of the lent arrays' farm files")
     chosen = parser.parse_args()
     if chosen.write:
         for pack in PACKS:
