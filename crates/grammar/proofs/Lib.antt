@@ -1,4 +1,5 @@
 pub mod Cases
 pub mod Agrees
+pub mod Written
 pub mod Files
 pub mod Examples
