@@ -1,0 +1,4 @@
+pub mod Written
+pub mod NoShorter
+pub mod Steps
+pub mod Examples
