@@ -21,7 +21,7 @@ pub text-of : (s : List ℕ) → length s ≤ labelMost → text (labelOf s) ≡
 unfolding labelOf
 text-of s h = take-take (length s) labelMost (s ++ replicate labelMost 0) h ∙ take-append-seam s (replicate labelMost 0)
 
-room : (s : List ℕ) → length (labelOf s .bytes) ≡ labelMost
+pub room : (s : List ℕ) → length (labelOf s .bytes) ≡ labelMost
 unfolding labelOf
 room s = length-take-le labelMost (s ++ replicate labelMost 0)
     (omega (arith, length-append s (replicate labelMost 0), length-replicate {A = ℕ} labelMost 0))
