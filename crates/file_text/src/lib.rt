@@ -1,0 +1,1 @@
+// A farm as the file that says it (02, W5).

@@ -1,0 +1,1 @@
+// A value as a farm file has it (02, W5).
