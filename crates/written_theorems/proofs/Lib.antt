@@ -1,0 +1,4 @@
+pub mod Values
+pub mod Labels
+pub mod Herds
+pub mod Farms
