@@ -11,6 +11,7 @@ from dataclasses import replace
 from fractions import Fraction
 from pathlib import Path
 
+import cases
 import cooperative
 import cooperative_cases
 import damage
@@ -23,6 +24,7 @@ import lent_cases
 import mend
 import mend_cases
 import printed
+import write
 from arithmetic import BILLION, CUTS, EXACT, HALF, Cuts
 from cases import COOPERATIVE_EXAMPLE
 from cuts import cuts
@@ -252,8 +254,12 @@ def lines_of(kind, texts, label="H"):
 
 
 def herd(kind, texts, **changes):
+    return herd_of(kind, {**texts, **changes}, "H")
+
+
+def herd_of(kind, texts, label):
     """A herd read from a file of its own."""
-    (read,) = read_farm(file_of(lines_of(kind, {**texts, **changes})))
+    (read,) = read_farm(file_of(lines_of(kind, texts, label)))
     return read
 
 
@@ -1605,6 +1611,162 @@ class Mending(unittest.TestCase):
             bare = b"\xef\xbb\xbf" + file.replace(b"\r\n", b"\n")
             self.assertEqual(mend.mended(bare), file)
             self.assertNotEqual(refusal(bare), None)
+
+
+# How long a herd of each kind may be as it is written, and the values that make it so long. The label has 16 bytes and
+# two quotes.
+LONGEST_CATTLE = {
+    "animals": "10000",
+    "inp_n_excretion": "199.999",
+    "tan_fraction": "99.99",
+    "yard_days": "365",
+    "exercise_yard": EXCLUSIVELY,
+    "floor_properties_exercise_yard": "paddock_or_pasture_used_as_exercise_yard",
+    "free_correction_factor": "-100",
+    "grazing_days": "365",
+    "grazing_hours": "23.9",
+}
+LONGEST_HERDS = {
+    ROUGHAGE: (
+        591,
+        {
+            **DEER,
+            "animalcategory": "alpaca_younger_than_2yr",
+            "animals": "10000",
+            "free_correction_factor": "-100",
+            "grazing_days": "365",
+            "grazing_hours": "23.9",
+        },
+    ),
+    CATTLE: (759, LONGEST_CATTLE),
+    PIGS: (
+        727,
+        {
+            "animals": "10000",
+            "inp_n_excretion": "199.999",
+            "tan_fraction": "99.99",
+            "housing_type": "Slurry_Conventional",
+            "air_scrubber": "biotrickling",
+            "mitigation_housing_floor": "none",
+            "mitigation_housing_air": "low_impuls_air_supply",
+            "free_correction_factor": "-100",
+        },
+    ),
+    DAIRY_COWS: (735, {**LONGEST_CATTLE, "tan_fraction": "standard"}),
+}
+
+
+def said(herds):
+    """What herds say: their labels, kinds and inputs, in order, and not where they stood."""
+    return [(herd.label, herd.kind, herd.given) for herd in herds]
+
+
+class Writing(unittest.TestCase):
+    """Request W5: a farm written as a file."""
+
+    def written_value(self, kind, name, text):
+        """What a value is written as."""
+        file = write.farm_file([herd(kind, HERD_OF_KIND[kind], **{name: text})]).decode()
+        (found,) = (line.split(",")[3] for line in file.splitlines() if line.split(",")[2] == name)
+        return found
+
+    def test_values(self):
+        for kind, name, text, expected in (
+            (CATTLE, "inp_n_excretion", "0.000", "0"),
+            (CATTLE, "inp_n_excretion", "0.001", "0.001"),
+            (CATTLE, "inp_n_excretion", "0.010", "0.01"),
+            (CATTLE, "inp_n_excretion", "200.000", "200"),
+            (CATTLE, "inp_n_excretion", "199.999", "199.999"),
+            (CATTLE, "tan_fraction", "100.00", "100"),
+            (CATTLE, "tan_fraction", "1.50", "1.5"),
+            (CATTLE, "grazing_hours", "24.0", "24"),
+            (CATTLE, "grazing_hours", "0.0", "0"),
+            (CATTLE, "free_correction_factor", "-100", "-100"),
+            (CATTLE, "free_correction_factor", "100", "100"),
+            (ROUGHAGE, "tan_fraction", "STANDARD", "standard"),
+            (ROUGHAGE, "inp_n_excretion", "Standard", "standard"),
+            (DAIRY_COWS, "tan_fraction", "sTANDARD", "standard"),
+            (PIGS, "housing_type", "Slurry_Label_Open", "Slurry_Label_Open"),
+        ):
+            self.assertEqual(self.written_value(kind, name, text), expected, (name, text))
+
+    def test_pigs(self):
+        """The inputs in the order of the list, whatever theirs was; quotes round a label with a comma alone."""
+        lines = lines_of(PIGS, OUTDOOR_PIGS, "P1")
+        for file in (file_of(lines), file_of(lines[::-1]), file_of(lines, lambda: True), file_of(lines)[:-2]):
+            self.assertEqual(write.answer(file), PIG_FILE)
+        for label, written_label in (("a,b", b'"a,b"'), (" a'b ", b" a'b "), (",", b'","'), (" ", b" ")):
+            out = write.answer(file_of(lines_of(PIGS, OUTDOOR_PIGS, label), lambda: True))
+            self.assertEqual(out, PIG_FILE.replace(b"P1", written_label))
+
+    def test_no_herds(self):
+        self.assertEqual(write.answer(b""), b"")
+
+    def test_every_file(self):
+        """Each accepted file is written and read again: the same farm, and the same file the second time."""
+        for file in cases.every_file():
+            if refusal(file):
+                self.assertEqual(write.answer(file), answer(file))
+                continue
+            herds = read_farm(file)
+            out = write.farm_file(herds)
+            self.assertEqual(said(read_farm(out)), said(herds), file)
+            self.assertEqual(write.answer(out), out, file)
+            self.assertLessEqual(len(out), len(file) + 2, file)
+
+    def test_alike(self):
+        """Files that read alike are written alike."""
+        dice = FarmDice(5)
+        for _ in range(FARMS):
+            herds = [herd_lines(dice, label, dice.pick(KINDS)) for label in new_labels(dice, 3)]
+            first = written(dice, [line for lines in herds for line in lines])
+            other = written(dice, [line for lines in herds for line in dice.shuffled(lines)])
+            self.assertEqual(write.answer(first), write.answer(other))
+
+    def test_last_bytes(self):
+        """A file that is as long as one may be, and lacks its last CRLF, has no room for it."""
+        out = write.answer(PIG_FILE)
+        refused = b"refused,1,0\r\n"
+        for most, expected in ((len(out), out), (len(out) - 1, refused), (len(out) - 2, refused)):
+            limits = Limits(bytes=most, herds=64)
+            self.assertEqual(write.answer(PIG_FILE.removesuffix(b"\r\n"), limits), expected)
+
+    def test_records(self):
+        """Of a farm's record: its own refusals, then 1, then 13, and else what a file of it is written as."""
+        herds = [herd_of(CATTLE, LONGEST_CATTLE, f"{number:015},") for number in range(512)]
+        file = write.farm_file(herds[:345], COOPERATIVE)
+        self.assertEqual(len(file), 345 * 759)
+        self.assertEqual(write.record_file(herds, 345, len(file)), file)
+        self.assertEqual(said(read_farm(file, COOPERATIVE)), said(herds[:345]))
+        for count, room, refusal_given in (
+            (513, 0, (9, 0)),
+            (346, 0, (1, 0)),
+            (512, 512 * 759, (1, 0)),
+            (345, len(file) - 1, (13, 0)),
+            (1, 0, (13, 0)),
+        ):
+            with self.assertRaises(Refused) as raised:
+                write.record_file(herds, count, room)
+            self.assertEqual((raised.exception.number, raised.exception.record), refusal_given, (count, room))
+        self.assertEqual(write.record_file(herds, 0, 0), b"")
+        herds[3] = replace(herds[3], given={**herds[3].given, "animals": Fraction(10001)})
+        with self.assertRaises(Refused) as raised:
+            write.record_file(herds, 512, 0)
+        self.assertEqual(raised.exception.number, 7)
+
+    def test_longest(self):
+        """The longest herd of each kind, one by one and 64 of them; no herd that is thrown is longer."""
+        dice = FarmDice(6)
+        for kind, (most, texts) in LONGEST_HERDS.items():
+            for label in ("a" * 15 + ",", "," * 16):
+                self.assertEqual(len(write.farm_file([herd_of(kind, texts, label)])), most)
+            for _ in range(HERDS_OF_A_KIND):
+                lines = herd_lines(dice, label, kind)
+                self.assertLessEqual(len(write.answer(file_of(lines))), most)
+            longest = [herd_of(kind, texts, f"{number:015},") for number in range(64)]
+            self.assertEqual(len(write.farm_file(longest)), 64 * most)
+            self.assertLessEqual(64 * most, 65536)
+            self.assertEqual(said(read_farm(write.farm_file(longest))), said(longest))
 
 
 def rows_of_table(rows):
