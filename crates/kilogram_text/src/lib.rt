@@ -21,7 +21,7 @@ fn put_thousandths(out: &mut [u8], at: usize, n: u64) -> usize
 }
 
 // A `-` below zero, else nothing.
-fn put_sign(out: &mut [u8], at: usize, g: i64) -> usize
+pub fn put_sign(out: &mut [u8], at: usize, g: i64) -> usize
     requires { ⌜ at + length (sign g) ≤ length (now out) ⌝ }
     ensures { λ r. ⌜ Wrote (now (out .entry)) at (sign g) (now (out .exit)) r ⌝ }
 {

@@ -1,5 +1,5 @@
 // The names that a value may be (01, The farm file), list by list, and which name of its list a text is.
-mod lists; // the lists as words
+pub mod lists; // the lists as words
 
 use words::Found;
 ghost use mathlib.Core.Path.{_≡_};
