@@ -2,30 +2,16 @@
 use Prim.Native.Nat.{ℕ, zero, suc, _+_, _-_, _*_, _/_, _%_, _^_, _≤_, _<_}
 use mathlib.Core.Path.{_≡_, refl, sym, ap, _∙_}
 use mathlib.Core.Bool.{Bool, true, false}
-use mathlib.Core.List.{List, [], _∷_, _++_}
-use native.Mathlib.Nat.{
-  pow-suc,
-  pow-succ',
-  mul-one,
-  mul-assoc,
-  add-zero,
-  suc-add,
-  one-mul,
-  mul-mod-left,
-  mul-div-cancel,
-  mul-le-mul-right,
-  one-le-pow,
-  div-eq-of-lt-le,
-}
+use mathlib.Core.List.{List, _∷_, _++_}
+use native.Mathlib.Nat.{pow-suc, pow-succ', mul-one, mul-assoc, add-zero, suc-add, one-mul, mul-mod-left, mul-div-cancel, mul-le-mul-right, div-eq-of-lt-le}
 use native.Mathlib.Omega.{arith}
-use borrow.Author.Tests.{eq-eqb}
 use lib.Dec.{eqb}
 use lib.ListN.{length, length-append}
 use Rattle.base.specs.Pick.{pick}
 use Rattle.base.specs.Text.{bytes}
-use Rattle.numbers.specs.Numbers.{Digit, Digits, Whole, IsNumber, value, valueFrom}
+use Rattle.numbers.specs.Numbers.{Digits, Whole, IsNumber, value, valueFrom}
 use Rattle.numbers.proofs.Agrees.{value-append}
-use Rattle.decimal.specs.Writing.{lowest, width, wholeOf}
+use Rattle.decimal.specs.Writing.{width}
 use Rattle.decimal.proofs.Widths.{lowest-length, whole-length, width-below}
 use Rattle.shortest_numbers.specs.Shortest.{pointed, shortest}
 use Rattle.shortest_numbers.proofs.Written.{tenths}
@@ -78,7 +64,7 @@ whole-part w {f} ds =
 -- ---- the shortest form
 
 -- zeros behind a number say nothing
-no-zeros : (j k u : ℕ) → shortest (j + k) (u * 10 ^ j) ≡ shortest k u
+pub no-zeros : (j k u : ℕ) → shortest (j + k) (u * 10 ^ j) ≡ shortest k u
 unfolding shortest
 no-zeros zero k u = let z : 0 + k ≡ k = omega arith in rw (z, mul-one u)
 no-zeros (suc j) k u =

@@ -1,15 +1,15 @@
 -- A number in its shortest form reads as the number. Assumes nothing.
-use Prim.Native.Nat.{ℕ, zero, suc, _+_, _-_, _*_, _/_, _%_, _^_, _≤_, _<_}
+use Prim.Native.Nat.{ℕ, zero, suc, _+_, _-_, _*_, _/_, _%_, _^_}
 use mathlib.Core.Path.{_≡_, refl, sym, ap, _∙_}
 use mathlib.Core.Bool.{Bool, true, false}
 use mathlib.Core.List.{List, [], _∷_, _++_, append-assoc, append-nil}
-use native.Mathlib.Nat.{pow-suc, pow-succ', mul-one, mul-assoc, div-one, div-div-eq-div-mul, sub-self}
+use native.Mathlib.Nat.{pow-suc, pow-succ', mul-one, mul-assoc, div-one, div-div-eq-div-mul}
 use native.Mathlib.Omega.{arith}
 use borrow.Author.Tests.{eqb-true}
 use lib.Dec.{eqb}
 use lib.ListN.{length}
 use Rattle.base.specs.Pick.{pick}
-use Rattle.numbers.specs.Numbers.{IsNumber, value, valueFrom}
+use Rattle.numbers.specs.Numbers.{IsNumber, value}
 use Rattle.numbers.proofs.Agrees.{same-number, value-append}
 use Rattle.decimal.specs.Writing.{lowest, width, wholeOf}
 use Rattle.decimal.proofs.Widths.{lowest-length}

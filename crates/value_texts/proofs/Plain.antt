@@ -5,14 +5,13 @@ use mathlib.Core.Path.{_≡_, refl}
 use mathlib.Core.Bool.{Bool, true, false}
 use mathlib.Core.List.{List, [], _∷_}
 use lib.Dec.{eqb}
-use lib.IntN.{ℤ, pos, negsuc, natAbs}
+use lib.IntN.{ℤ, pos, negsuc}
 use lib.ListN.{getD}
 use Rattle.base.specs.Pick.{pick}
 use Rattle.base.specs.Runs.{all}
 use Rattle.base.specs.Text.{bytes}
 use Rattle.base.proofs.Holds.{both-true}
 use Rattle.grammar.specs.Grammar.{Plain}
-use Rattle.decimal.specs.Writing.{lowest, wholeOf}
 use Rattle.record_lines.proofs.Plain.{allPast, past-plain, plain-append, plain-lowest, plain-whole}
 use Rattle.kilogram_text.specs.Kilograms.{sign}
 use Rattle.shortest_numbers.specs.Shortest.{pointed, shortest}
@@ -27,11 +26,12 @@ use Rattle.names.specs.declared.ValueList.the-variants.{
   HousingAirs,
 }
 use Rattle.names.specs.Names.{namesOf}
+use Rattle.word_texts.specs.Words.{nameText}
 use Rattle.inputs.specs.declared.Form.{Form}
 use Rattle.inputs.specs.declared.Form.the-variants.{Number, OrStandard, NoStandard, Signed as ASigned, OneOf}
 use Rattle.farm.specs.declared.Given.{Given}
 use Rattle.farm.specs.declared.Given.the-variants.{Missing, Standard, Value, Signed}
-use Rattle.value_texts.specs.Values.{nameText, numberText, signedText, valueText}
+use Rattle.value_texts.specs.Values.{numberText, signedText, valueText}
 
 -- ---- numbers
 

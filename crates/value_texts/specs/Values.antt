@@ -3,21 +3,15 @@
 use Prim.Native.Nat.{ℕ}
 use mathlib.Core.List.{List, [], _++_}
 use lib.IntN.{ℤ, natAbs}
-use lib.ListN.{getD}
 use Rattle.base.specs.Text.{bytes}
 use Rattle.decimal.specs.Writing.{wholeOf}
 use Rattle.kilogram_text.specs.Kilograms.{sign}
 use Rattle.shortest_numbers.specs.Shortest.{shortest}
-use Rattle.names.specs.declared.ValueList.{ValueList}
-use Rattle.names.specs.Names.{namesOf}
+use Rattle.word_texts.specs.Words.{nameText}
 use Rattle.inputs.specs.declared.Form.{Form}
 use Rattle.inputs.specs.declared.Form.the-variants.{Number, OrStandard, NoStandard, Signed as ASigned, OneOf}
 use Rattle.farm.specs.declared.Given.{Given}
 use Rattle.farm.specs.declared.Given.the-variants.{Missing, Standard, Value, Signed}
-
--- the name at a place of a list
-unfoldable pub nameText : ValueList → ℕ → List ℕ
-nameText names place = bytes (getD (namesOf names) place "")
 
 -- a number by the form of its input; one that may be below zero has no such value
 unfoldable pub numberText : Form → ℕ → List ℕ

@@ -1,12 +1,11 @@
 -- What is written for a value that fits its input is a text that says the value, by the words of the rules. Assumes
 -- nothing.
-use Prim.Native.Nat.{ℕ, suc, _<_}
-use mathlib.Core.Path.{_≡_, refl, sym, subst}
+use Prim.Native.Nat.{ℕ, suc}
+use mathlib.Core.Path.{_≡_, refl, subst}
 use mathlib.Core.Bool.{true, false}
-use mathlib.Core.List.{List, [], _++_}
 use native.Mathlib.Omega.{arith}
 use borrow.Author.Tests.{leb-true, ltb-true}
-use lib.IntN.{ℤ, pos, negsuc, natAbs, _-ℤ_, +ℤ-idl}
+use lib.IntN.{ℤ, pos, negsuc, natAbs, +ℤ-idl}
 use Rattle.base.specs.Text.{bytes}
 use Rattle.base.specs.Part.{lower, lowered}
 use Rattle.base.proofs.Clash.{clash}
@@ -21,7 +20,8 @@ use Rattle.farm.specs.declared.Given.the-variants.{Missing, Standard, Value, Si
 use Rattle.farm.specs.Herds.{isMissing}
 use Rattle.fits.specs.Fits.{fits}
 use Rattle.rules_theorems.specs.Rules.{IsSigned, ValueIs}
-use Rattle.value_texts.specs.Values.{nameText, numberText, signedText, valueText}
+use Rattle.word_texts.specs.Words.{nameText}
+use Rattle.value_texts.specs.Values.{numberText, signedText, valueText}
 
 signed-is : (v : ℤ) → IsSigned (signedText v) v
 unfolding signedText sign
