@@ -24,6 +24,7 @@ def made():
         "words/src/input_names.rt": input_names,
         "names/src/lists.rt": value_names,
         "inputs/src/slots.rt": slots,
+        "file_text/src/heads.rt": record_heads,
         "outputs/src/names.rt": output_numbers,
         "outputs/src/total_names.rt": total_numbers,
         "sums/src/total_addends.rt": addends,
@@ -193,6 +194,23 @@ def slots():
             + "\n"
             + constants([(f"{constant(of[0])}_COUNT", len(names))])
             for names, of in kinds.items()
+        ),
+    )
+
+
+def record_heads():
+    kinds = {
+        head.split()[1]: rows(INPUTS, head, r'"([\w:]+)" has "(\w+)" reads [\w ]+')
+        for head in definitions(INPUTS)
+        if head.startswith("rowsOf ")
+    }
+    return source(
+        "What stands in a record between its label and its value, module and input name, kind by kind in the order of"
+        " the slots: as one text, with the length of each. Made by docs/tables from rowsOf of"
+        " inputs/specs/Inputs.antt.",
+        *(
+            word_table(constant(kind), f"{constant(kind)}_LENGTHS", [f"{path},{name}" for path, name in inputs])
+            for kind, inputs in kinds.items()
         ),
     )
 

@@ -4,7 +4,6 @@ use Prim.Native.Nat.{ℕ}
 use mathlib.Core.Path.{_≡_, refl}
 use mathlib.Core.Bool.{Bool, true, _&&_}
 use mathlib.Core.List.{List, [], _∷_, _++_, append-assoc, append-nil}
-use lib.Dec.{eqb}
 use Rattle.base.specs.Each.{Each, none, more}
 use Rattle.base.specs.Runs.{all}
 use Rattle.base.specs.Text.{bytes}
@@ -20,9 +19,8 @@ use Rattle.inputs.specs.Inputs.{Row, rowsOf}
 use Rattle.farm.specs.declared.Slot.{Slot}
 use Rattle.farm.specs.declared.Herd.{Herd}
 use Rattle.farm.specs.Labels.{allOk, text, labelOk}
-use Rattle.line_parts.specs.Fields.{labelField, each}
+use Rattle.line_parts.specs.Fields.{labelField}
 use Rattle.line_parts.proofs.Records.{good-bytes, label-field, records}
-use Rattle.value_texts.specs.Values.{valueText}
 use Rattle.value_texts.proofs.Plain.{value-plain}
 use Rattle.file_text.specs.Files.{inputText, recordText, inputsText, herdFile, fileOf}
 use Rattle.file_text.specs.Records.{fieldsOf, inputRecords, herdRecords, recordsOf}

@@ -3,7 +3,6 @@
 -- fields: herd label, module path, input name, value". It goes by the list of inputs, and no kind has a clause of its
 -- own. To be believed.
 use Prim.Native.Nat.{ℕ}
-use Prim.Native.String.{String}
 use mathlib.Core.List.{List, [], _∷_, _++_}
 use Rattle.base.specs.Text.{bytes}
 use Rattle.inputs.specs.Inputs.{Row, rowsOf}
