@@ -1,0 +1,2 @@
+pub mod ValueLengths
+pub mod Lengths
