@@ -3,7 +3,7 @@
 -- limits, for herds that a file said and for herds that none did. Assumes nothing.
 use Prim.Native.Nat.{ℕ, _≤_}
 use mathlib.Core.Path.{_≡_, refl, sym, ap, subst, _∙_}
-use mathlib.Core.Bool.{true, false}
+use mathlib.Core.Bool.{false}
 use mathlib.Core.List.{List, [], _∷_, map}
 use native.Mathlib.Nat.{min-le-left}
 use native.Mathlib.Omega.{arith}
@@ -24,14 +24,14 @@ use Rattle.reader.specs.declared.FileAnswer.{FileAnswer}
 use Rattle.reader.specs.Files.{accepted, readOf}
 use Rattle.first_refusal.specs.Records.{Record}
 use Rattle.rules_theorems.specs.Lists.{Apart, Pairs}
-use Rattle.rules_theorems.specs.Rules.{HerdOf, StandTogether, farmOf, FarmOf, KeepsRules}
+use Rattle.rules_theorems.specs.Rules.{HerdOf, StandTogether, farmOf, KeepsRules}
 use Rattle.rules_theorems.proofs.Farms.{herds-of}
 use Rattle.rules_theorems.proofs.Accepts.{accepts-within}
 use Rattle.rules_theorems.proofs.Passing.{passes-within}
-use Rattle.file_text.specs.Files.{herdFile, fileOf}
+use Rattle.file_text.specs.Files.{fileOf}
 use Rattle.file_text.specs.Records.{recordsOf}
 use Rattle.file_text.proofs.Records.{written-grammar}
-use Rattle.written_theorems.specs.Alike.{Alike, AlikeHerds, said, HasRoom}
+use Rattle.written_theorems.specs.Alike.{AlikeHerds, said, HasRoom}
 use Rattle.written_theorems.proofs.Labels.{two-labels}
 use Rattle.written_theorems.proofs.Herds.{herd-written, alike-said, herd-said, herd-roomy, herds-alike}
 

@@ -33,10 +33,9 @@ use Rattle.farm.specs.Labels.{text, labelOf}
 use Rattle.farm.specs.Herds.{noSlot}
 use Rattle.farm.proofs.Slots.{count-most}
 use Rattle.checks.specs.Accepts.{Passes, GoodHerd}
-use Rattle.checks.specs.Refusals.{givenAt}
 use Rattle.first_refusal.specs.Records.{Record}
 use Rattle.rules_theorems.specs.Lists.{Some, here, there, Apart, Pairs}
-use Rattle.rules_theorems.specs.Rules.{GoodLabel, ValueIs, RecordSays, Gives, PartOf, HerdOf}
+use Rattle.rules_theorems.specs.Rules.{GoodLabel, ValueIs, RecordSays, Gives, HerdOf}
 use Rattle.rules_theorems.proofs.Lists.{meet}
 use Rattle.rules_theorems.proofs.Labels.{room, text-of}
 use Rattle.rules_theorems.proofs.Entries.{reads}

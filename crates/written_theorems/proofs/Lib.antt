@@ -2,3 +2,5 @@ pub mod Values
 pub mod Labels
 pub mod Herds
 pub mod Farms
+pub mod Needed
+pub mod NoShorter
