@@ -4,7 +4,17 @@ use Prim.Native.String.{String}
 use mathlib.Core.Path.{_≡_, refl, sym, ap, _∙_}
 use mathlib.Core.Bool.{Bool, true, false}
 use mathlib.Core.List.{List, [], _∷_}
-use native.Mathlib.Nat.{pow-suc, add-zero, one-le-pow, div-add-mod', div-mul-le-self, le-div-iff-mul-le, add-div-right, le-max-left, le-max-right}
+use native.Mathlib.Nat.{
+  pow-suc,
+  add-zero,
+  one-le-pow,
+  div-add-mod',
+  div-mul-le-self,
+  le-div-iff-mul-le,
+  add-div-right,
+  le-max-left,
+  le-max-right,
+}
 use native.Mathlib.Omega.{arith}
 use borrow.Author.Tests.{leb-true, eqb-true, eqb-false}
 use lib.Dec.{eqb}

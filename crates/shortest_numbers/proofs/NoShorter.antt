@@ -3,7 +3,19 @@ use Prim.Native.Nat.{ℕ, zero, suc, _+_, _-_, _*_, _/_, _%_, _^_, _≤_, _<_}
 use mathlib.Core.Path.{_≡_, refl, sym, ap, _∙_}
 use mathlib.Core.Bool.{Bool, true, false}
 use mathlib.Core.List.{List, _∷_, _++_}
-use native.Mathlib.Nat.{pow-suc, pow-succ', mul-one, mul-assoc, add-zero, suc-add, one-mul, mul-mod-left, mul-div-cancel, mul-le-mul-right, div-eq-of-lt-le}
+use native.Mathlib.Nat.{
+  pow-suc,
+  pow-succ',
+  mul-one,
+  mul-assoc,
+  add-zero,
+  suc-add,
+  one-mul,
+  mul-mod-left,
+  mul-div-cancel,
+  mul-le-mul-right,
+  div-eq-of-lt-le,
+}
 use native.Mathlib.Omega.{arith}
 use lib.Dec.{eqb}
 use lib.ListN.{length, length-append}

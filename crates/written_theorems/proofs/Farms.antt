@@ -141,7 +141,7 @@ module _ (limits : Limits) {s : List ℕ} {f : Farm} (k : KeepsRules limits s f)
   read-roomy : Each HasRoom (herdsOf f)
   read-roomy = subst (Each HasRoom) (sym its-herds) (all-roomy (k .says .stand))
 
-  its-count : f .count ≤ limits .herds
+  pub its-count : f .count ≤ limits .herds
   its-count = rw (k .says .is) (k .says .most)
 
 module _ (limits : Limits) (fit : limits .herds ≤ herdsMost) where

@@ -210,3 +210,8 @@ module _ (limits : Limits) {s : List ℕ} {f : Farm} (k : KeepsRules limits s f)
   -- Where the file's last record has its CRLF, it is no longer.
   pub no-longer : Before (k .records) s [] → length (fileOf (herdsOf f)) ≤ length s
   no-longer b = omega (arith, farm-least, ended-least b)
+
+  -- So what is written passes the limit only where the file comes within a byte of it and lacks its last CRLF.
+  pub too-long-when : limits .bytes < length (fileOf (herdsOf f))
+      → (limits .bytes ≤ length s + 1) × (Before (k .records) s [] → ⊥)
+  too-long-when h = (omega (arith, h, two-bytes-longer), λ b. omega (arith, h, no-longer b, k .short))
