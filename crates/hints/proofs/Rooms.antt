@@ -65,13 +65,13 @@ mended-short s =
     )
 
 module _ (s out : List ℕ) (h : 2 * length s ≤ length out) (new : List ℕ) (a : ℕ) (w : Wrote out 0 (mendedOf s) new a)
-    where
-  pub hint-mended : (i : Input) (p : List ℕ) → p ≡ part new 0 a → (x y : Reach) → x ≡ readTo i s → y ≡ readTo i p
-      → (n : ℕ) → n ≡ length (changesOf s) → (k : ℕ) → k ≡ pick (further x y) n 0 → k ≡ hintOf i s
-  unfolding hintOf
-  hint-mended i p ep x y ex ey n en k ek =
-      let whole : p ≡ mendedOf s = ep ∙ part-is w (omega (arith, w .past, mended-short s)) in
-      ek ∙ (rw (ex, ey, en, whole))
+  where
+    pub hint-mended : (i : Input) (p : List ℕ) → p ≡ part new 0 a → (x y : Reach) → x ≡ readTo i s → y ≡ readTo i p
+        → (n : ℕ) → n ≡ length (changesOf s) → (k : ℕ) → k ≡ pick (further x y) n 0 → k ≡ hintOf i s
+    unfolding hintOf
+    hint-mended i p ep x y ex ey n en k ek =
+        let whole : p ≡ mendedOf s = ep ∙ part-is w (omega (arith, w .past, mended-short s)) in
+        ek ∙ (rw (ex, ey, en, whole))
 
 -- ---- too long
 
