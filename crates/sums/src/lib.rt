@@ -34,7 +34,7 @@ pub fn no_figures() -> Figures
     }
 }
 
-fn total(f: Figures, t: usize) -> i64
+pub fn total(f: Figures, t: usize) -> i64
     requires { ⌜ GramsTo figureMost (f .grams) × (t < length totals) ⌝ }
     ensures { λ r. ⌜ r ≡ totalAt (f .grams) t ⌝ }
 {
