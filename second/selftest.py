@@ -31,6 +31,7 @@ from cuts import cuts
 from dice import Dice
 from farms import FarmDice, farm_lines, file_of, herd_lines, line_for, new_labels, written
 from inputs import CATTLE, DAIRY_COWS, HOURS, KINDS, KINDS_WITH_A_YARD, PIGS, ROUGHAGE, STANDARD, Number
+from line import HIGHEST_LINE, above, answer_line, livestock
 from model import (
     Notes, c_grazing, figures, housing_nh3_rate, k_grazing, notes, pig_house_ammonia, share_into_yard
 )
@@ -996,6 +997,68 @@ class Reasons(unittest.TestCase):
         )
         self.assertEqual(answer(b"", WHY), b"")
         self.assertEqual(answer(b"a", WHY), b"refused,3,1\r\n")
+
+
+class AboveTheLine(unittest.TestCase):
+    """Request W8, by hand at the edges: a herd of outdoor pigs has 18,200 g."""
+
+    HERDS = ((PIGS, OUTDOOR_PIGS), (CATTLE, C), (ROUGHAGE, DEER))
+
+    def farm(self, *herds):
+        return file_of([line for i, (kind, texts) in enumerate(herds) for line in lines_of(kind, texts, f"H{i}")])
+
+    def worked(self, file):
+        return [figures(herd, CUTS) for herd in read_farm(file)]
+
+    def sums(self, file):
+        return [livestock(self.worked(file)[: count + 1]) for count in range(len(read_farm(file)))]
+
+    def test_one_herd(self):
+        for line, printed in ((18_199, b"yes,1"), (18_200, b"no,1"), (18_201, b"no,1"), (0, b"yes,1")):
+            self.assertEqual(answer_line(PIG_FILE, line), printed + b"\r\n")
+
+    def test_at_each_herd(self):
+        file = self.farm(*self.HERDS)
+        first, second, third = self.sums(file)
+        self.assertEqual(first, 18_200)
+        self.assertLess(first, second)
+        self.assertLess(second, third)
+        for line, printed in (
+            (0, "yes,1"), (first - 1, "yes,1"), (first, "yes,2"), (first + 1, "yes,2"),
+            (second - 1, "yes,2"), (second, "yes,3"), (third - 1, "yes,3"),
+            (third, "no,3"), (third + 1, "no,3"), (HIGHEST_LINE, "no,3"),
+        ):
+            self.assertEqual(answer_line(file, line), f"{printed}\r\n".encode(), line)
+
+    def test_no_herd_alone(self):
+        file = self.farm(*[(PIGS, OUTDOOR_PIGS)] * 4)
+        for line, count in ((18_200, 2), (36_399, 2), (36_400, 3), (72_799, 4)):
+            self.assertEqual(above(self.worked(file), line), (True, count))
+
+    def test_no_herds(self):
+        for line in (0, 1, HIGHEST_LINE):
+            self.assertEqual(answer_line(b"", line), b"no,0\r\n")
+
+    def test_nothing_emitted(self):
+        silent = (PIGS, {**OUTDOOR_PIGS, "animals": "0"})
+        self.assertEqual(answer_line(self.farm(silent, silent), 0), b"no,2\r\n")
+        self.assertEqual(answer_line(self.farm(silent, self.HERDS[0], silent), 0), b"yes,2\r\n")
+
+    def test_refused(self):
+        self.assertEqual(answer_line(b"H", 0), b"refused,3,1\r\n")
+
+    def test_random_farms(self):
+        dice = FarmDice(17)
+        for _ in range(FARMS):
+            file = file_of(farm_lines(dice, dice.between(1, 5)))
+            worked, sums = self.worked(file), self.sums(file)
+            for line in {0, HIGHEST_LINE, *(near for grams in sums for near in (max(grams - 1, 0), grams, grams + 1))}:
+                passed, count = above(worked, line)
+                self.assertEqual(passed, livestock(worked) > line)
+                behind = next((i + 1 for i, grams in enumerate(sums) if grams > line), len(sums))
+                self.assertEqual(count, behind)
+                if passed:
+                    self.assertEqual(above(worked[:count], line), (True, count))
 
 
 class CutOff(unittest.TestCase):
