@@ -21,6 +21,10 @@ pub use herd_calls::herd_view;
 pub use farm_calls::farm_totals;
 pub use farm_calls::totals_listing;
 pub use lent_file::read_into;
+pub use lent_line::farm_above_line;
+
+// whether a file's farm is above a line
+pub use line_calls::file_above_line;
 
 // Room for any view of any file: from standard input, and a cooperative's.
 pub const INPUT_VIEW_ROOM: usize = views::INPUT_ROOM;

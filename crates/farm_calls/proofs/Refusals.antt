@@ -191,7 +191,7 @@ module _ (herds : List Herd) (count : ℕ) where
 
 module _ (a b : List Herd) (count : ℕ) (h : count ≤ length a) (k : count ≤ length b) (e : take count a ≡ take count b)
   where
-    same-farm : farmIn a count ≡ farmIn b count
+    pub same-farm : farmIn a count ≡ farmIn b count
     unfolding farmIn
     same-farm = rw (le-ltb (length a) count h, le-ltb (length b) count k, e)
 
