@@ -1,16 +1,8 @@
-#!/usr/bin/env python3
-"""Above the line or not (request W8): a farm file on standard input, yes or no and how many herds were added up.
-
-    line.py GRAMS   GRAMS is the line, in whole grams of nitrogen a year
-"""
-
-import sys
+"""Above the line or not (request W8): yes or no, and how many herds were added up."""
 
 from arithmetic import CUTS
 from farmfile import COMMA, RECORD_END
-from listing import refusal
 from model import figures
-from reading import Refused, read_farm
 from totals import totals
 
 # The line is any number of 64 bits.
@@ -29,15 +21,14 @@ def above(worked, line):
     return False, len(worked)
 
 
-def answer_line(file, line):
-    """Give the bytes that are printed for a farm file's bytes."""
-    try:
-        herds = read_farm(file)
-    except Refused as refused:
-        return refusal(refused.number, refused.record).encode("ascii")
+def line_of(herds, line):
+    """What is printed for a farm."""
     passed, count = above([figures(herd, CUTS) for herd in herds], line)
-    return (COMMA.join(("yes" if passed else "no", str(count))) + RECORD_END).encode("ascii")
+    return COMMA.join(("yes" if passed else "no", str(count))) + RECORD_END
 
 
-if __name__ == "__main__":
-    sys.stdout.buffer.write(answer_line(sys.stdin.buffer.read(), int(sys.argv[1])))
+def in_words(printed, line):
+    """The same in words, from what is printed."""
+    verdict, count = printed.decode("ascii").removesuffix(RECORD_END).split(COMMA)
+    herds = "1 herd" if count == "1" else f"{count} herds"
+    return f"{'above' if verdict == 'yes' else 'not above'} {line} g of NH3-N a year: {herds} added up"

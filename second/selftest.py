@@ -31,13 +31,13 @@ from cuts import cuts
 from dice import Dice
 from farms import FarmDice, farm_lines, file_of, herd_lines, line_for, new_labels, written
 from inputs import CATTLE, DAIRY_COWS, HOURS, KINDS, KINDS_WITH_A_YARD, PIGS, ROUGHAGE, STANDARD, Number
-from line import HIGHEST_LINE, above, answer_line, livestock
+from line import HIGHEST_LINE, above, in_words, livestock
 from model import (
     Notes, c_grazing, figures, housing_nh3_rate, k_grazing, notes, pig_house_ammonia, share_into_yard
 )
 from reading import COOPERATIVE, STANDARD_INPUT, Limits, Refused, read_farm
 from totals import totals
-from urvendlo import CUTS_OFF, FIGURES, NOTES, WHY, WHY_WORDS, answer
+from urvendlo import CUTS_OFF, FIGURES, NOTES, WHY, WHY_WORDS, answer, at_line
 from values import DAYS_A_YEAR, YARD_SHARES
 from why import REASONS, why
 
@@ -1015,7 +1015,7 @@ class AboveTheLine(unittest.TestCase):
 
     def test_one_herd(self):
         for line, printed in ((18_199, b"yes,1"), (18_200, b"no,1"), (18_201, b"no,1"), (0, b"yes,1")):
-            self.assertEqual(answer_line(PIG_FILE, line), printed + b"\r\n")
+            self.assertEqual(answer(PIG_FILE, at_line(line)), printed + b"\r\n")
 
     def test_at_each_herd(self):
         file = self.farm(*self.HERDS)
@@ -1028,7 +1028,7 @@ class AboveTheLine(unittest.TestCase):
             (second - 1, "yes,2"), (second, "yes,3"), (third - 1, "yes,3"),
             (third, "no,3"), (third + 1, "no,3"), (HIGHEST_LINE, "no,3"),
         ):
-            self.assertEqual(answer_line(file, line), f"{printed}\r\n".encode(), line)
+            self.assertEqual(answer(file, at_line(line)), f"{printed}\r\n".encode(), line)
 
     def test_no_herd_alone(self):
         file = self.farm(*[(PIGS, OUTDOOR_PIGS)] * 4)
@@ -1037,15 +1037,19 @@ class AboveTheLine(unittest.TestCase):
 
     def test_no_herds(self):
         for line in (0, 1, HIGHEST_LINE):
-            self.assertEqual(answer_line(b"", line), b"no,0\r\n")
+            self.assertEqual(answer(b"", at_line(line)), b"no,0\r\n")
 
     def test_nothing_emitted(self):
         silent = (PIGS, {**OUTDOOR_PIGS, "animals": "0"})
-        self.assertEqual(answer_line(self.farm(silent, silent), 0), b"no,2\r\n")
-        self.assertEqual(answer_line(self.farm(silent, self.HERDS[0], silent), 0), b"yes,2\r\n")
+        self.assertEqual(answer(self.farm(silent, silent), at_line(0)), b"no,2\r\n")
+        self.assertEqual(answer(self.farm(silent, self.HERDS[0], silent), at_line(0)), b"yes,2\r\n")
 
     def test_refused(self):
-        self.assertEqual(answer_line(b"H", 0), b"refused,3,1\r\n")
+        self.assertEqual(answer(b"H", at_line(0)), b"refused,3,1\r\n")
+
+    def test_in_words(self):
+        self.assertEqual(in_words(b"yes,1\r\n", 18_199), "above 18199 g of NH3-N a year: 1 herd added up")
+        self.assertEqual(in_words(b"no,0\r\n", 0), "not above 0 g of NH3-N a year: 0 herds added up")
 
     def test_random_farms(self):
         dice = FarmDice(17)

@@ -2,7 +2,7 @@
 """The program: a farm file on standard input, what a command prints for it on standard output.
 
     urvendlo.py [COMMAND]                     COMMAND is figures, which is also done without one, notes, cuts, why,
-                                              or why --words
+                                              why --words, or line GRAMS
     urvendlo.py [COMMAND] --cooperative FILE  the same of a cooperative's file, which may be longer and have more herds
 """
 
@@ -12,6 +12,7 @@ from pathlib import Path
 from arithmetic import CUTS
 from cuts import cuts
 from listing import farm_listing, herd_cuts, herd_listing, herd_notes, refusal
+from line import line_of
 from listing import herd_why, herd_why_in_words
 from model import figures, notes
 from reading import COOPERATIVE, STANDARD_INPUT, Refused, read_farm
@@ -42,6 +43,7 @@ def why_in_words_of(herds):
 
 
 FIGURES, NOTES, CUTS_OFF, WHY, WHY_WORDS = "figures", "notes", "cuts", "why", "why --words"
+LINE = "line"
 COMMANDS = {
     FIGURES: figures_of,
     NOTES: notes_of,
@@ -52,13 +54,23 @@ COMMANDS = {
 OF_A_COOPERATIVE = "--cooperative"
 
 
+def at_line(grams):
+    """The command that holds a farm against a line of so many grams."""
+    return f"{LINE} {grams}"
+
+
+def printed_by(command, herds):
+    name, *grams = command.split()
+    return line_of(herds, int(grams[0])) if name == LINE else COMMANDS[command](herds)
+
+
 def answer(file, command=FIGURES, limits=STANDARD_INPUT):
     """Give the bytes that a command prints for a farm file's bytes."""
     try:
         herds = read_farm(file, limits)
     except Refused as refused:
         return refusal(refused.number, refused.record).encode("ascii")
-    return COMMANDS[command](herds).encode("ascii")
+    return printed_by(command, herds).encode("ascii")
 
 
 def main(words):

@@ -8,15 +8,17 @@
     vectors.py --which OFFSET --mended  the same of the files that were mended
     vectors.py --which OFFSET --doubles the same of the farm files whose doubles are shown
     vectors.py --which OFFSET --lent    the same of the farm files that are read into lent arrays
+    vectors.py --which OFFSET --lines   the same of the farm files that are held against a line
 
-The packs are the input and the expected output of five programs: `test_vectors`, farm
+The packs are the input and the expected output of six programs: `test_vectors`, farm
 files and for each what every command prints, `test_gate`, logs of a pasture gate and
 their answers, `test_mend`, files and what mending makes of them, `test_kilograms`,
-farm files and their figures as doubles, and `test_lent`, farm files and what lent
-arrays hold after reading them. In a program's
+farm files and their figures as doubles, `test_lent`, farm files and what lent arrays
+hold after reading them, and `test_line`, farm files held against a line. In a program's
 folder `stdin` holds each file's length as 4 bytes, little-endian, and its bytes;
-`stdout` holds the outputs one after the other. In the pack of `test_vectors` a letter stands
-before each farm file, and counts to its length: where the file comes from, which gives its limits.
+`stdout` holds the outputs one after the other. In the packs of `test_vectors` and of `test_line` a letter stands
+before each farm file, and counts to its length: where the file comes from, which gives its limits. Behind the letter
+`test_line` has a byte with the length of the line's digits, and the digits.
 """
 
 import argparse
@@ -31,10 +33,11 @@ import doubles
 import gate_cases
 import gatelog
 import lent_cases
+import line_cases
 import mend
 import mend_cases
 from reading import COOPERATIVE, STANDARD_INPUT
-from urvendlo import COMMANDS, answer
+from urvendlo import COMMANDS, answer, at_line
 
 CRATES = Path(__file__).resolve().parent.parent / "crates"
 LENGTH_BYTES = 4
@@ -64,6 +67,19 @@ def output(farm):
     return b"".join(farm_answer(farm, command) for command in COMMANDS)
 
 
+def every_line():
+    """Each farm file behind its letter, the length of its line's text, and that text."""
+    for limits, line, file in line_cases.every_case():
+        text = str(line).encode("ascii")
+        yield LETTERS[limits] + bytes([len(text)]) + text + file
+
+
+def line_answer(farm):
+    """What is printed for a farm file that stands behind its letter and its line."""
+    end = 2 + farm[1]
+    return answer(farm[end:], at_line(int(farm[2:end])), LIMITS[farm[:1]])
+
+
 class Pack:
     """What a test program is run on: files, what it prints for each, and the answer that tells a refusal, if any does."""
 
@@ -78,7 +94,8 @@ LOGS = Pack("test_gate", gate_cases.every_log, gatelog.answer, gatelog.answer)
 MENDED = Pack("test_mend", mend_cases.every_file, mend.counted, None)
 DOUBLES = Pack("test_kilograms", doubles.every_file, doubles.doubles, answer)
 LENT = Pack("test_lent", lent_cases.every_file, lent_cases.output, partial(answer, limits=COOPERATIVE))
-PACKS = (FARMS, LOGS, MENDED, DOUBLES, LENT)
+LINES = Pack("test_line", every_line, line_answer, line_answer)
+PACKS = (FARMS, LOGS, MENDED, DOUBLES, LENT, LINES)
 
 
 def packed(files):
@@ -165,6 +182,7 @@ def main():
     of.add_argument("--mended", action="store_const", dest="pack", const=MENDED, help="of the files that were mended")
     of.add_argument("--doubles", action="store_const", dest="pack", const=DOUBLES, help="of the doubles' farm files")
     of.add_argument("--lent", action="store_const", dest="pack", const=LENT, help="of the lent arrays' farm files")
+    of.add_argument("--lines", action="store_const", dest="pack", const=LINES, help="of the farm files at a line")
     chosen = parser.parse_args()
     if chosen.write:
         for pack in PACKS:

@@ -1,5 +1,6 @@
 // The words of the command line: which command they ask for, and where the file's name stands.
 use digits::Number;
+use wide_numbers::WideNumber;
 
 // The commands of docs/help.txt.
 pub enum Command {
@@ -8,6 +9,7 @@ pub enum Command {
     Cuts,
     Chart,
     Why,
+    Line,
     Gate,
     Mend,
     Changes,
@@ -37,6 +39,9 @@ pub struct File {
 
 // Longer than any word that is asked for.
 const WORD_MOST: usize = 16;
+
+// Longer than any number of grams that is taken.
+const GRAMS_MOST: usize = 24;
 
 // The longest name that a file can be opened by, and a byte more.
 pub const NAME_MOST: usize = 4096;
@@ -127,6 +132,9 @@ fn view_of(word: &[u8]) -> Asked {
     if base::same(word, b"why") {
         return Asked::For(Command::Why);
     }
+    if base::same(word, b"line") {
+        return Asked::For(Command::Line);
+    }
     Asked::Nothing
 }
 
@@ -176,6 +184,13 @@ pub fn descriptor_at(i: usize) -> Descriptor {
     }
 }
 
+// The number of grams that a word says; a word that is not there says none.
+pub fn grams_at(i: usize) -> WideNumber {
+    let mut given = [0u8; GRAMS_MOST];
+    let n = os::arg(i, &mut given);
+    wide_numbers::read_wide(&given[..n])
+}
+
 // The command's page of help.
 pub fn page_of(command: Command) -> usize {
     match command {
@@ -184,6 +199,7 @@ pub fn page_of(command: Command) -> usize {
         Command::Cuts => texts::CUTS,
         Command::Chart => texts::CHART,
         Command::Why => texts::WHY,
+        Command::Line => texts::LINE,
         Command::Gate => texts::GATE,
         Command::Mend => texts::MEND,
         Command::Changes => texts::CHANGES,

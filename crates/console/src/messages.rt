@@ -51,6 +51,17 @@ pub fn hinted(name: usize, changes: usize) {
     say(&line, e);
 }
 
+// Whether a farm is above a line of so many grams, and how many herds were added up to tell.
+pub fn screened(name: usize, is_above: bool, grams: u64, count: usize) {
+    let mut line = message_lines::room();
+    let a = message_lines::add(&mut line, 0, b"urvendlo: ");
+    let b = message_lines::add_name(&mut line, a, name);
+    let c = message_lines::add(&mut line, b, b": ");
+    let d = message_lines::add_above(&mut line, c, is_above, grams);
+    let e = message_lines::add_herds(&mut line, d, count);
+    say(&line, e);
+}
+
 pub fn unread() -> Ended {
     os::fail(b"urvendlo: the input cannot be read");
     Ended::Failed

@@ -122,3 +122,26 @@ pub fn add_source(line: &mut [u8], at: usize, name: usize) -> usize {
     }
     add_word(line, at, name)
 }
+
+fn add_verdict(line: &mut [u8], at: usize, is_above: bool) -> usize {
+    if is_above {
+        return add(line, at, b"above ");
+    }
+    add(line, at, b"not above ")
+}
+
+// Is it above a line of so many grams?
+pub fn add_above(line: &mut [u8], at: usize, is_above: bool, grams: u64) -> usize {
+    let a = add_verdict(line, at, is_above);
+    let b = add_number(line, a, grams);
+    add(line, b, b" g of NH3-N a year: ")
+}
+
+// How many herds were added up.
+pub fn add_herds(line: &mut [u8], at: usize, count: usize) -> usize {
+    let a = add_number(line, at, count as u64);
+    if count == 1 {
+        return add(line, a, b" herd added up\n");
+    }
+    add(line, a, b" herds added up\n")
+}

@@ -1,5 +1,6 @@
 // Files one after the other on standard input, each behind its length in four bytes, the lowest first: how test
 // programs get the vectors of the second implementation.
+use limits::Source;
 use streams::Outcome;
 ghost use Prim.Native.Nat.{_≤_};
 
@@ -46,4 +47,12 @@ pub fn next_file(file: &mut [u8]) -> Packed {
         return Packed::End;
     }
     Packed::File(n)
+}
+
+// Where a file comes from, by the letter before it: c for a cooperative, else standard input.
+pub fn source_of(letter: &[u8]) -> Source {
+    if base::same(letter, b"c") {
+        return Source::Cooperative;
+    }
+    Source::StandardInput
 }

@@ -8,14 +8,6 @@ use views::View;
 // Longer than any file of the vectors.
 const CASE_MOST: usize = 263000;
 
-// By the letter: c for a cooperative, else standard input.
-fn source_of(letter: &[u8]) -> Source {
-    if base::same(letter, b"c") {
-        return Source::Cooperative;
-    }
-    Source::StandardInput
-}
-
 // What each command prints.
 fn print_views(source: Source, file: &[u8]) {
     printing::print_view(View::Figures, source, file);
@@ -29,7 +21,7 @@ fn print_views(source: Source, file: &[u8]) {
 fn run_one(file: &mut [u8]) -> bool {
     match packs::next_file(file) {
         Packed::File(n) => {
-            let source = source_of(base::part_of(file, 0, 1));
+            let source = packs::source_of(base::part_of(file, 0, 1));
             print_views(source, base::part_of(file, 1, n));
             true
         }

@@ -57,7 +57,7 @@ pub const LARGER: [u8; 58] = *b"\
 ";
 
 // The pages of help, one for each command.
-pub const PAGES: [u8; 4091] = *b"\
+pub const PAGES: [u8; 4676] = *b"\
 usage: urvendlo [COMMAND] [OPTION..] [FILE]\n\
 \n\
 Reads a farm file, which is FILE or standard input (also as -), and prints\n\
@@ -68,6 +68,7 @@ Reads a farm file, which is FILE or standard input (also as -), and prints\n\
 \x20 cuts     what each division that is rounded down cut off, and its divisor\n\
 \x20 chart    the figures as a picture, an SVG\n\
 \x20 why      why each yard has its share on days with both yard and pasture\n\
+\x20 line     whether the farm's ammonia is above so many grams, yes or no\n\
 \x20 gate     the days and hours of a pasture gate's log, read in place of a farm\n\
 \x20 mend     the file without what spreadsheets do to it\n\
 \x20 changes  what mending changes in the file\n\
@@ -76,10 +77,11 @@ Reads a farm file, which is FILE or standard input (also as -), and prints\n\
 \n\
 \x20 -o FILE  what is printed goes to FILE, all of it or nothing; a refused file\n\
 \x20          leaves FILE as it was\n\
-\x20 --words  of the command why: sentences in place of records\n\
+\x20 --words  of the command why: sentences in place of records; of line: a\n\
+\x20          sentence on standard error, too\n\
 \x20 --cooperative\n\
-\x20          of figures, notes, cuts, chart and why: FILE, which has to be named,\n\
-\x20          may have up to 262,144 bytes and 512 herds; else 65,536 and 64\n\
+\x20          of figures, notes, cuts, chart, why and line: FILE, which has to be\n\
+\x20          named, may have up to 262,144 bytes and 512 herds; else 65,536 and 64\n\
 \x20 --       what follows is a file, whatever it is called\n\
 \n\
 The status is 0 where the answer was printed, 1 where the file was refused,\n\
@@ -126,6 +128,16 @@ share on them. With --words a sentence in place of the line.\n\
 \n\
 \x20 $ urvendlo why examples/shares.csv\n\
 \x20 Heifers,lowered,180,0.2\n\
+usage: urvendlo line [--words] [-o FILE] GRAMS [FILE | --cooperative FILE]\n\
+\n\
+Whether the farm's nh3_nlivestock is above GRAMS, a whole number from 0 to\n\
+18446744073709551615: yes or no, and how many herds were added up. That is up\n\
+to the first herd with which the sum is above GRAMS, or all herds. A sum that\n\
+equals GRAMS is a no. The status is 0 for both. With --words standard error\n\
+has it in words.\n\
+\n\
+\x20 $ urvendlo line 150000 examples/farm.csv\n\
+\x20 yes,3\n\
 usage: urvendlo gate [-o FILE] [LOG]\n\
 \n\
 LOG has a record a day of one year: date, hours on pasture, hours on the yard.\n\
@@ -152,18 +164,19 @@ usage: urvendlo version\n\
 The commit of this program, and the kit that proves it, where there is one.\n\
 ";
 
-pub const PAGES_STARTS: [usize; 11] = [
+pub const PAGES_STARTS: [usize; 12] = [
     0,
-    1650,
-    2026,
-    2379,
-    2635,
-    2884,
-    3228,
-    3460,
-    3743,
-    3990,
-    4091,
+    1783,
+    2159,
+    2512,
+    2768,
+    3017,
+    3361,
+    3813,
+    4045,
+    4328,
+    4575,
+    4676,
 ];
 
 // The numbers of the pages, and the last of them.
@@ -179,12 +192,14 @@ pub const CHART: usize = 4;
 
 pub const WHY: usize = 5;
 
-pub const GATE: usize = 6;
+pub const LINE: usize = 6;
 
-pub const MEND: usize = 7;
+pub const GATE: usize = 7;
 
-pub const CHANGES: usize = 8;
+pub const MEND: usize = 8;
 
-pub const VERSION: usize = 9;
+pub const CHANGES: usize = 9;
 
-pub const PAGE_LAST: usize = 9;
+pub const VERSION: usize = 10;
+
+pub const PAGE_LAST: usize = 10;

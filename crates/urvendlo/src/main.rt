@@ -4,16 +4,18 @@
 // ended goes as one digit, after all output, to the descriptor that --status-fd names.
 mod runs; // what each command does
 
+use crate::runs::Question;
 use asked::Asked;
 use asked::Command;
 use asked::Descriptor;
 use console::Ended;
 use console::messages;
 use views::View;
+use wide_numbers::WideNumber;
 
 // What is done with a file.
 enum Job {
-    Farm(View),
+    Farm(Question),
     Log,
     Mend,
     Changes,
@@ -22,7 +24,7 @@ enum Job {
 // The job on standard input; the word at `name` is for messages.
 fn run_on_input(job: Job, name: usize) -> Ended {
     match job {
-        Job::Farm(view) => runs::of_farm(view, name),
+        Job::Farm(question) => runs::of_farm(question, name),
         Job::Log => runs::of_log(name),
         Job::Mend => runs::of_mending(),
         Job::Changes => runs::of_changes(),
@@ -37,21 +39,21 @@ fn not_of_farms(command: usize) -> Ended {
     )
 }
 
-// The view of the file that the word at `name` names.
-fn run_by_name(view: View, name: usize) -> Ended {
+// What is asked of the file that the word at `name` names.
+fn run_by_name(question: Question, name: usize) -> Ended {
     if asked::is_past(name) {
         return messages::misused(b"--cooperative takes the name of a file", name);
     }
     if asked::is_input(name) {
         return messages::misused(b"--cooperative takes the name of a file, and not ", name);
     }
-    runs::of_cooperative(view, name)
+    runs::of_cooperative(question, name)
 }
 
 // The job with the option --cooperative.
 fn run_on_cooperative(job: Job, command: usize, name: usize) -> Ended {
     match job {
-        Job::Farm(view) => run_by_name(view, name),
+        Job::Farm(question) => run_by_name(question, name),
         Job::Log => not_of_farms(command),
         Job::Mend => not_of_farms(command),
         Job::Changes => not_of_farms(command),
@@ -84,12 +86,47 @@ fn run_job(job: Job, command: usize, next: usize) -> Ended {
     run_on_input(job, file.name)
 }
 
+fn run_view(view: View, command: usize, next: usize) -> Ended {
+    run_job(Job::Farm(Question::View(view)), command, next)
+}
+
 fn run_why(command: usize) -> Ended {
     let next = asked::after(command);
     if asked::is_words(next) {
-        return run_job(Job::Farm(View::Sentences), command, asked::after(next));
+        return run_view(View::Sentences, command, asked::after(next));
     }
-    run_job(Job::Farm(View::Reasons), command, next)
+    run_view(View::Reasons, command, next)
+}
+
+// A word that says no grams, or that is missing.
+fn no_grams(at: usize) -> Ended {
+    if asked::is_past(at) {
+        return messages::misused(b"line takes a number of grams", at);
+    }
+    messages::misused(
+        b"no whole number of grams from 0 to 18446744073709551615: ",
+        at,
+    )
+}
+
+// The word at `at` says the grams of the line.
+fn run_line_at(in_words: bool, command: usize, at: usize) -> Ended {
+    match asked::grams_at(at) {
+        WideNumber::Value(line) => run_job(
+            Job::Farm(Question::Line(line, in_words)),
+            command,
+            asked::after(at),
+        ),
+        WideNumber::Unreadable => no_grams(at),
+    }
+}
+
+fn run_line(command: usize) -> Ended {
+    let next = asked::after(command);
+    if asked::is_words(next) {
+        return run_line_at(true, command, asked::after(next));
+    }
+    run_line_at(false, command, next)
 }
 
 fn run_help(next: usize) -> Ended {
@@ -109,10 +146,11 @@ fn run_help(next: usize) -> Ended {
 fn run_command(command: Command, at: usize) -> Ended {
     let next = asked::after(at);
     match command {
-        Command::Figures => run_job(Job::Farm(View::Figures), at, next),
-        Command::Notes => run_job(Job::Farm(View::Notes), at, next),
-        Command::Cuts => run_job(Job::Farm(View::Cuts), at, next),
+        Command::Figures => run_view(View::Figures, at, next),
+        Command::Notes => run_view(View::Notes, at, next),
+        Command::Cuts => run_view(View::Cuts, at, next),
         Command::Why => run_why(at),
+        Command::Line => run_line(at),
         Command::Gate => run_job(Job::Log, at, next),
         Command::Mend => run_job(Job::Mend, at, next),
         Command::Changes => run_job(Job::Changes, at, next),
@@ -125,10 +163,10 @@ fn run_command(command: Command, at: usize) -> Ended {
 // The words of the command line from this one on.
 fn run(first: usize) -> Ended {
     if asked::is_past(first) {
-        return run_job(Job::Farm(View::Figures), first, first);
+        return run_view(View::Figures, first, first);
     }
     if asked::is_cooperative(first) {
-        return run_job(Job::Farm(View::Figures), first, first);
+        return run_view(View::Figures, first, first);
     }
     match asked::command_at(first) {
         Asked::For(command) => run_command(command, first),

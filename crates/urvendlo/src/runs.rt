@@ -1,4 +1,6 @@
 // What each command does: the file is read, the answer printed, and of a refusal it is said what there is to say.
+use above_line::Above;
+use above_line::LineAnswer;
 use console::Ended;
 use console::messages;
 use console::named;
@@ -17,6 +19,12 @@ ghost use lib.ListN.{length};
 ghost use Rattle.gate.specs.Logs.{logMost};
 ghost use Rattle.limits.specs.Limits.{cooperativeBytes};
 ghost use Rattle.streams.specs.Within.{Within};
+
+// What is asked of a farm file: a view of it; or whether it is above a line of so many grams, in words too or not.
+pub enum Question {
+    View(View),
+    Line(u64, bool),
+}
 
 // The command `mend`, where it helps a refused file.
 fn hint(kind: Input, s: &[u8], name: usize) -> Ended {
@@ -58,11 +66,57 @@ fn log_refused(s: &[u8], name: usize, refusal: LogRefusal, record: usize) -> End
     hint(Input::Log, s, name)
 }
 
-fn answer_farm(view: View, source: Source, s: &[u8], name: usize) -> Ended {
+fn answer_view(view: View, source: Source, s: &[u8], name: usize) -> Ended {
     match printing::print_view(view, source, s) {
         Printed::Listed => Ended::Printed,
         Printed::Refused(refusal, record) => farm_refused(source, s, name, refusal, record),
         Printed::Broken => messages::unwritten(),
+    }
+}
+
+fn tell_above(above: Above, line: u64, name: usize) {
+    match above {
+        Above::Yes(count) => messages::screened(name, true, line, count),
+        Above::No(count) => messages::screened(name, false, line, count),
+    }
+}
+
+fn tell_if_asked(in_words: bool, above: Above, line: u64, name: usize) -> Ended {
+    if in_words {
+        tell_above(above, line, name);
+    }
+    Ended::Printed
+}
+
+// What is said behind a line's answer that was printed.
+fn end_line(
+    ended: LineAnswer,
+    line: u64,
+    in_words: bool,
+    source: Source,
+    s: &[u8],
+    name: usize,
+) -> Ended {
+    match ended {
+        LineAnswer::Screened(above) => tell_if_asked(in_words, above, line, name),
+        LineAnswer::Refused(refusal, record) => farm_refused(source, s, name, refusal, record),
+    }
+}
+
+fn answer_line(line: u64, in_words: bool, source: Source, s: &[u8], name: usize) -> Ended {
+    let put = line_answer::answer_of(source, s, line);
+    let ended = put.answer;
+    let bytes = put.bytes;
+    match streams::write_all(base::part_of(&bytes, 0, put.length)) {
+        Outcome::Whole(_) => end_line(ended, line, in_words, source, s, name),
+        Outcome::Broken => messages::unwritten(),
+    }
+}
+
+fn answer_farm(question: Question, source: Source, s: &[u8], name: usize) -> Ended {
+    match question {
+        Question::View(view) => answer_view(view, source, s, name),
+        Question::Line(line, in_words) => answer_line(line, in_words, source, s, name),
     }
 }
 
@@ -71,11 +125,11 @@ fn farm_room() -> [u8; input::INPUT_MOST] {
 }
 
 // A farm file on standard input.
-pub fn of_farm(view: View, name: usize) -> Ended {
+pub fn of_farm(question: Question, name: usize) -> Ended {
     let mut file = farm_room();
     match input::read_file(&mut file) {
         Outcome::Whole(n) => answer_farm(
-            view,
+            question,
             Source::StandardInput,
             base::part_of(&file, 0, n),
             name,
@@ -100,11 +154,11 @@ fn cooperative_room() -> [u8; COOPERATIVE_MOST] {
 }
 
 // A cooperative's file, by its name; where it cannot be read that is said.
-pub fn of_cooperative(view: View, name: usize) -> Ended {
+pub fn of_cooperative(question: Question, name: usize) -> Ended {
     let mut file = cooperative_room();
     match read_cooperative(name, &mut file) {
         Outcome::Whole(n) => answer_farm(
-            view,
+            question,
             Source::Cooperative,
             base::part_of(&file, 0, n),
             name,
