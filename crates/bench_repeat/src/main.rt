@@ -1,8 +1,10 @@
 // The library's work, repeated inside one process, so that a benchmark can measure it. Standard input has a mode, a
 // letter for where the file comes from, how often in eight digits, and a farm file. The mode is w for the whole job, as
-// the program does it, r for reading alone, l for what comes after reading: figures and listing. The letter is c for a
-// cooperative, else the file counts as one on standard input. One checksum is printed: it takes little of each answer,
-// so that it costs nearly nothing and still needs the answer.
+// the program does it, r for reading alone, l for what comes after reading: figures and listing, n for no more than
+// whether the farm is above a line of 0 grams, once it is read and checked. The letter is c for a cooperative, else the
+// file counts as one on standard input. One checksum is printed: it takes little of each answer, so that it costs
+// nearly nothing and still needs the answer.
+use above_line::Above;
 use farm::Checked;
 use farm::Farm;
 use farm::Given;
@@ -37,6 +39,7 @@ enum Mode {
     Whole,
     Reading,
     Listing,
+    Line,
 }
 
 fn wide(b: u8) -> u64
@@ -65,6 +68,9 @@ fn mode_of(s: &[u8]) -> Mode {
     }
     if base::same(s, b"l") {
         return Mode::Listing;
+    }
+    if base::same(s, b"n") {
+        return Mode::Line;
     }
     Mode::Whole
 }
@@ -150,6 +156,15 @@ fn listing_sum(sum: u64, turn: u64, farm: Farm, out: &mut [u8]) -> u64
     text_sum(sum, turn, out, n)
 }
 
+fn line_sum(sum: u64, farm: Farm) -> u64
+    requires { ⌜ checkFarm farm ≡ Accepted ⌝ }
+{
+    match farm_above::above(farm, 0) {
+        Above::Yes(count) => mixed(sum, count as u64),
+        Above::No(count) => mixed(sum, count as u64),
+    }
+}
+
 // The turns count down.
 fn repeat_reading(times: u64, source: Source, file: &[u8]) -> u64 {
     let mut sum = 0;
@@ -183,6 +198,18 @@ fn repeat_listing(times: u64, farm: Farm, out: &mut [u8]) -> u64
     sum
 }
 
+fn repeat_line(times: u64, farm: Farm) -> u64
+    requires { ⌜ checkFarm farm ≡ Accepted ⌝ }
+{
+    let mut sum = 0;
+    let mut turn = times;
+    while turn > 0 {
+        sum = line_sum(sum, farm);
+        turn -= 1;
+    }
+    sum
+}
+
 // The farm is read once.
 fn listed(times: u64, source: Source, file: &[u8], out: &mut [u8]) -> u64
     requires { ⌜ outputRoom Cooperative ≤ length (now out) ⌝ }
@@ -191,6 +218,15 @@ fn listed(times: u64, source: Source, file: &[u8], out: &mut [u8]) -> u64
     let checked = answer.checked;
     match checked {
         Checked::Accepted => repeat_listing(times, answer.farm, out),
+        Checked::Refused(refusal, record) => refusal_sum(0, refusal, record),
+    }
+}
+
+fn screened(times: u64, source: Source, file: &[u8]) -> u64 {
+    let answer = farm_file::read(source, file);
+    let checked = answer.checked;
+    match checked {
+        Checked::Accepted => repeat_line(times, answer.farm),
         Checked::Refused(refusal, record) => refusal_sum(0, refusal, record),
     }
 }
@@ -205,6 +241,7 @@ fn repeated(mode: Mode, times: u64, source: Source, file: &[u8]) -> u64 {
         Mode::Whole => repeat_whole(times, source, file, &mut out),
         Mode::Reading => repeat_reading(times, source, file),
         Mode::Listing => listed(times, source, file, &mut out),
+        Mode::Line => screened(times, source, file),
     }
 }
 
