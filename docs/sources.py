@@ -9,12 +9,9 @@ it were written by hand.
 import re
 import textwrap
 from collections import namedtuple
-from pathlib import Path
 
-ROOT = Path(__file__).resolve().parent.parent
-CRATES = ROOT / "crates"
-
-faults = []
+from commands import commands, help_pages
+from common import CRATES, ROOT, faults
 
 
 def made():
@@ -32,6 +29,7 @@ def made():
         "cuts/src/names.rt": cut_numbers,
         "lines_cuts/src/texts.rt": cut_texts,
         "texts/src/lib.rt": program_texts,
+        "asked/src/commands.rt": command_numbers,
     }
     return {CRATES / path: source() for path, source in sources.items()}
 
@@ -360,7 +358,6 @@ def cut_texts():
 
 # ---- refusals, and the texts of the program
 
-HELP_WIDTH = 80
 LIMITS = "limits/src/lib.rt"
 INPUT, COOPERATIVE = "INPUT", "COOPERATIVE"  # whose limits: standard input's, a cooperative's file's
 OPTION = "--cooperative"
@@ -396,17 +393,18 @@ def refusal_table():
     return rows
 
 
-def help_pages():
-    """The pages of help by their names, in their order."""
-    pages = {}
-    for line in (ROOT / "docs" / "help.txt").read_text().splitlines():
-        if line.startswith("== "):
-            pages[line[3:]] = page = []
-        elif not line.startswith("#"):
-            page.append(line + "\n")
-            if len(line) > HELP_WIDTH:
-                faults.append(f"docs/help.txt: a line has more than {HELP_WIDTH} characters: {line}")
-    return {name: "".join(lines) for name, lines in pages.items()}
+def command_numbers():
+    """The enum of commands, and which command a page is of."""
+    of_program = [command.name for command in commands() if not command.is_of_launcher]
+    variants = "".join(f"    {name.capitalize()},\n" for name in of_program)
+    arms = "".join(f"        texts::{constant(name)} => Command::{name.capitalize()},\n" for name in of_program)
+    return source(
+        "The commands of the program by the numbers of their pages of help. Made by docs/tables from docs/help.txt.",
+        comment("A command of the program, or one of those that ./urvendlo alone has.")
+        + f"pub enum Command {{\n{variants}    OfLauncher,\n}}\n",
+        f"pub fn command_of(page: usize) -> Command {{\n    match page {{\n{arms}"
+        "        _ => Command::OfLauncher,\n    }\n}\n",
+    )
 
 
 def program_texts():
@@ -440,7 +438,13 @@ def program_texts():
             [within(COOPERATIVE, f"{OPTION} FILE takes up to BYTES bytes and HERDS herds")],
             "What takes a file that is too large for standard input.",
         ),
-        text_table("PAGES", "PAGES_STARTS", list(pages.values()), "The pages of help, one for each command."),
+        text_table(
+            "PAGES",
+            "PAGES_STARTS",
+            ["".join(page.lines) for page in pages.values()],
+            "The pages of help, one for each command.",
+        ),
+        text_table("NAMES", "NAMES_STARTS", list(pages), "The commands' names, by the numbers of their pages."),
         comment("The numbers of the pages, and the last of them.")
         + constants([*((name.upper(), place) for place, name in enumerate(pages)), ("PAGE_LAST", len(pages) - 1)]),
     )

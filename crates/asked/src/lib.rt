@@ -1,25 +1,12 @@
 // The words of the command line: which command they ask for, and where the file's name stands.
+pub mod commands; // the commands of the program, by their pages of help
+
 use digits::Number;
 use wide_numbers::WideNumber;
 
-// The commands of docs/help.txt.
-pub enum Command {
-    Figures,
-    Notes,
-    Cuts,
-    Chart,
-    Why,
-    Line,
-    Gate,
-    Mend,
-    Changes,
-    Help,
-    Version,
-}
-
-// What a word asks for.
+// The command that a word asks for, by the number of its page of help.
 pub enum Asked {
-    For(Command),
+    Page(usize),
     Nothing,
 }
 
@@ -116,43 +103,24 @@ pub fn file_at(i: usize) -> File {
     }
 }
 
-fn view_of(word: &[u8]) -> Asked {
-    if base::same(word, b"figures") {
-        return Asked::For(Command::Figures);
+// Is it the command of that page?
+fn is_named(word: &[u8], page: usize) -> bool {
+    let names = texts::NAMES;
+    let starts = texts::NAMES_STARTS;
+    if texts::PAGE_LAST < page {
+        return false;
     }
-    if base::same(word, b"notes") {
-        return Asked::For(Command::Notes);
-    }
-    if base::same(word, b"cuts") {
-        return Asked::For(Command::Cuts);
-    }
-    if base::same(word, b"chart") {
-        return Asked::For(Command::Chart);
-    }
-    if base::same(word, b"why") {
-        return Asked::For(Command::Why);
-    }
-    if base::same(word, b"line") {
-        return Asked::For(Command::Line);
-    }
-    Asked::Nothing
+    base::same(word, base::part_of(&names, starts[page], starts[page + 1]))
 }
 
-fn other_of(word: &[u8]) -> Asked {
-    if base::same(word, b"gate") {
-        return Asked::For(Command::Gate);
-    }
-    if base::same(word, b"mend") {
-        return Asked::For(Command::Mend);
-    }
-    if base::same(word, b"changes") {
-        return Asked::For(Command::Changes);
-    }
-    if base::same(word, b"help") {
-        return Asked::For(Command::Help);
-    }
-    if base::same(word, b"version") {
-        return Asked::For(Command::Version);
+// From the last page to the first.
+fn page_of(word: &[u8]) -> Asked {
+    let mut page = texts::PAGE_LAST + 1;
+    while 0 < page {
+        page -= 1;
+        if is_named(word, page) {
+            return Asked::Page(page);
+        }
     }
     Asked::Nothing
 }
@@ -161,10 +129,7 @@ fn other_of(word: &[u8]) -> Asked {
 pub fn command_at(i: usize) -> Asked {
     let mut given = [0u8; WORD_MOST];
     let n = os::arg(i, &mut given);
-    match view_of(&given[..n]) {
-        Asked::For(command) => Asked::For(command),
-        Asked::Nothing => other_of(&given[..n]),
-    }
+    page_of(&given[..n])
 }
 
 fn descriptor_of(n: u32) -> Descriptor {
@@ -189,21 +154,4 @@ pub fn grams_at(i: usize) -> WideNumber {
     let mut given = [0u8; GRAMS_MOST];
     let n = os::arg(i, &mut given);
     wide_numbers::read_wide(&given[..n])
-}
-
-// The command's page of help.
-pub fn page_of(command: Command) -> usize {
-    match command {
-        Command::Figures => texts::FIGURES,
-        Command::Notes => texts::NOTES,
-        Command::Cuts => texts::CUTS,
-        Command::Chart => texts::CHART,
-        Command::Why => texts::WHY,
-        Command::Line => texts::LINE,
-        Command::Gate => texts::GATE,
-        Command::Mend => texts::MEND,
-        Command::Changes => texts::CHANGES,
-        Command::Help => texts::HELP,
-        Command::Version => texts::VERSION,
-    }
 }

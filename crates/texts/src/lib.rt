@@ -57,7 +57,7 @@ pub const LARGER: [u8; 58] = *b"\
 ";
 
 // The pages of help, one for each command.
-pub const PAGES: [u8; 4676] = *b"\
+pub const PAGES: [u8; 4718] = *b"\
 usage: urvendlo [COMMAND] [OPTION..] [FILE]\n\
 \n\
 Reads a farm file, which is FILE or standard input (also as -), and prints\n\
@@ -80,8 +80,8 @@ Reads a farm file, which is FILE or standard input (also as -), and prints\n\
 \x20 --words  of the command why: sentences in place of records; of line: a\n\
 \x20          sentence on standard error, too\n\
 \x20 --cooperative\n\
-\x20          of figures, notes, cuts, chart, why and line: FILE, which has to be\n\
-\x20          named, may have up to 262,144 bytes and 512 herds; else 65,536 and 64\n\
+\x20          of commands whose usage names it: FILE, which has to be named, may\n\
+\x20          have up to 262,144 bytes and 512 herds; else 65,536 and 64\n\
 \x20 --       what follows is a file, whatever it is called\n\
 \n\
 The status is 0 where the answer was printed, 1 where the file was refused,\n\
@@ -90,7 +90,8 @@ The status is 0 where the answer was printed, 1 where the file was refused,\n\
 The bare program, target/bin/urvendlo, needs neither ./urvendlo nor the kit:\n\
 urvendlo [--status-fd N] [COMMAND] [NAME] < FILE. NAME is for messages, and\n\
 with --cooperative it is opened. The digit of the status goes to the descriptor\n\
-N; the program's own is always 0. chart, version and -o are of ./urvendlo alone.\n\
+N; the program's own is always 0. It has no -o, and lacks some commands, chart\n\
+among them: it says then that only ./urvendlo has them.\n\
 usage: urvendlo [figures] [-o FILE] [FILE | --cooperative FILE]\n\
 \n\
 A line a figure, herd after herd and then the totals: LABEL,MODULE,NAME and\n\
@@ -166,18 +167,35 @@ The commit of this program, and the kit that proves it, where there is one.\n\
 
 pub const PAGES_STARTS: [usize; 12] = [
     0,
-    1783,
-    2159,
-    2512,
-    2768,
-    3017,
-    3361,
-    3813,
-    4045,
-    4328,
-    4575,
-    4676,
+    1825,
+    2201,
+    2554,
+    2810,
+    3059,
+    3403,
+    3855,
+    4087,
+    4370,
+    4617,
+    4718,
 ];
+
+// The commands' names, by the numbers of their pages.
+pub const NAMES: [u8; 54] = *b"\
+help\
+figures\
+notes\
+cuts\
+chart\
+why\
+line\
+gate\
+mend\
+changes\
+version\
+";
+
+pub const NAMES_STARTS: [usize; 12] = [0, 4, 11, 16, 20, 25, 28, 32, 36, 40, 47, 54];
 
 // The numbers of the pages, and the last of them.
 pub const HELP: usize = 0;

@@ -6,8 +6,9 @@ mod runs; // what each command does
 
 use crate::runs::Question;
 use asked::Asked;
-use asked::Command;
 use asked::Descriptor;
+use asked::commands;
+use asked::commands::Command;
 use console::Ended;
 use console::messages;
 use views::View;
@@ -137,7 +138,7 @@ fn run_help(next: usize) -> Ended {
         return messages::misused(b"help takes one command, and not also ", asked::after(next));
     }
     match asked::command_at(next) {
-        Asked::For(command) => messages::help(asked::page_of(command)),
+        Asked::Page(page) => messages::help(page),
         Asked::Nothing => messages::misused(b"there is no command ", next),
     }
 }
@@ -155,8 +156,7 @@ fn run_command(command: Command, at: usize) -> Ended {
         Command::Mend => run_job(Job::Mend, at, next),
         Command::Changes => run_job(Job::Changes, at, next),
         Command::Help => run_help(next),
-        Command::Chart => messages::misused(b"only ./urvendlo has the command ", at),
-        Command::Version => messages::misused(b"only ./urvendlo has the command ", at),
+        Command::OfLauncher => messages::misused(b"only ./urvendlo has the command ", at),
     }
 }
 
@@ -169,7 +169,7 @@ fn run(first: usize) -> Ended {
         return run_view(View::Figures, first, first);
     }
     match asked::command_at(first) {
-        Asked::For(command) => run_command(command, first),
+        Asked::Page(page) => run_command(commands::command_of(page), first),
         Asked::Nothing => messages::misused(b"there is no command ", first),
     }
 }
