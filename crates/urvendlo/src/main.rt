@@ -27,8 +27,8 @@ fn run_on_input(job: Job, name: usize) -> Ended {
     match job {
         Job::Farm(question) => runs::of_farm(question, name),
         Job::Log => runs::of_log(name),
-        Job::Mend => runs::of_mending(),
-        Job::Changes => runs::of_changes(),
+        Job::Mend => runs::of_mending(false),
+        Job::Changes => runs::of_mending(true),
     }
 }
 

@@ -219,28 +219,20 @@ fn mending_room() -> [u8; mend_print::INPUT_MOST] {
     [0u8; mend_print::INPUT_MOST]
 }
 
-// The file on standard input, mended.
-pub fn of_mending() -> Ended {
-    let mut file = mending_room();
-    match mend_print::read_file(&mut file) {
-        mend_print::Input::File(n) => if_printed(mend_print::print_mended(base::part_of(
-            &file,
-            0,
-            n,
-        ))),
-        mend_print::Input::Failed => Ended::Failed,
+// What is printed of mending a file: the list of its changes, or the mended file.
+fn print_mending(s: &[u8], listed: bool) -> Ended {
+    if listed {
+        return if_printed(mend_print::print_changes(s));
     }
+    if_printed(mend_print::print_mended(s))
 }
 
-// What mending changes in it.
-pub fn of_changes() -> Ended {
+// The file on standard input, mended, or what mending changes in it. Its lists take five megabytes of stack. Both
+// commands call it, so the compiler leaves it a function of its own, and no other command pays for them.
+pub fn of_mending(listed: bool) -> Ended {
     let mut file = mending_room();
     match mend_print::read_file(&mut file) {
-        mend_print::Input::File(n) => if_printed(mend_print::print_changes(base::part_of(
-            &file,
-            0,
-            n,
-        ))),
+        mend_print::Input::File(n) => print_mending(base::part_of(&file, 0, n), listed),
         mend_print::Input::Failed => Ended::Failed,
     }
 }
