@@ -57,7 +57,7 @@ pub const LARGER: [u8; 58] = *b"\
 ";
 
 // The pages of help, one for each command.
-pub const PAGES: [u8; 4718] = *b"\
+pub const PAGES: [u8; 6394] = *b"\
 usage: urvendlo [COMMAND] [OPTION..] [FILE]\n\
 \n\
 Reads a farm file, which is FILE or standard input (also as -), and prints\n\
@@ -72,6 +72,10 @@ Reads a farm file, which is FILE or standard input (also as -), and prints\n\
 \x20 gate     the days and hours of a pasture gate's log, read in place of a farm\n\
 \x20 mend     the file without what spreadsheets do to it\n\
 \x20 changes  what mending changes in the file\n\
+\x20 explain  what a refusal means, with an example and its mend\n\
+\x20 template a farm file to start from, with a herd of each kind that is named\n\
+\x20 inputs   every input of a farm file: what it is, and what it may be\n\
+\x20 outputs  every output, and what it means\n\
 \x20 help     this text; help COMMAND tells more of one\n\
 \x20 version  which program this is, and which kit proves it\n\
 \n\
@@ -96,7 +100,9 @@ usage: urvendlo [figures] [-o FILE] [FILE | --cooperative FILE]\n\
 \n\
 A line a figure, herd after herd and then the totals: LABEL,MODULE,NAME and\n\
 kilograms of nitrogen a year, with three decimals. A refused file gets the\n\
-line refused,NUMBER,RECORD, and standard error has it in words.\n\
+line refused,NUMBER,RECORD, and standard error has it in words; of a file that\n\
+is named, where Python 3 is there, with the field, what may stand in it, and\n\
+what to do.\n\
 \n\
 \x20 $ urvendlo examples/farm.csv\n\
 \x20 Heifers,Livestock::OtherCattle::Excretion,n_excretion,960.000\n\
@@ -160,28 +166,63 @@ that is dropped, 2 for a CR that is put in, and the place in the old file.\n\
 \n\
 \x20 $ urvendlo changes examples/spreadsheet.csv\n\
 \x20 1,0\n\
+usage: urvendlo explain [-o FILE] [NUMBER]\n\
+\n\
+What the refusal of this NUMBER means, with a small example and its mend;\n\
+without NUMBER every refusal in a few words. It needs Python 3.\n\
+\n\
+\x20 $ urvendlo explain 7\n\
+\x20 Refusal 7: the value can't be read or is out of range; in a gate's log also\n\
+usage: urvendlo template [-o FILE] [KIND..]\n\
+\n\
+A farm file to start from, which is accepted as it stands, with a herd of each\n\
+KIND: roughage, cattle, dairy, pigs; without KIND of all four. Labels and values\n\
+are examples, and yours take their place. It needs Python 3.\n\
+\n\
+\x20 $ urvendlo template pigs\n\
+\x20 Pigs,Livestock::FatteningPigs::Excretion,animals,100\n\
+usage: urvendlo inputs [-o FILE] [KIND..]\n\
+\n\
+Every input of a herd of this KIND (roughage, cattle, dairy, pigs; without KIND\n\
+of all four) by its module: what it is, its range or the words that it may be,\n\
+and its section in the model's technical description. It needs Python 3.\n\
+\n\
+\x20 $ urvendlo inputs dairy\n\
+\x20 A record is LABEL,MODULE,INPUT,VALUE; each input of a kind is given once.\n\
+usage: urvendlo outputs [-o FILE] [KIND..]\n\
+\n\
+Every output of a herd of this KIND (roughage, cattle, dairy, pigs; without KIND\n\
+of all four) by its module, with its meaning, and the farm's totals. It needs\n\
+Python 3.\n\
+\n\
+\x20 $ urvendlo outputs dairy\n\
+\x20 Each is in kilograms of nitrogen a year. TAN is its soluble part.\n\
 usage: urvendlo version\n\
 \n\
 The commit of this program, and the kit that proves it, where there is one.\n\
 ";
 
-pub const PAGES_STARTS: [usize; 12] = [
+pub const PAGES_STARTS: [usize; 16] = [
     0,
-    1825,
-    2201,
-    2554,
-    2810,
-    3059,
-    3403,
-    3855,
-    4087,
-    4370,
-    4617,
-    4718,
+    2077,
+    2557,
+    2910,
+    3166,
+    3415,
+    3759,
+    4211,
+    4443,
+    4726,
+    4973,
+    5257,
+    5606,
+    5984,
+    6293,
+    6394,
 ];
 
 // The commands' names, by the numbers of their pages.
-pub const NAMES: [u8; 54] = *b"\
+pub const NAMES: [u8; 82] = *b"\
 help\
 figures\
 notes\
@@ -192,10 +233,31 @@ line\
 gate\
 mend\
 changes\
+explain\
+template\
+inputs\
+outputs\
 version\
 ";
 
-pub const NAMES_STARTS: [usize; 12] = [0, 4, 11, 16, 20, 25, 28, 32, 36, 40, 47, 54];
+pub const NAMES_STARTS: [usize; 16] = [
+    0,
+    4,
+    11,
+    16,
+    20,
+    25,
+    28,
+    32,
+    36,
+    40,
+    47,
+    54,
+    62,
+    68,
+    75,
+    82,
+];
 
 // The numbers of the pages, and the last of them.
 pub const HELP: usize = 0;
@@ -218,6 +280,14 @@ pub const MEND: usize = 8;
 
 pub const CHANGES: usize = 9;
 
-pub const VERSION: usize = 10;
+pub const EXPLAIN: usize = 10;
 
-pub const PAGE_LAST: usize = 10;
+pub const TEMPLATE: usize = 11;
+
+pub const INPUTS: usize = 12;
+
+pub const OUTPUTS: usize = 13;
+
+pub const VERSION: usize = 14;
+
+pub const PAGE_LAST: usize = 14;
