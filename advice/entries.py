@@ -5,7 +5,7 @@ import re
 import values
 from case import FORM, Unknown, fields_of, text_of
 from lists import INPUTS, LISTS, kind_of, names_of
-from shown import listed, shown
+from shown import listed, shown, shown_text
 from whole import HEADER, is_header, lines_of
 
 # ---- module and input name
@@ -56,10 +56,6 @@ def meant_kind(module):
     kinds = {kind.path.rpartition("::")[2]: kind for kind in LISTS.kinds}
     found = values.better_name(second, list(kinds))
     return kinds[found[0]] if found else None
-
-
-def shown_text(text):
-    return shown(text.encode("utf-8", "surrogateescape"))
 
 
 # ---- the value

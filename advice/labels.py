@@ -5,7 +5,7 @@ import unicodedata
 from case import Unknown, fields_of, of_mending
 from lists import LISTS
 from shown import shown
-from whole import HEADER, MARK, is_header, lines_of
+from whole import EMPTY_ROW, HEADER, MARK, is_header, lines_of
 
 
 def bad_label(case):
@@ -16,7 +16,7 @@ def bad_label(case):
     if label.startswith(MARK):
         return "a byte order mark (EF BB BF) stands before the label", of_mending(case, "to drop it")
     if not any(fields):
-        return "its four fields are empty", ["take the line out: it is an empty row of the sheet"]
+        return "its 4 fields are empty", [EMPTY_ROW]
     if not label:
         before = case.records[case.place - 2].fields[0] if case.place > 1 else b""
         return "the label is empty", [

@@ -8,7 +8,7 @@ from case import FIELDS, FORM, Unknown, of_mending, record_of, text_of
 from lists import INPUTS, LISTS
 from records import records_of
 from shown import counted, shown
-from whole import HEADER, is_header, lines_of
+from whole import EMPTY_ROW, HEADER, is_header, lines_of
 
 
 def too_long(case):
@@ -68,17 +68,27 @@ def not_four(case):
     line = case.raw[record.start : record.end]
     if count == len(FIELDS):
         raise Unknown
-    if not line:
-        last = not case.raw[record.end :].strip()
-        return "it is empty, and a record has 4 fields", [
-            "take the empty line at the end out" if last else "take the empty line out"
-        ]
-    if not line.strip(b" \t\0\x1a"):
-        return f"it has nothing but {shown(line)}, and a record has 4 fields", ["take the line out"]
+    of_nothing = empty_or_blank(case, line, len(FIELDS))
+    if of_nothing:
+        return of_nothing
     what = f"it has {counted(count, 'field')} and not 4: {shown(line)}"
     if case.place == 1 and is_header(case.raw):
         return what, of_header(case)
     return what, of_row_numbers(fields) or of_fields(fields, line)
+
+
+def empty_or_blank(case, line, due):
+    """What is said of a record that has nothing in it, where `due` fields are; None where it has something."""
+    if not line:
+        is_last = not case.raw[record_of(case).end :].strip()
+        return f"it is empty, and a record has {due} fields", [
+            "take the empty line at the end out" if is_last else "take the empty line out"
+        ]
+    if not line.strip(b" \t\0\x1a"):
+        return f"it has nothing but {shown(line)}, and a record has {due} fields", ["take the line out"]
+    if not line.strip(b","):
+        return f"its {len(record_of(case).fields)} fields are empty, and a record has {due}", [EMPTY_ROW]
+    return None
 
 
 def of_row_numbers(fields):

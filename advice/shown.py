@@ -14,6 +14,11 @@ def shown(stretch):
     return marked if PLAIN.fullmatch(cut) and marked == cut and not cut.endswith(",") else f"'{marked}'"
 
 
+def shown_text(text):
+    """The same of text that was read with its odd bytes kept."""
+    return shown(text.encode("utf-8", "surrogateescape"))
+
+
 def escaped(letter):
     return "".join(f"\\x{byte:02x}" for byte in letter.encode("utf-8", "surrogateescape"))
 

@@ -9,9 +9,10 @@ import re
 from decimal import Decimal, InvalidOperation
 
 from lists import is_number
+from shown import counted
 
 NUMBER = re.compile(r"(-?)(0|[1-9]\d*)(?:\.(\d+))?")
-BLANKS = " \t\u00a0\u1680\u2000-\u200b\u202f\u205f\u3000\ufeff"
+BLANKS = " \t\r\n\u00a0\u1680\u202f\u205f\u3000\ufeff" + "".join(map(chr, range(0x2000, 0x200C)))
 MINUSES = "\u2010\u2011\u2012\u2013\u2014\u2212"
 APOSTROPHES = "'\u2019\u02bc\u00b4`"
 
@@ -36,11 +37,11 @@ def takes(form, text):
 
 
 def without_blanks(text, _):
-    return text.strip().strip(BLANKS), "no blanks around it"
+    return text.strip(BLANKS), "no blanks around it"
 
 
 def without_unit(text, _):
-    return re.sub(rf"[\s{BLANKS}]*(?:%|kg|h|d|hours?|days?)$", "", text, flags=re.I), "no unit and no percent sign"
+    return re.sub(rf"(?<=\d)[{BLANKS}]*(?:%|kg|h|d|hours?|days?)$", "", text, flags=re.I), "no unit and no percent sign"
 
 
 def with_plain_minus(text, _):
@@ -83,12 +84,15 @@ def with_digits_around_point(text, _):
 
 def without_last_zeros(text, form):
     """Zeros behind the last decimal that is taken."""
-    point = text.find(".")
-    if point >= 0 and NUMBER.fullmatch(text):
-        kept = text[: point + 1 + form.decimals].removesuffix(".")
-        if not text[len(kept) :].strip(".0"):
-            text = kept
-    return text, "a whole number has no point" if not form.decimals else "no further decimals"
+    kept = shortened(text, form)
+    is_same = NUMBER.fullmatch(text) and not text[len(kept) :].strip(".0")
+    return kept if is_same else text, "no further decimals" if form.decimals else "a whole number has no point"
+
+
+def shortened(text, form):
+    """A number with no more decimals than are taken."""
+    whole, _, decimals = text.partition(".")
+    return f"{whole}.{decimals[: form.decimals]}".removesuffix(".")
 
 
 def without_minus_zero(text, _):
@@ -127,9 +131,9 @@ def better_number(text, form):
 def better_name(text, names):
     """The name that is meant: the same but for blanks, letter case and what joins words, or the nearest; or None."""
     for change, words in (
-        (lambda word: word.strip().strip(BLANKS), "no blanks around it"),
-        (lambda word: word.strip().lower(), "letter case counts"),
-        (lambda word: re.sub(r"[\W_]+", "_", word.strip().lower()), "it is written so, byte for byte"),
+        (lambda word: word.strip(BLANKS), "no blanks around it"),
+        (lambda word: word.strip(BLANKS).lower(), "letter case counts"),
+        (lambda word: re.sub(r"[\W_]+", "_", word.strip(BLANKS).lower()), "it is written so, byte for byte"),
     ):
         found = [name for name in names if change(name) == change(text)]
         if len(found) == 1:
@@ -156,14 +160,13 @@ def advice(text, form):
     if not is_number(form):
         found = better_name(text, form.values)
         return found and f"write {found[0]}: {found[1]}"
-    if not text.strip() or MISSING.fullmatch(text):
-        return "every input of a herd has a value; write 0 where there is none of it"
+    if not text.strip(BLANKS) or MISSING.fullmatch(text):
+        return "write a number, and 0 where there is none of it"
     found = better_number(text, form)
     if found:
         return f"write {found[0]}: {', '.join(found[1])}"
     if DATE.fullmatch(text):
         return "a spreadsheet made a date of it: format the column as text, and enter the number again"
-    number = NUMBER.fullmatch(text)
-    if number and number[3] and len(number[3]) > form.decimals:
-        return f"round it to {form.decimals} decimal{'s' if form.decimals > 1 else ''}" if form.decimals else "round it"
+    if NUMBER.fullmatch(text) and takes(form, shortened(text, form)):
+        return "round it" + (f" to {counted(form.decimals, 'decimal')}" if form.decimals else "")
     return None

@@ -1,4 +1,4 @@
-"""What a file is as a whole where it is no farm file at all, or not one with commas, by how it begins."""
+"""What a file is as a whole where it has no records at all, or none with commas, by how it begins."""
 
 import re
 
@@ -6,6 +6,7 @@ from records import records_of
 from shown import shown
 
 HEADER = "take the first line out: a farm file has no header"
+EMPTY_ROW = "take the line out: it is an empty row of the sheet"
 SAVE_AS = "open it in the program that made it, and save the sheet as CSV with commas"
 
 WEB = "it is a web page or an XML, and no CSV"
@@ -27,8 +28,8 @@ MARK = b"\xef\xbb\xbf"
 SEPARATORS = {b";": "semicolons", b"\t": "tabs", b"|": "bars"}
 
 
-def of_whole(raw):
-    """What is wrong with the file as a whole, and what to do; None where it is made of records."""
+def of_whole(raw, fields):
+    """What is wrong with the file as a whole, and what to do; None where it is made of records, of so many fields."""
     for beginning, what in BEGINNINGS:
         if raw[: len(beginning)].lower() == beginning.lower():
             return what, [SAVE_AS]
@@ -37,13 +38,13 @@ def of_whole(raw):
         return f"the file is UTF-16{mark}", ["save it as CSV in UTF-8, with commas"]
     first = lines_of(raw)[0].removeprefix(MARK)
     if re.match(rb'"?sep=', first, re.I):
-        return f"the first line, {shown(first)}, is for a spreadsheet alone", of_separator(raw)
+        return f"the first line, {shown(first)}, is for a spreadsheet alone", of_separator(raw, fields)
     return None
 
 
-def of_separator(raw):
+def of_separator(raw, fields):
     """What to do about a line that names the separator."""
-    rest = separator_of(lines_of(raw)[1:2])
+    rest = separator_of(lines_of(raw)[1:2], fields)
     return ["take the first line out" + (f", and save the file with commas in place of {rest}" if rest else "")]
 
 
@@ -52,11 +53,11 @@ def lines_of(raw):
     return re.split(rb"\r\n|\r|\n", raw)
 
 
-def separator_of(lines):
-    """What separates the fields of these lines in place of commas, in words; or None."""
+def separator_of(lines, fields):
+    """What separates so many fields of these lines in place of commas, in words; or None."""
     for line in lines:
         for mark, words in SEPARATORS.items():
-            if line.count(mark) >= 3 and line.count(mark) > line.count(b","):
+            if line.count(mark) >= fields - 1 and line.count(mark) > line.count(b","):
                 return words
     return None
 

@@ -1,12 +1,14 @@
 """Files as offices write them, with what ./urvendlo says of each on standard error: tests/run tries them all.
 
-Each is the farm of examples/farm.csv, and one thing is done to it. Behind the file stand the words of its refusal, and
-then the advice, line by line.
+Each is the farm of examples/farm.csv, or the log of examples/gate/2024.csv, and one thing is done to it. Behind the
+file stand the words of its refusal, and then the advice, line by line.
 """
 
 from pathlib import Path
 
-FARM = (Path(__file__).resolve().parent.parent / "examples" / "farm.csv").read_bytes()
+EXAMPLES = Path(__file__).resolve().parent.parent / "examples"
+FARM = (EXAMPLES / "farm.csv").read_bytes()
+LOG = (EXAMPLES / "gate" / "2024.csv").read_bytes()
 MARK = b"\xef\xbb\xbf"
 
 
@@ -27,7 +29,8 @@ PLAIN = FARM.replace(b'"Deer, upper"', b"Deer")  # no field has a comma in it
 NUMBERED = b"".join(b'"%d",%s\r\n' % (i, line) for i, line in enumerate(FARM.splitlines(), 1))
 CATTLE_OUTDOORS = b"Heifers,Livestock::OtherCattle::Outdoor,"
 HERD = FARM[: FARM.index(b'"Deer')]  # the records of one
-BLANK_BEHIND = FARM.replace(CATTLE_OUTDOORS + b"grazing_hours", b"Heifers ,Livestock::OtherCattle::Outdoor,grazing_hours")
+HOURS_OUTDOORS = CATTLE_OUTDOORS + b"grazing_hours"
+BLANK_BEHIND = FARM.replace(HOURS_OUTDOORS, HOURS_OUTDOORS.replace(b",", b" ,", 1))
 FIRST = FARM.index(b"\r\n")
 MODULE = b"Livestock::OtherCattle::Excretion"
 WITHOUT = "write it without, in every record of the herd: Jungkuehe"
@@ -41,7 +44,7 @@ SAVED = "open it in the program that made it, and save the sheet as CSV with com
 HEADLESS = "take the first line out: a farm file has no header"
 ENDS = "it ends in LF alone; a record ends in CR and LF (refusal 2)"
 TO_MEND = "to put a CR before each such LF: urvendlo mend farm.csv > MENDED"
-MISSING = "every input of a herd has a value; write 0 where there is none of it"
+MISSING = "write a number, and 0 where there is none of it"
 FIRST_ROW = "leave the first column out: it numbers the rows (R: row.names = FALSE; pandas: index = False)"
 ASCII = "it may have letters, digits and signs of ASCII (refusal 4)"
 EXCRETION = "it has animals, inp_n_excretion and tan_fraction (refusal 5)"
@@ -170,7 +173,10 @@ OFFICE = (
      "record 2: it is empty, and a record has 4 fields (refusal 3)",
      "take the empty line out"),
     ("empty rows at the end", FARM + b",,,\r\n,,,\r\n",
-     "record 33: its four fields are empty (refusal 4)",
+     "record 33: its 4 fields are empty (refusal 4)",
+     "take the line out: it is an empty row of the sheet"),
+    ("a wider empty row at the end", FARM + b",,,,,\r\n",
+     "record 33: its 6 fields are empty, and a record has 4 (refusal 3)",
      "take the line out: it is an empty row of the sheet"),
     ("an empty column at the end", FARM.replace(b"\r\n", b",\r\n"),
      "record 1: it has 5 fields and not 4: 'Heifers,Livestock::OtherCattle::Excretion,animals,24,' (refusal 3)",
@@ -208,6 +214,7 @@ OFFICE = (
      f"record 9: grazing_hours is 09. Mai; {HOURS}",
      "a spreadsheet made a date of it: format the column as text, and enter the number again"),
     ("366", changed(b"yard_days,365", b"yard_days,366"), f"record 4: yard_days is 366; {DAYS}"),
+    ("below zero", changed(b"animals,24", b"animals,-24"), f"record 1: animals is -24; {WHOLE}"),
     ("two decimals", changed(b"9.5", b"9.25"), f"record 9: grazing_hours is 9.25; {HOURS}", "round it to 1 decimal"),
     ("standard", changed(b"excretion,40", b"excretion,Standard"),
      "record 2: inp_n_excretion is Standard; of other cattle it may be 0 to 200, up to 3 decimals (refusal 6)",
@@ -253,4 +260,46 @@ OFFICE = (
     ("blank lines", FARM + b"\r\n" * 40000,
      "the file has 82,358 bytes; it may have 65,536 (refusal 1)",
      "take 40,001 empty lines out"),
+)  # fmt: skip
+
+A_DAY = b"2024-04-10,0,0"
+OFFICE_LOGS = (
+    ("a header", b"date,pasture,yard\r\n" + LOG,
+     "record 1: it is a header and no record: date,pasture,yard (refusal 7)",
+     "take the first line out: a log has no header"),
+    ("semicolons", LOG.replace(b",", b";"),
+     "record 1: its fields are separated by semicolons and not by commas (refusal 3)",
+     "save the file with commas"),
+    ("decimal commas", LOG.replace(b".", b","),
+     "record 1: it has 4 fields and not 3: 2024-01-01,0,2,5 (refusal 3)",
+     "write a point for the decimal comma"),
+    ("decimal commas in quotes", LOG.replace(b"2.5", b'"2,5"'),
+     f"record 1: hours on the yard is 2,5; {HOURS}",
+     "write 2.5: a point for the decimal comma"),
+    ("an empty line at the end", LOG + b"\r\n",
+     "record 367: it is empty, and a record has 3 fields (refusal 3)",
+     "take the empty line at the end out"),
+    ("25 hours", changed(A_DAY, b"2024-04-10,25,0", LOG), f"record 101: hours on pasture is 25; {HOURS}"),
+    ("24.5 hours", changed(A_DAY, b"2024-04-10,12.5,12", LOG),
+     "record 101: 12.5 hours on pasture and 12 on the yard come to 24.5; a day has 24 (refusal 7)"),
+    ("no hours", changed(A_DAY, b"2024-04-10,,0", LOG), f"record 101: hours on pasture is empty; {HOURS}", MISSING),
+    ("a day left out", changed(A_DAY + b"\r\n", b"", LOG),
+     "record 101: the date is 2024-04-11; 2024-04-10 is due (refusal 14)"),
+    ("29 February left out", changed(b"2024-02-29", b"2024-03-01", LOG),
+     "record 60: the date is 2024-03-01; 2024-02-29 is due (refusal 14)"),
+    ("dates with points", changed(b"2024-01-01", b"01.01.2024", LOG),
+     "record 1: the date is 01.01.2024; a log begins with 1 January, as 2024-01-01 (refusal 14)",
+     "write 2024-01-01: dates are written so"),
+    ("dates without zeros", changed(b"2024-04-10", b"2024-4-10", LOG),
+     "record 101: the date is 2024-4-10; 2024-04-10 is due (refusal 14)",
+     "write 2024-04-10: dates are written so"),
+    ("a log from spring on", LOG[LOG.index(A_DAY) :],
+     "record 1: the date is 2024-04-10; a log begins with 1 January, as 2024-01-01 (refusal 14)"),
+    ("a log up to spring", LOG[: LOG.index(A_DAY)],
+     "the log ends with 2024-04-09; it goes on to 31 December (refusal 14)"),
+    ("no log", b"", "the log is empty; it has a record for each day of a year (refusal 14)"),
+    ("a day more", LOG + b"2025-01-01,0,0\r\n",
+     "record 367: the date is 2025-01-01; record 366 is the last day of the year (refusal 14)",
+     "a log has one calendar year"),
+    ("LF", LOG.replace(b"\r\n", b"\n"), f"record 1: {ENDS}"),
 )  # fmt: skip
