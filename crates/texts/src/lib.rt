@@ -57,7 +57,7 @@ pub const LARGER: [u8; 58] = *b"\
 ";
 
 // The pages of help, one for each command.
-pub const PAGES: [u8; 6394] = *b"\
+pub const PAGES: [u8; 7290] = *b"\
 usage: urvendlo [COMMAND] [OPTION..] [FILE]\n\
 \n\
 Reads a farm file, which is FILE or standard input (also as -), and prints\n\
@@ -76,6 +76,9 @@ Reads a farm file, which is FILE or standard input (also as -), and prints\n\
 \x20 template a farm file to start from, with a herd of each kind that is named\n\
 \x20 inputs   every input of a farm file: what it is, and what it may be\n\
 \x20 outputs  every output, and what it means\n\
+\x20 install  puts this command in place, to be run from everywhere\n\
+\x20 uninstall\n\
+\x20          removes what install put in place\n\
 \x20 help     this text; help COMMAND tells more of one\n\
 \x20 version  which program this is, and which kit proves it\n\
 \n\
@@ -197,32 +200,51 @@ Python 3.\n\
 \n\
 \x20 $ urvendlo outputs dairy\n\
 \x20 Each is in kilograms of nitrogen a year. TAN is its soluble part.\n\
+usage: urvendlo install [PREFIX]\n\
+\n\
+Puts the command in place below PREFIX, or else below ~/.local, without root:\n\
+in bin the command, in lib/urvendlo the program and what goes with it, in share\n\
+the man page and completion for bash and zsh. The names of the files are\n\
+printed. On x86-64 the installed command needs neither the kit nor this folder,\n\
+and builds nothing; on another processor URVENDLO_EMULATOR has to name a command\n\
+that runs programs of x86-64, as qemu-x86_64.\n\
+\n\
+\x20 $ urvendlo install ~/.local\n\
+usage: urvendlo uninstall [PREFIX]\n\
+\n\
+Removes the files that install put in place below PREFIX, and their folders\n\
+where these are empty then. An installed command removes itself where no PREFIX\n\
+is given. The names of the files are printed.\n\
+\n\
+\x20 $ urvendlo uninstall ~/.local\n\
 usage: urvendlo version\n\
 \n\
 The commit of this program, and the kit that proves it, where there is one.\n\
 ";
 
-pub const PAGES_STARTS: [usize; 16] = [
+pub const PAGES_STARTS: [usize; 18] = [
     0,
-    2077,
-    2557,
-    2910,
-    3166,
-    3415,
-    3759,
-    4211,
-    4443,
-    4726,
-    4973,
-    5257,
-    5606,
-    5984,
-    6293,
-    6394,
+    2199,
+    2679,
+    3032,
+    3288,
+    3537,
+    3881,
+    4333,
+    4565,
+    4848,
+    5095,
+    5379,
+    5728,
+    6106,
+    6415,
+    6918,
+    7189,
+    7290,
 ];
 
 // The commands' names, by the numbers of their pages.
-pub const NAMES: [u8; 82] = *b"\
+pub const NAMES: [u8; 98] = *b"\
 help\
 figures\
 notes\
@@ -237,10 +259,12 @@ explain\
 template\
 inputs\
 outputs\
+install\
+uninstall\
 version\
 ";
 
-pub const NAMES_STARTS: [usize; 16] = [
+pub const NAMES_STARTS: [usize; 18] = [
     0,
     4,
     11,
@@ -257,6 +281,8 @@ pub const NAMES_STARTS: [usize; 16] = [
     68,
     75,
     82,
+    91,
+    98,
 ];
 
 // The numbers of the pages, and the last of them.
@@ -288,6 +314,10 @@ pub const INPUTS: usize = 12;
 
 pub const OUTPUTS: usize = 13;
 
-pub const VERSION: usize = 14;
+pub const INSTALL: usize = 14;
 
-pub const PAGE_LAST: usize = 14;
+pub const UNINSTALL: usize = 15;
+
+pub const VERSION: usize = 16;
+
+pub const PAGE_LAST: usize = 16;
