@@ -1,2 +1,3 @@
 pub mod ValueLengths
 pub mod Lengths
+pub mod Examples
