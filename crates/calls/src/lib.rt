@@ -22,6 +22,7 @@ pub use farm_calls::farm_totals;
 pub use farm_calls::totals_listing;
 pub use lent_file::read_into;
 pub use lent_line::farm_above_line;
+pub use lent_view::farm_view;
 
 // whether a file's farm is above a line
 pub use line_calls::file_above_line;
@@ -90,7 +91,7 @@ pub fn file_totals_listing(source: Source, s: &[u8], out: &mut [u8]) -> Written
 }
 
 // What the view lists of a whole file: herd after herd, and behind the figures the totals. It is put straight into a
-// buffer that has room for every farm of as many herds.
+// buffer that has room for every farm of as many herds, but for a view that has a limit.
 pub fn file_view(view: View, source: Source, s: &[u8], out: &mut [u8]) -> Written
     ensures { λ r. ⌜ Called (fileCall source view (now (s .entry))) (now (out .entry)) (now (out .exit)) r ⌝ }
 {
@@ -98,6 +99,9 @@ pub fn file_view(view: View, source: Source, s: &[u8], out: &mut [u8]) -> Writte
     let checked = answer.checked;
     match checked {
         Checked::Accepted => {
+            if farms::has_limit(view) {
+                return view_calls::accepted_view(view, answer.farm, out);
+            }
             let room = answer.farm.count * views::HERD_ROOM + views::BEHIND_ROOM;
             if room <= out.len() {
                 return Written::Length(farms::put_view(out, answer.farm, view));

@@ -2,6 +2,7 @@
 -- records give is what the calls on the file give. Assumes nothing.
 use Prim.Native.Nat.{ℕ, zero, suc, _+_, _*_, _<_, _≤_}
 use mathlib.Core.Path.{_≡_, refl, sym, ap, _∙_}
+use mathlib.Core.Bool.{Bool, false}
 use mathlib.Core.List.{List, [], _∷_}
 use native.Mathlib.Omega.{arith}
 use lib.ListN.{length, getD, length-append, length-replicate, length-take}
@@ -32,9 +33,12 @@ use Rattle.written.specs.declared.Written.the-variants.{Length, Refused}
 use Rattle.written.specs.Answer.{leaves, answers, Answered}
 use Rattle.written.proofs.Answers.{written}
 use Rattle.views.specs.declared.View.{View}
-use Rattle.views.specs.Views.{viewed}
+use Rattle.views.specs.Views.{viewed, hasLimit}
 use Rattle.views.specs.Rooms.{herdViewRoom, behindRoom, viewRoom}
-use Rattle.contracts.specs.Listings.{Called, herdCall, totalsCall, fileHerdCall, fileTotalsCall, fileCall}
+use Rattle.views.proofs.FarmSteps.{has-none}
+use Rattle.contracts.specs.Listings.{Called, herdCall, totalsCall, acceptedCall}
+use Rattle.contracts.specs.Listings.{fileHerdCall, fileTotalsCall, fileCall}
+use Rattle.contracts.proofs.RecordSteps.{accepted-answered}
 
 -- what stands past the end does not matter inside a list
 inside : {A : Type 0} (l : List A) (i : ℕ) (d e : A) → i < length l → getD l i d ≡ getD l i e
@@ -115,11 +119,18 @@ module _ (source : Source) (s : List ℕ) (a : FileAnswer) (q : a ≡ readOf (li
               rw as-accepted (rw passes at (w .answer));
         }
 
-    pub is-file-view : (v : View) (old new : List ℕ) (r : Written) → Answered (viewed v (a .farm)) old new r
+    pub is-file-limited : (v : View) (old new : List ℕ) (r : Written) → Called (acceptedCall v (a .farm)) old new r
         → Called (fileCall source v s) old new r
-    unfolding fileCall
-    is-file-view v old new r w =
+    unfolding fileCall acceptedCall
+    is-file-limited v old new r w =
         record { buffer = rw as-accepted (w .buffer); answer = rw as-accepted (w .answer) }
+
+    -- a view that has no limit
+    pub is-file-view : (v : View) (b : Bool) → b ≡ hasLimit v → b ≡ false → (old new : List ℕ) (r : Written)
+        → Answered (viewed v (a .farm)) old new r → Called (fileCall source v s) old new r
+    is-file-view v b is t old new r w =
+        is-file-limited v old new r
+        (accepted-answered v (a .farm) _ refl (sym (has-none v (a .farm) b is t)) old new r w)
 
     -- straight into a buffer that has the room
     pub herds-fit : Fits w64 (a .farm .count * herdViewRoom)
@@ -128,10 +139,10 @@ module _ (source : Source) (s : List ℕ) (a : FileAnswer) (q : a ≡ readOf (li
     pub room-fits : Fits w64 (a .farm .count * herdViewRoom + behindRoom)
     room-fits = omega (arith, farm-count (a .farm) passes)
 
-    pub is-file-put : (v : View) (old new : List ℕ) (r : ℕ) → viewRoom (a .farm .count) ≤ length old
-        → Wrote old 0 (viewed v (a .farm)) new r → r ≤ viewRoom (a .farm .count)
-        → Called (fileCall source v s) old new (Length r)
-    is-file-put v old new r room w h = is-file-view v old new (Length r) (written refl w (omega arith))
+    pub is-file-put : (v : View) (b : Bool) → b ≡ hasLimit v → b ≡ false → (old new : List ℕ) (r : ℕ)
+        → viewRoom (a .farm .count) ≤ length old → Wrote old 0 (viewed v (a .farm)) new r
+        → r ≤ viewRoom (a .farm .count) → Called (fileCall source v s) old new (Length r)
+    is-file-put v b is t old new r room w h = is-file-view v b is t old new (Length r) (written refl w (omega arith))
 
   module _ (refusal : Refusal) (at-record : ℕ) (e : a .checked ≡ checks.Refused refusal at-record) (old : List ℕ) where
     pub refusing : readOf (limitsOf source) s .checked ≡ checks.Refused refusal at-record
@@ -152,4 +163,4 @@ module _ (source : Source) (s : List ℕ) (a : FileAnswer) (q : a ≡ readOf (li
 pub ruleset file-steps =
     (in-array, place-fits, is-file-herd, is-past-herds, is-file-totals, is-herd-unread, is-totals-unread)
 
-pub ruleset view-steps = (passes, herds-fit, room-fits, is-file-put, is-file-view, is-view-unread)
+pub ruleset view-steps = (passes, herds-fit, room-fits, is-file-limited, is-file-put, is-file-view, is-view-unread)

@@ -20,8 +20,8 @@ use Rattle.listing.specs.Listing.{totalsListing}
 use Rattle.listing_room.specs.Bounds.{totalsRoom}
 use Rattle.listing_room.proofs.Rooms.{totals-fit}
 use Rattle.views.specs.declared.View.{View}
-use Rattle.views.specs.Views.{herdText}
-use Rattle.contracts.specs.Listings.{Called, herdCall, totalsCall}
+use Rattle.views.specs.Views.{herdText, viewed, viewChecked}
+use Rattle.contracts.specs.Listings.{Called, herdCall, totalsCall, acceptedCall, farmCall}
 
 -- ---- what an answer is made of
 
@@ -90,6 +90,37 @@ module _ (f : Farm) (a : FarmAnswer) (q : a ≡ farmAnswer f) where
   unfolding totalsCall
   is-totals-refused old refusal at-record e = let p = checked (checks.Refused refusal at-record) e in
       record { buffer = rw p; answer = rw p }
+
+-- ---- a view of a farm: accepted, then within its limit
+
+module _ (view : View) (f : Farm) (k : Checked) (q : k ≡ viewChecked view f) where
+  pub accepted-answered : k ≡ checks.Accepted → (old new : List ℕ) (r : Written) → Answered (viewed view f) old new r
+      → Called (acceptedCall view f) old new r
+  unfolding acceptedCall
+  accepted-answered t old new r w = record { buffer = rw (← q, t) (w .buffer); answer = rw (← q, t) (w .answer) }
+
+  pub accepted-refused : (old : List ℕ) (refusal : Refusal) (at-record : ℕ) → k ≡ checks.Refused refusal at-record
+      → Called (acceptedCall view f) old old (Refused refusal at-record)
+  unfolding acceptedCall
+  accepted-refused old refusal at-record t = record { buffer = rw (← q, t); answer = rw (← q, t) }
+
+module _ (view : View) (f : Farm) (k : Checked) (q : k ≡ checkFarm f) where
+  pub farm-passes : k ≡ checks.Accepted → checkFarm f ≡ checks.Accepted
+  farm-passes t = sym q ∙ t
+
+  pub farm-viewed : k ≡ checks.Accepted → (old new : List ℕ) (r : Written) → Called (acceptedCall view f) old new r
+      → Called (farmCall view f) old new r
+  unfolding acceptedCall farmCall
+  farm-viewed t old new r w = record { buffer = rw (← q, t) (w .buffer); answer = rw (← q, t) (w .answer) }
+
+  pub farm-refused : (old : List ℕ) (refusal : Refusal) (at-record : ℕ) → k ≡ checks.Refused refusal at-record
+      → Called (farmCall view f) old old (Refused refusal at-record)
+  unfolding farmCall
+  farm-refused old refusal at-record t = record { buffer = rw (← q, t); answer = rw (← q, t) }
+
+pub ruleset accepted-steps = (accepted-answered, accepted-refused)
+
+pub ruleset farm-steps = (farm-passes, farm-viewed, farm-refused)
 
 pub ruleset herd-steps = (accepted, is-herd-view, is-herd-refused)
 

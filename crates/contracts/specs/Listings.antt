@@ -1,6 +1,7 @@
--- What a writing call says and leaves: what the checks of a record or the reading of a file refuse comes before 13. 01:
--- "13 belongs to the writing calls alone, one a herd and one for the totals." "Only then 13." "A herd call asked for a
--- herd past the last of an accepted farm has an empty listing: length 0, nothing written."
+-- What a writing call says and leaves: what the checks of a record or the reading of a file refuse comes before 13, and
+-- so does 1 where a farm's file would be too long (02, W12). 01: "13 belongs to the writing calls alone, one a herd and
+-- one for the totals." "Only then 13." "A herd call asked for a herd past the last of an accepted farm has an empty
+-- listing: length 0, nothing written."
 use Prim.Native.Nat.{ℕ}
 use mathlib.Core.Path.{_≡_}
 use mathlib.Core.List.{List, []}
@@ -22,7 +23,8 @@ use Rattle.written.specs.declared.Written.the-variants.{Refused}
 use Rattle.written.specs.Answer.{leaves, answers}
 use Rattle.listing.specs.Listing.{totalsListing}
 use Rattle.views.specs.declared.View.{View}
-use Rattle.views.specs.Views.{herdText, viewed}
+use Rattle.views.specs.Views.{herdText, viewed, viewChecked, checkedFor}
+use Rattle.views.specs.Program.{readFor}
 
 -- a call: what the checks find, and the listing where they find nothing
 pub record Call : Type 0 where
@@ -52,6 +54,13 @@ herdCall view h = record { checked = checkHerd h; listing = herdText view h }
 unfoldable pub totalsCall : Farm → Call
 totalsCall f = record { checked = checkFarm f; listing = totalsListing (farmAnswer f .totals) }
 
+-- what the view lists of a farm that the checks accept, and of any
+unfoldable pub acceptedCall : View → Farm → Call
+acceptedCall view f = record { checked = viewChecked view f; listing = viewed view f }
+
+unfoldable pub farmCall : View → Farm → Call
+farmCall view f = record { checked = checkedFor view (checkFarm f) f; listing = viewed view f }
+
 -- ---- from a file, by where it comes from
 
 -- of a farm's herd, counted from 0
@@ -71,4 +80,5 @@ fileTotalsCall source s = readCall source (λ f. totalsListing (farmAnswer f .to
 
 -- a whole file: what the view lists of its farm
 unfoldable pub fileCall : Source → View → List ℕ → Call
-fileCall source view s = readCall source (viewed view) s
+fileCall source view s =
+    record { checked = readFor source view s; listing = viewed view (readOf (limitsOf source) s .farm) }

@@ -3,7 +3,7 @@
 use Prim.Native.Nat.{ℕ, zero, suc, _+_, _-_, _*_, _/_, _%_, _≤_}
 use mathlib.Core.Path.{_≡_, refl}
 use mathlib.Core.List.{List, [], _∷_, _++_, map}
-use native.Mathlib.Nat.{min-le-left}
+use native.Mathlib.Nat.{le-trans, min-le-left}
 use native.Mathlib.Omega.{arith}
 use lib.Dec.{lit≤}
 use lib.IntN.{negsuc}
@@ -28,9 +28,9 @@ use Rattle.farm.specs.Herds.{noHerd}
 use Rattle.farm.specs.Labels.{byteOk, text, labelOk, sameLabel, labelOf}
 use Rattle.fits.specs.Fits.{unfit}
 use Rattle.herd_tests.specs.Tests.{lacks}
-use Rattle.checks.specs.Checks.{herdsOf, checkFarm}
+use Rattle.checks.specs.Checks.{herdsOf, checkHerd, checkFarm}
 use Rattle.checks.specs.Accepts.{Passes, GoodHerd}
-use Rattle.checks.proofs.Accepts.{accepted-farm}
+use Rattle.checks.proofs.Accepts.{accepted-herd, accepted-farm}
 use Rattle.line_parts.specs.Bounds.{longestField}
 use Rattle.line_parts.specs.Fields.{hasComma, labelField, each}
 use Rattle.line_parts.proofs.Lengths.{sumOf, label-short, field-length}
@@ -86,6 +86,10 @@ unfolding herdFile
 herd-most h g =
     inputs-most (text (h .label))
     (omega (arith, field-length (text (h .label)), label-short (h .label) (g .label))) (g .inputs)
+
+-- and so as no more than the longest of any kind
+pub herd-fits : (h : Herd) → checkHerd h ≡ Accepted → length (herdFile h) ≤ longest
+herd-fits h e = le-trans (herd-most h (accepted-herd h e)) (most-of-all (h .kind))
 
 -- ---- a farm
 

@@ -55,7 +55,7 @@ use Rattle.written.specs.declared.Written.the-variants.{Length, Refused}
 use Rattle.written.specs.Answer.{leaves, answers, saysOf}
 use Rattle.views.specs.declared.View.{View}
 use Rattle.views.specs.declared.Output.{Output}
-use Rattle.views.specs.Program.{endedOf, PutOutput}
+use Rattle.views.specs.Program.{readFor, endedOf, PutOutput}
 use Rattle.contracts.specs.Listings.{Call, Called, left, answerOf}
 use Rattle.contracts.proofs.RecordSteps.{herd-checked, farm-checked}
 
@@ -177,10 +177,10 @@ pub record SameOutput (new new′ : List ℕ) (a a′ : Output) : Type 0 where
 
 pub one-output : {source : Source} {view : View} {s old new new′ : List ℕ} {a a′ : Output}
     → PutOutput source view s old new a → PutOutput source view s old new′ a′ → SameOutput new new′ a a′
-one-output {source} {s = s} w v =
+one-output {source} {view} {s} w v =
     let same = w .bytes .past ∙ sym (v .bytes .past) in
     record {
       bytes = w .bytes .bytes ∙ sym (v .bytes .bytes);
       length = same;
-      ended = w .ended ∙ ap (endedOf (readOf (limitsOf source) s .checked)) same ∙ sym (v .ended);
+      ended = w .ended ∙ ap (endedOf (readFor source view s)) same ∙ sym (v .ended);
     }

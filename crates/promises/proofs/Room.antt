@@ -15,8 +15,9 @@ use lib.IntN.{ℤ, pos, natAbs}
 use Rattle.base.specs.Pick.{pick}
 use Rattle.base.specs.Text.{bytes}
 use Rattle.base.specs.Part.{sameBytes}
+use Rattle.base.proofs.Clash.{clash}
 use Rattle.base.proofs.Each.{each-map}
-use Rattle.decimal.specs.Writing.{width}
+use Rattle.decimal.specs.Writing.{width, wholeOf}
 use Rattle.kilogram_text.specs.Kilograms.{kilogramsOf}
 use Rattle.decimal.proofs.Widths.{whole-length, width-small, width-step}
 use Rattle.kilogram_text.proofs.Lengths.{thousandths-length, kilograms-length}
@@ -25,7 +26,8 @@ use Rattle.farm.specs.declared.Given.the-variants.{Value, Signed}
 use Rattle.farm.specs.declared.Slot.{Slot}
 use Rattle.farm.specs.declared.Herd.{Herd}
 use Rattle.farm.specs.declared.Farm.{Farm}
-use Rattle.farm.specs.declared.Checked.the-variants.{Accepted}
+use Rattle.farm.specs.declared.Refusal.the-variants.{FileTooLong}
+use Rattle.farm.specs.declared.Checked.the-variants.{Accepted, Refused}
 use Rattle.farm.specs.Herds.{noSlot}
 use Rattle.farm.specs.Labels.{text, byteOk, labelOk, sameLabel, labelOf}
 use Rattle.herd_tests.specs.Tests.{lacks}
@@ -35,7 +37,7 @@ use Rattle.checks.proofs.Accepts.{farm-each}
 use Rattle.limits.specs.declared.Source.{Source}
 use Rattle.limits.specs.declared.Source.the-variants.{StandardInput}
 use Rattle.limits.specs.declared.Limits.{Limits}
-use Rattle.limits.specs.Limits.{inputHerds}
+use Rattle.limits.specs.Limits.{inputHerds, cooperativeBytes}
 use Rattle.rules_theorems.specs.Rules.{allowed, farmOf, KeepsRules}
 use Rattle.rules_theorems.proofs.Allowed.{as-allowed}
 use Rattle.rules_theorems.proofs.Accepts.{accepts-exactly}
@@ -54,6 +56,11 @@ use Rattle.listing.specs.Listing.{moduleOf, herdLine, herdLines}
 use Rattle.listing.specs.Listing.{totalPath, totalLine, totalsListing}
 use Rattle.listing_room.proofs.Lengths.{line-length, each-fills}
 use Rattle.listing_room.proofs.Rooms.{all-fit, herds-counted}
+use Rattle.refusal_line.specs.Lines.{refusalLine}
+use Rattle.refusal_line.specs.Rooms.{lineRoom}
+use Rattle.file_text.specs.Files.{herdFile}
+use Rattle.file_room.proofs.Lengths.{longest, herd-fits}
+use Rattle.file_length.specs.Limit.{fileChecked}
 use Rattle.lines_figures.specs.Lines.{listingOf, farmListing}
 use Rattle.lines_figures.proofs.Fits.{farm-fits}
 use Rattle.lines_notes.specs.Records.{herdNotes}
@@ -67,11 +74,12 @@ use Rattle.lines_reasons.specs.Lines.{herdWhy}
 use Rattle.lines_reasons.specs.Rooms.{longestLine}
 use Rattle.lines_reasons.proofs.Fits.{why-fits}
 use Rattle.views.specs.declared.View.{View}
-use Rattle.views.specs.declared.View.the-variants.{Figures, Notes, Cuts, Reasons, Sentences}
-use Rattle.views.specs.Views.{herdText, viewed}
+use Rattle.views.specs.declared.View.the-variants.{Figures, Notes, Cuts, Reasons, Sentences, File}
+use Rattle.views.specs.Views.{herdText, viewed, hasLimit, viewChecked}
 use Rattle.views.specs.Rooms.{viewRoom, outputRoom}
-use Rattle.views.specs.Program.{outputOf}
+use Rattle.views.specs.Program.{printed, outputOf}
 use Rattle.views.proofs.FileSteps.{room-of}
+use Rattle.views.proofs.OutputSteps.{line-within}
 use Rattle.promises.proofs.Commands.{prints-listed}
 
 -- ---- enough: for every view of an accepted farm
@@ -89,6 +97,18 @@ view-fits Notes f e = omega (arith, herds-fit herdNotes longestRecord notes-fit 
 view-fits Cuts f e = omega (arith, herds-fit herdCutLines longestCuts cuts-fit f e)
 view-fits Reasons f e = omega (arith, herds-fit (herdWhy Record) longestLine (why-fits Record) f e)
 view-fits Sentences f e = omega (arith, herds-fit (herdWhy Sentence) longestLine (why-fits Sentence) f e)
+view-fits File f e = omega (arith, herds-fit herdFile longest herd-fits f e)
+
+-- and for the line of the refusal that a view gives
+limited-fits : (v : View) (f : Farm) (room : ℕ) → length (viewed v f) ≤ room → lineRoom ≤ room
+    → length (printed v (viewChecked v f) f) ≤ room
+unfolding viewChecked fileChecked refusalLine wholeOf width
+limited-fits v f room a b = go (hasLimit v) (ltb cooperativeBytes (length (viewed v f)))
+  where
+    go : (t u : Bool) → length (printed v (pick t (pick u (Refused FileTooLong 0) Accepted) Accepted) f) ≤ room
+    go true true = omega (arith, b)
+    go true false = a
+    go false u = a
 
 -- and so of what a command prints for a file that keeps the rules
 module _ (source : Source) (s : List ℕ) (f : Farm) (keeps : KeepsRules (allowed source) s f) where
@@ -99,15 +119,16 @@ module _ (source : Source) (s : List ℕ) (f : Farm) (keeps : KeepsRules (allowe
   few = omega (arith, ap (λ (g : Farm). g .count) (keeps .says .is), keeps .says .most)
 
   pub views-have-room : (v : View) → length (outputOf source v s) ≤ outputRoom source
+  unfolding outputOf
   views-have-room v =
       let most = ap (λ (l : Limits). l .herds) (as-allowed source) in
-      rw (prints-listed source v s f keeps)
-      (le-trans (view-fits v f passes) (room-of source (f .count) (omega (arith, few, most))))
+      let fits = le-trans (view-fits v f passes) (room-of source (f .count) (omega (arith, few, most))) in
+      rw (accepts-exactly source s f .1 keeps) (limited-fits v f (outputRoom source) fits (line-within source))
 
   pub notes-have-room : length (outputOf source Notes s) ≤ longestRecord * allowed source .herds
   unfolding viewed herdText
   notes-have-room =
-      rw (prints-listed source Notes s f keeps)
+      rw (prints-listed source Notes s f keeps (λ e. clash cc))
       (le-trans (herds-fit herdNotes longestRecord notes-fit f passes) (mul-le-mul-left longestRecord few))
 
 -- ---- nearly used up, of standard input

@@ -1,7 +1,7 @@
--- A farm put together herd by herd, in any view: what is still to be written is the texts of the herds from i on.
--- Assumes nothing.
+-- A farm put together herd by herd, in any view: what is still to be written is the texts of the herds from i on. And
+-- what a view with a limit is refused with. Assumes nothing.
 use Prim.Native.Nat.{ℕ, _+_, _*_, _≤_, _<_}
-use mathlib.Core.Path.{_≡_, refl, sym, _∙_}
+use mathlib.Core.Path.{_≡_, refl, sym, ap, _∙_}
 use mathlib.Core.Bool.{Bool, true, false}
 use mathlib.Core.List.{List}
 use native.Mathlib.Omega.{arith}
@@ -15,17 +15,23 @@ use Rattle.base.proofs.ToCome.{ToCome, begun}
 use Rattle.farm.specs.Limits.{herdsMost}
 use Rattle.farm.specs.declared.Herd.{Herd}
 use Rattle.farm.specs.declared.Farm.{Farm}
-use Rattle.farm.specs.declared.Checked.the-variants.{Accepted}
+use Rattle.farm.specs.declared.Refusal.{Refusal}
+use Rattle.farm.specs.declared.Checked.{Checked}
+use Rattle.farm.specs.declared.Checked.the-variants.{Accepted, Refused}
 use Rattle.farm.proofs.Left.{taken-at, taken-end}
 use Rattle.checks.specs.Checks.{checkHerd, checkFarm, herdsOf}
 use Rattle.checks.proofs.Accepts.{farm-count, farm-each}
 use Rattle.line_parts.specs.Fields.{each}
 use Rattle.line_parts.proofs.OneByOne.{entry-put, all-entries-put}
+use Rattle.written.specs.declared.Written.the-variants as writes
 use Rattle.lines_figures.specs.Lines.{farmListing}
 use Rattle.views.specs.declared.View.{View}
-use Rattle.views.specs.declared.View.the-variants.{Figures, Notes, Cuts, Reasons, Sentences}
-use Rattle.views.specs.Views.{herdText, viewed, isFigures}
+use Rattle.views.specs.declared.View.the-variants.{Figures, Notes, Cuts, Reasons, Sentences, File}
+use Rattle.file_text.specs.Files.{fileOf}
+use Rattle.file_length.specs.Limit.{fileChecked}
+use Rattle.views.specs.Views.{herdText, viewed, hasLimit, viewChecked, isFigures}
 use Rattle.views.specs.Rooms.{herdViewRoom}
+use Rattle.views.specs.Program.{Put, listed, refused}
 
 -- the herds of a farm that the checks accept are accepted
 pub passes : (f : Farm) → checkFarm f ≡ Accepted → length (f .herds) ≡ herdsMost → (i : ℕ) → i < f .count → (d : Herd)
@@ -80,6 +86,7 @@ by-herds Notes f e = refl
 by-herds Cuts f e = refl
 by-herds Reasons f e = refl
 by-herds Sentences f e = refl
+by-herds File f e = refl
 
 by-figures : (v : View) (f : Farm) → isFigures v ≡ true → farmListing f ≡ viewed v f
 unfolding viewed
@@ -88,6 +95,7 @@ by-figures Notes f e = clash cc
 by-figures Cuts f e = clash cc
 by-figures Reasons f e = clash cc
 by-figures Sentences f e = clash cc
+by-figures File f e = clash cc
 
 module _ (v : View) (f : Farm) (b : Bool) (q : b ≡ isFigures v) (old new : List ℕ) (r : ℕ) where
   pub as-figures : b ≡ true → Wrote old 0 (farmListing f) new r → Wrote old 0 (viewed v f) new r
@@ -97,3 +105,36 @@ module _ (v : View) (f : Farm) (b : Bool) (q : b ≡ isFigures v) (old new : Lis
   as-herds t w = wrote-as (by-herds v f (sym q ∙ t)) w
 
 pub ruleset view-steps = (as-figures, as-herds)
+
+-- ---- the limit of a view
+
+by-file : (v : View) (f : Farm) → hasLimit v ≡ true → fileOf (herdsOf f) ≡ viewed v f
+unfolding viewed herdText fileOf
+by-file Figures f e = clash cc
+by-file Notes f e = clash cc
+by-file Cuts f e = clash cc
+by-file Reasons f e = clash cc
+by-file Sentences f e = clash cc
+by-file File f e = refl
+
+module _ (v : View) (f : Farm) (b : Bool) (q : b ≡ hasLimit v) where
+  pub is-limited : b ≡ true → (k : Checked) → k ≡ fileChecked (fileOf (herdsOf f)) → k ≡ viewChecked v f
+  unfolding viewChecked
+  is-limited t k e = e ∙ rw (← q, t) (ap fileChecked (by-file v f (sym q ∙ t)))
+
+  pub has-none : b ≡ false → Accepted ≡ viewChecked v f
+  unfolding viewChecked
+  has-none t = rw (← q, t)
+
+pub ruleset limit-steps = (is-limited, has-none)
+
+module _ (v : View) (f : Farm) (k : Checked) (q : k ≡ viewChecked v f) where
+  pub is-put : k ≡ Accepted → (room : ℕ) (old new : List ℕ) (n : ℕ) → Wrote old 0 (viewed v f) new n → n ≤ room
+      → Put room (viewChecked v f) (viewed v f) old new (writes.Length n)
+  is-put e room old new n w h = listed (sym q ∙ e) w h
+
+  pub is-not : (room : ℕ) (old : List ℕ) (refusal : Refusal) (n : ℕ) → k ≡ Refused refusal n
+      → Put room (viewChecked v f) (viewed v f) old old (writes.Refused refusal n)
+  is-not room old refusal n e = refused (sym q ∙ e)
+
+pub ruleset put-steps = (is-put, is-not)

@@ -2,6 +2,7 @@
 -- herds than its source allows. Assumes nothing.
 use Prim.Native.Nat.{ℕ, _≤_}
 use mathlib.Core.Path.{_≡_, sym, ap, _∙_}
+use mathlib.Core.Bool.{Bool, false}
 use mathlib.Core.List.{List}
 use native.Mathlib.Nat.{le-trans}
 use native.Mathlib.Omega.{arith}
@@ -21,11 +22,13 @@ use Rattle.reader.specs.Files.{readOf, accepted}
 use Rattle.rules_theorems.proofs.Allowed.{as-allowed}
 use Rattle.rules_theorems.proofs.Accepts.{accepts-exactly}
 use Rattle.rules_theorems.proofs.Passing.{accepted-passes}
+use Rattle.written.specs.declared.Written.{Written}
 use Rattle.written.specs.declared.Written.the-variants.{Length, Refused}
 use Rattle.views.specs.declared.View.{View}
-use Rattle.views.specs.Views.{viewed}
+use Rattle.views.specs.Views.{viewed, hasLimit, viewChecked, checkedFor}
 use Rattle.views.specs.Rooms.{viewRoom, outputRoom}
-use Rattle.views.specs.Program.{PutFile, listed, refused}
+use Rattle.views.specs.Program.{Put, PutFile, listed, refused}
+use Rattle.views.proofs.FarmSteps.{has-none}
 
 -- a source has room for as many herds as it allows
 pub room-of : (source : Source) (herds : ℕ) → herds ≤ limitsOf source .herds → viewRoom herds ≤ outputRoom source
@@ -54,13 +57,29 @@ module _ (source : Source) (s : List ℕ) (a : FileAnswer) (q : a ≡ readOf (li
     pub has-room : (room : ℕ) → outputRoom source ≤ room → viewRoom (a .farm .count) ≤ room
     has-room room h = le-trans within h
 
-    pub is-listed : (v : View) (old new : List ℕ) (n : ℕ) → Wrote old 0 (viewed v (a .farm)) new n
-        → n ≤ viewRoom (a .farm .count) → PutFile source v s old new (Length n)
-    is-listed v old new n w h =
-        listed (sym (ap (λ x. x .checked) q) ∙ e) (wrote-as (ap (λ x. viewed v (x .farm)) q) w) (le-trans h within)
+    is-text : (v : View) → viewed v (a .farm) ≡ viewed v (readOf (limitsOf source) s .farm)
+    is-text v = ap (λ x. viewed v (x .farm)) q
+
+    found : (v : View) {k : Checked} → viewChecked v (a .farm) ≡ k
+        → checkedFor v (readOf (limitsOf source) s .checked) (readOf (limitsOf source) s .farm) ≡ k
+    found v h = rw as-accepted h
+
+    pub is-limited : (v : View) (old new : List ℕ) (r : Written)
+        → Put (viewRoom (a .farm .count)) (viewChecked v (a .farm)) (viewed v (a .farm)) old new r
+        → PutFile source v s old new r
+    is-limited v old new (Length n) (listed k w h) = listed (found v k) (wrote-as (is-text v) w) (le-trans h within)
+    is-limited v old new (Refused refusal n) (refused k) = refused (found v k)
+
+    pub is-listed : (v : View) (b : Bool) → b ≡ hasLimit v → b ≡ false → (old new : List ℕ) (n : ℕ)
+        → Wrote old 0 (viewed v (a .farm)) new n → n ≤ viewRoom (a .farm .count) → PutFile source v s old new (Length n)
+    is-listed v b is t old new n w h =
+        listed (found v (sym (has-none v (a .farm) b is t))) (wrote-as (is-text v) w) (le-trans h within)
 
   pub is-refused : (v : View) (refusal : Refusal) (n : ℕ) (old : List ℕ) → a .checked ≡ checks.Refused refusal n
       → PutFile source v s old old (Refused refusal n)
-  is-refused v refusal n old e = refused (sym (ap (λ x. x .checked) q) ∙ e)
+  is-refused v refusal n old e =
+      let k : checkedFor v (readOf (limitsOf source) s .checked) (readOf (limitsOf source) s .farm)
+      ≡ checks.Refused refusal n = rw (sym (ap (λ x. x .checked) q) ∙ e) in
+      refused k
 
-pub ruleset file-steps = (passes, has-room, is-listed, is-refused)
+pub ruleset file-steps = (passes, has-room, is-limited, is-listed, is-refused)

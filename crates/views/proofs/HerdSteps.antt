@@ -3,8 +3,11 @@ use native.Mathlib.Omega.{arith}
 use Prim.Native.Nat.{ℕ, _+_, _≤_}
 use mathlib.Core.Path.{_≡_}
 use mathlib.Core.List.{List}
+use lib.ListN.{length}
 use Rattle.base.specs.Wrote.{Wrote}
 use Rattle.farm.specs.declared.Herd.{Herd}
+use Rattle.farm.specs.declared.Checked.the-variants.{Accepted}
+use Rattle.checks.specs.Checks.{checkHerd}
 use Rattle.listing_room.specs.Bounds.{herdRoom}
 use Rattle.lines_figures.specs.Lines.{listingOf}
 use Rattle.lines_notes.specs.Records.{herdNotes}
@@ -14,8 +17,10 @@ use Rattle.lines_cuts.specs.Rooms.{longestCuts}
 use Rattle.lines_reasons.specs.declared.Wording.the-variants.{Record, Sentence}
 use Rattle.lines_reasons.specs.Lines.{herdWhy}
 use Rattle.lines_reasons.specs.Rooms.{longestLine}
+use Rattle.file_text.specs.Files.{herdFile}
+use Rattle.file_room.proofs.Lengths.{herd-fits}
 use Rattle.views.specs.declared.View.{View}
-use Rattle.views.specs.declared.View.the-variants.{Figures, Notes, Cuts, Reasons, Sentences}
+use Rattle.views.specs.declared.View.the-variants.{Figures, Notes, Cuts, Reasons, Sentences, File}
 use Rattle.views.specs.Views.{herdText}
 use Rattle.views.specs.Rooms.{herdViewRoom}
 
@@ -40,6 +45,10 @@ module _ (v : View) (h : Herd) (old new : List ℕ) (at r : ℕ) where
   unfolding herdText
   sentences-put e w = rw e w
 
+  pub file-put : v ≡ File → Wrote old at (herdFile h) new r → Wrote old at (herdText v h) new r
+  unfolding herdText
+  file-put e w = rw e w
+
 module _ (at r : ℕ) where
   pub figures-within : r ≤ at + herdRoom → r ≤ at + herdViewRoom
   figures-within b = omega (arith, b)
@@ -53,6 +62,13 @@ module _ (at r : ℕ) where
   pub why-within : r ≤ at + longestLine → r ≤ at + herdViewRoom
   why-within b = omega (arith, b)
 
+module _ (h : Herd) (e : checkHerd h ≡ Accepted) (at : ℕ) where
+  pub file-room : (out : List ℕ) → at + herdViewRoom ≤ length out → at + length (herdFile h) ≤ length out
+  file-room out b = omega (arith, b, herd-fits h e)
+
+  pub file-within : (old new : List ℕ) (r : ℕ) → Wrote old at (herdFile h) new r → r ≤ at + herdViewRoom
+  file-within old new r w = omega (arith, w .past, herd-fits h e)
+
 pub ruleset figures-steps = (figures-put, figures-within)
 
 pub ruleset notes-steps = (notes-put, notes-within)
@@ -60,3 +76,5 @@ pub ruleset notes-steps = (notes-put, notes-within)
 pub ruleset cuts-steps = (cuts-put, cuts-within)
 
 pub ruleset why-steps = (reasons-put, sentences-put, why-within)
+
+pub ruleset file-steps = (file-put, file-room, file-within)

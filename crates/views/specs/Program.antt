@@ -21,28 +21,35 @@ use Rattle.refusal_line.specs.Lines.{refusalLine}
 use Rattle.views.specs.declared.View.{View}
 use Rattle.views.specs.declared.View.the-variants.{Figures}
 use Rattle.views.specs.declared.Output.{Output}
-use Rattle.views.specs.Views.{viewed}
+use Rattle.views.specs.Views.{viewed, checkedFor}
 use Rattle.views.specs.Rooms.{outputRoom}
 
 abbrev pub printed : View → Checked → Farm → List ℕ
 printed view checks.Accepted f = viewed view f
 printed view (checks.Refused refusal record′) f = refusalLine (number refusal) record′
 
+-- what a file is refused with in this view
+abbrev pub readFor : Source → View → List ℕ → Checked
+readFor source view s = checkedFor view (readOf (limitsOf source) s .checked) (readOf (limitsOf source) s .farm)
+
 unfoldable pub outputOf : Source → View → List ℕ → List ℕ
-outputOf source view s = printed view (readOf (limitsOf source) s .checked) (readOf (limitsOf source) s .farm)
+outputOf source view s = printed view (readFor source view s) (readOf (limitsOf source) s .farm)
 
 -- "from standard input", "each herd, then the totals"
 abbrev pub programOutput : List ℕ → List ℕ
 programOutput s = outputOf StandardInput Figures s
 
--- ---- how the code says that a file is listed or refused; no reader has to believe it
+-- ---- how the code says that a farm, or a file, is listed or refused; no reader has to believe it
 
-pub data PutFile (source : Source) (view : View) (s old : List ℕ) : List ℕ → Written → Type 0 where
-  listed : {new : List ℕ} {n : ℕ} → readOf (limitsOf source) s .checked ≡ checks.Accepted
-      → Wrote old 0 (viewed view (readOf (limitsOf source) s .farm)) new n
-      → n ≤ outputRoom source → PutFile source view s old new (Length n)
-  refused : {refusal : Refusal} {n : ℕ} → readOf (limitsOf source) s .checked ≡ checks.Refused refusal n
-      → PutFile source view s old old (Refused refusal n)
+pub data Put (room : ℕ) (found : Checked) (text old : List ℕ) : List ℕ → Written → Type 0 where
+  listed : {new : List ℕ} {n : ℕ} → found ≡ checks.Accepted → Wrote old 0 text new n → n ≤ room
+      → Put room found text old new (Length n)
+  refused : {refusal : Refusal} {n : ℕ} → found ≡ checks.Refused refusal n
+      → Put room found text old old (Refused refusal n)
+
+abbrev pub PutFile : Source → View → List ℕ → List ℕ → List ℕ → Written → Type 0
+PutFile source view s old new r =
+    Put (outputRoom source) (readFor source view s) (viewed view (readOf (limitsOf source) s .farm)) old new r
 
 -- ---- what the program prints was put from the front of the buffer on, and how reading ended is told
 
@@ -53,4 +60,4 @@ endedOf (checks.Refused refusal record′) n = Refused refusal record′
 pub record PutOutput (source : Source) (view : View) (s old new : List ℕ) (r : Output) : Type 0 where
   pub bytes : Wrote old 0 (outputOf source view s) new (r .length)
   pub room : r .length ≤ outputRoom source
-  pub ended : r .ended ≡ endedOf (readOf (limitsOf source) s .checked) (r .length)
+  pub ended : r .ended ≡ endedOf (readFor source view s) (r .length)

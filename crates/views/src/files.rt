@@ -17,7 +17,12 @@ pub fn put_file(source: Source, s: &[u8], out: &mut [u8], view: View) -> Written
     let answer = farm_file::read(source, s);
     let checked = answer.checked;
     match checked {
-        Checked::Accepted => Written::Length(farms::put_view(out, answer.farm, view)),
+        Checked::Accepted => {
+            if farms::has_limit(view) {
+                return farms::put_limited(out, answer.farm, view);
+            }
+            Written::Length(farms::put_view(out, answer.farm, view))
+        }
         Checked::Refused(refusal, record) => Written::Refused(refusal, record),
     }
 }

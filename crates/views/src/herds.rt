@@ -24,6 +24,7 @@ pub fn put_herd(out: &mut [u8], at: usize, h: Herd, view: View) -> usize
         View::Cuts => lines_cuts::put_herd(out, at, h),
         View::Reasons => lines_reasons::put_herd(out, at, h, Wording::Record),
         View::Sentences => lines_reasons::put_herd(out, at, h, Wording::Sentence),
+        View::File => file_text::put_herd(out, at, h),
     }
 }
 

@@ -8,13 +8,15 @@ pub mod program; // what the program prints for a file
 
 use written::Written;
 
-// The figures; the notes; what each division cut off; why each yard has its share, in records or in sentences.
+// The figures; the notes; what each division cut off; why each yard has its share, in records or in sentences; the
+// farm file that says the herds.
 pub enum View {
     Figures,
     Notes,
     Cuts,
     Reasons,
     Sentences,
+    File,
 }
 
 // What the program prints for a file: how the call ended, and how many bytes are to be printed.

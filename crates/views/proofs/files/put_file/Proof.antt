@@ -10,11 +10,11 @@ read-requires c κs = search (needs, file-steps)
 enum-told : tie.Need-enum-told
 enum-told c = search (needs, file-steps)
 
-put-view-requires : tie.Need-put-view-requires
-put-view-requires c κs = search (needs, file-steps)
+has-limit-requires : tie.Need-has-limit-requires
+has-limit-requires c κs = search (needs, file-steps)
 
-enum-known-checked : tie.Need-enum-known-checked
-enum-known-checked c = search (needs, file-steps)
+put-limited-requires : tie.Need-put-limited-requires
+put-limited-requires c κs = search (needs, file-steps)
 
 same-length : tie.Need-same-length
 same-length c = search (needs, file-steps)
@@ -22,8 +22,20 @@ same-length c = search (needs, file-steps)
 returns : tie.Need-returns
 returns c = search (needs, file-steps)
 
+put-view-requires : tie.Need-put-view-requires
+put-view-requires c κs = search (needs, file-steps)
+
+enum-known-checked : tie.Need-enum-known-checked
+enum-known-checked c = search (needs, file-steps)
+
+same-length-2 : tie.Need-same-length-2
+same-length-2 c = search (needs, file-steps)
+
 returns-2 : tie.Need-returns-2
 returns-2 c = search (needs, file-steps)
+
+returns-3 : tie.Need-returns-3
+returns-3 c = search (needs, file-steps)
 
 pub put-file-spec : {M : Type 1} → statement M
 put-file-spec =
@@ -31,8 +43,12 @@ put-file-spec =
     (tie.spec
     read-requires
     enum-told
-    put-view-requires
-    enum-known-checked
+    has-limit-requires
+    put-limited-requires
     same-length
     returns
-    returns-2)
+    put-view-requires
+    enum-known-checked
+    same-length-2
+    returns-2
+    returns-3)

@@ -1,5 +1,5 @@
 -- `views::herds::put_herd` meets its contract, view by view. Assumes nothing.
-use Rattle.views.proofs.HerdSteps.{figures-steps, notes-steps, cuts-steps, why-steps}
+use Rattle.views.proofs.HerdSteps.{figures-steps, notes-steps, cuts-steps, why-steps, file-steps}
 use borrow.Author.Needs.{needs}
 use Rattle.views.proofs.herds.put_herd.Statement.{statement}
 use Rattle.views.proofs.herds.put_herd.Tie as tie
@@ -34,6 +34,12 @@ enum-told-5 c = search needs
 put-herd-requires-5 : tie.Need-put-herd-requires-5
 put-herd-requires-5 c κs = search needs
 
+enum-told-6 : tie.Need-enum-told-6
+enum-told-6 c = search needs
+
+put-herd-requires-6 : tie.Need-put-herd-requires-6
+put-herd-requires-6 c κs = search (needs, file-steps)
+
 same-length : tie.Need-same-length
 same-length c = search needs
 
@@ -64,6 +70,12 @@ same-length-5 c = search needs
 returns-5 : tie.Need-returns-5
 returns-5 c = search (needs, why-steps)
 
+same-length-6 : tie.Need-same-length-6
+same-length-6 c = search needs
+
+returns-6 : tie.Need-returns-6
+returns-6 c = search (needs, file-steps)
+
 pub put-herd-spec : {M : Type 1} → statement M
 put-herd-spec =
     tie.close
@@ -78,6 +90,8 @@ put-herd-spec =
     put-herd-requires-4
     enum-told-5
     put-herd-requires-5
+    enum-told-6
+    put-herd-requires-6
     same-length
     returns
     same-length-2
@@ -87,4 +101,6 @@ put-herd-spec =
     same-length-4
     returns-4
     same-length-5
-    returns-5)
+    returns-5
+    same-length-6
+    returns-6)
