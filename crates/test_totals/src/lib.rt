@@ -3,10 +3,12 @@
 use farm::HERDS_MOST;
 use farm::Herd;
 use model::FarmAnswer;
+use views::View;
 use written::Written;
 ghost use mathlib.Core.Path.{_≡_};
 ghost use Rattle.contracts.specs.Listings.{Called};
 ghost use Rattle.farm_calls.specs.Totals.{totalsIn, listingIn};
+ghost use Rattle.lent_view.specs.Views.{viewIn};
 
 // An array that is shorter than any farm may be.
 pub const FEW: usize = 3;
@@ -27,4 +29,10 @@ pub fn listing_through(herds: [Herd; HERDS_MOST], count: usize, out: &mut [u8]) 
     ensures { λ r. ⌜ Called (listingIn herds count) (now (out .entry)) (now (out .exit)) r ⌝ }
 {
     farm_calls::totals_listing(&herds, count, out)
+}
+
+pub fn view_through(view: View, herds: [Herd; HERDS_MOST], count: usize, out: &mut [u8]) -> Written
+    ensures { λ r. ⌜ Called (viewIn view herds count) (now (out .entry)) (now (out .exit)) r ⌝ }
+{
+    lent_view::farm_view(view, &herds, count, out)
 }
