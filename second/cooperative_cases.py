@@ -8,6 +8,7 @@ import itertools
 
 import cases
 import damage
+from farmfile import RECORD_END
 from farms import FarmDice, file_of, line_for, text_for, written
 from faults import breaking_end
 from inputs import KINDS, ROUGHAGE, Number
@@ -70,6 +71,28 @@ def at_both_limits(dice):
     yield file_of(shortest_herds(COOPERATIVE.herds + 1))
 
 
+# One number of each length, in its shortest form.
+BY_LENGTH = ("9", "19", "199", "19.9", "19.99", "19.999", "199.999")
+
+
+def clean_file(size):
+    """512 herds as they are written (request W5), in exactly so many bytes: numbers get longer until it is full."""
+    texts = ("wapiti", "7", BY_LENGTH[0], "18", "6", "5", "3")
+    lines = [line for i in range(COOPERATIVE.herds) for line in cases.lines_of(ROUGHAGE, f"{i:012}", texts)]
+    missing = size - len(file_of(lines))
+    for line in lines:
+        if line.name == "inp_n_excretion":
+            more = min(missing, len(BY_LENGTH) - 1)
+            line.text, missing = BY_LENGTH[more], missing - more
+    return file_of(lines)
+
+
+def without_last_end():
+    """Files that lack the last CRLF, so that what is written of them comes to the limit, or a byte or two past it."""
+    for size in range(COOPERATIVE.bytes, COOPERATIVE.bytes + 3):
+        yield clean_file(size).removesuffix(RECORD_END.encode())
+
+
 def past_the_last_herd(dice):
     for herds in (COOPERATIVE.herds, COOPERATIVE.herds + 1):
         yield written(dice, damage.short_herds(dice, herds))
@@ -127,6 +150,7 @@ def every_case():
         near_labels(),
         faults_after_many_herds(dice),
         like_any_other(dice),
+        without_last_end(),
     ):
         yield COOPERATIVE, file
     for file in by_either(dice):

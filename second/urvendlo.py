@@ -2,7 +2,7 @@
 """The program: a farm file on standard input, what a command prints for it on standard output.
 
     urvendlo.py [COMMAND]                     COMMAND is figures, which is also done without one, notes, cuts, why,
-                                              why --words, or line GRAMS
+                                              why --words, write, or line GRAMS
     urvendlo.py [COMMAND] --cooperative FILE  the same of a cooperative's file, which may be longer and have more herds
 """
 
@@ -18,6 +18,7 @@ from model import figures, notes
 from reading import COOPERATIVE, STANDARD_INPUT, Refused, read_farm
 from totals import totals
 from why import why
+from write import farm_file
 
 
 def figures_of(herds):
@@ -42,14 +43,19 @@ def why_in_words_of(herds):
     return "".join(herd_why_in_words(herd, why(herd)) for herd in herds)
 
 
+def file_of(herds):
+    return farm_file(herds, COOPERATIVE).decode("ascii")
+
+
 FIGURES, NOTES, CUTS_OFF, WHY, WHY_WORDS = "figures", "notes", "cuts", "why", "why --words"
-LINE = "line"
+WRITE, LINE = "write", "line"
 COMMANDS = {
     FIGURES: figures_of,
     NOTES: notes_of,
     CUTS_OFF: cuts_of,
     WHY: why_of,
     WHY_WORDS: why_in_words_of,
+    WRITE: file_of,
 }
 OF_A_COOPERATIVE = "--cooperative"
 
@@ -67,10 +73,9 @@ def printed_by(command, herds):
 def answer(file, command=FIGURES, limits=STANDARD_INPUT):
     """Give the bytes that a command prints for a farm file's bytes."""
     try:
-        herds = read_farm(file, limits)
+        return printed_by(command, read_farm(file, limits)).encode("ascii")
     except Refused as refused:
         return refusal(refused.number, refused.record).encode("ascii")
-    return printed_by(command, herds).encode("ascii")
 
 
 def main(words):

@@ -1,6 +1,6 @@
-// The vectors of the second implementation, run through the library: of each file its figures, its notes, its cuts and
-// its reasons, in records and in sentences, are printed, as the commands print them. A letter before the file says
-// where it comes from. The expected output is what the second implementation gives.
+// The vectors of the second implementation, run through the library: of each file its figures, its notes, its cuts, its
+// reasons, in records and in sentences, and its farm written as a file are printed, as the commands print them. A
+// letter before the file says where it comes from. The expected output is what the second implementation gives.
 use limits::Source;
 use packs::Packed;
 use views::View;
@@ -15,6 +15,7 @@ fn print_views(source: Source, file: &[u8]) {
     printing::print_view(View::Cuts, source, file);
     printing::print_view(View::Reasons, source, file);
     printing::print_view(View::Sentences, source, file);
+    printing::print_view(View::File, source, file);
 }
 
 // One file, if there is one more.

@@ -57,7 +57,7 @@ pub const LARGER: [u8; 58] = *b"\
 ";
 
 // The pages of help, one for each command.
-pub const PAGES: [u8; 7290] = *b"\
+pub const PAGES: [u8; 7808] = *b"\
 usage: urvendlo [COMMAND] [OPTION..] [FILE]\n\
 \n\
 Reads a farm file, which is FILE or standard input (also as -), and prints\n\
@@ -69,6 +69,7 @@ Reads a farm file, which is FILE or standard input (also as -), and prints\n\
 \x20 chart    the figures as a picture, an SVG\n\
 \x20 why      why each yard has its share on days with both yard and pasture\n\
 \x20 line     whether the farm's ammonia is above so many grams, yes or no\n\
+\x20 write    the farm as a clean file: its inputs in the order of the list\n\
 \x20 gate     the days and hours of a pasture gate's log, read in place of a farm\n\
 \x20 mend     the file without what spreadsheets do to it\n\
 \x20 changes  what mending changes in the file\n\
@@ -148,6 +149,15 @@ has it in words.\n\
 \n\
 \x20 $ urvendlo line 150000 examples/farm.csv\n\
 \x20 yes,3\n\
+usage: urvendlo write [-o FILE] [FILE | --cooperative FILE]\n\
+\n\
+The farm as a file that says the same: herd after herd a record for each input,\n\
+in the order of the list, numbers in their shortest form, quotes only round a\n\
+label with a comma. Reading it gives the same farm. Where it would have more\n\
+than 262,144 bytes it is refused with 1. A file that a spreadsheet spoiled is\n\
+mended first.\n\
+\n\
+\x20 $ urvendlo mend farm.csv | urvendlo write -o farm.csv\n\
 usage: urvendlo gate [-o FILE] [LOG]\n\
 \n\
 LOG has a record a day of one year: date, hours on pasture, hours on the yard.\n\
@@ -222,29 +232,30 @@ usage: urvendlo version\n\
 The commit of this program, and the kit that proves it, where there is one.\n\
 ";
 
-pub const PAGES_STARTS: [usize; 18] = [
+pub const PAGES_STARTS: [usize; 19] = [
     0,
-    2199,
-    2679,
-    3032,
-    3288,
-    3537,
-    3881,
-    4333,
-    4565,
-    4848,
-    5095,
-    5379,
-    5728,
-    6106,
-    6415,
-    6918,
-    7189,
-    7290,
+    2272,
+    2752,
+    3105,
+    3361,
+    3610,
+    3954,
+    4406,
+    4851,
+    5083,
+    5366,
+    5613,
+    5897,
+    6246,
+    6624,
+    6933,
+    7436,
+    7707,
+    7808,
 ];
 
 // The commands' names, by the numbers of their pages.
-pub const NAMES: [u8; 98] = *b"\
+pub const NAMES: [u8; 103] = *b"\
 help\
 figures\
 notes\
@@ -252,6 +263,7 @@ cuts\
 chart\
 why\
 line\
+write\
 gate\
 mend\
 changes\
@@ -264,7 +276,7 @@ uninstall\
 version\
 ";
 
-pub const NAMES_STARTS: [usize; 18] = [
+pub const NAMES_STARTS: [usize; 19] = [
     0,
     4,
     11,
@@ -273,16 +285,17 @@ pub const NAMES_STARTS: [usize; 18] = [
     25,
     28,
     32,
-    36,
-    40,
-    47,
-    54,
-    62,
-    68,
-    75,
-    82,
-    91,
-    98,
+    37,
+    41,
+    45,
+    52,
+    59,
+    67,
+    73,
+    80,
+    87,
+    96,
+    103,
 ];
 
 // The numbers of the pages, and the last of them.
@@ -300,24 +313,26 @@ pub const WHY: usize = 5;
 
 pub const LINE: usize = 6;
 
-pub const GATE: usize = 7;
+pub const WRITE: usize = 7;
 
-pub const MEND: usize = 8;
+pub const GATE: usize = 8;
 
-pub const CHANGES: usize = 9;
+pub const MEND: usize = 9;
 
-pub const EXPLAIN: usize = 10;
+pub const CHANGES: usize = 10;
 
-pub const TEMPLATE: usize = 11;
+pub const EXPLAIN: usize = 11;
 
-pub const INPUTS: usize = 12;
+pub const TEMPLATE: usize = 12;
 
-pub const OUTPUTS: usize = 13;
+pub const INPUTS: usize = 13;
 
-pub const INSTALL: usize = 14;
+pub const OUTPUTS: usize = 14;
 
-pub const UNINSTALL: usize = 15;
+pub const INSTALL: usize = 15;
 
-pub const VERSION: usize = 16;
+pub const UNINSTALL: usize = 16;
 
-pub const PAGE_LAST: usize = 16;
+pub const VERSION: usize = 17;
+
+pub const PAGE_LAST: usize = 17;

@@ -152,6 +152,7 @@ fn run_command(command: Command, at: usize) -> Ended {
         Command::Cuts => run_view(View::Cuts, at, next),
         Command::Why => run_why(at),
         Command::Line => run_line(at),
+        Command::Write => run_view(View::File, at, next),
         Command::Gate => run_job(Job::Log, at, next),
         Command::Mend => run_job(Job::Mend, at, next),
         Command::Changes => run_job(Job::Changes, at, next),
