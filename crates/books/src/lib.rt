@@ -48,4 +48,4 @@ pub struct Stepped {
 }
 
 // No stored total may be further from zero, in grams.
-pub const TOTAL_MOST: i64 = 10_000_000_000_000;
+pub const TOTAL_MOST: u64 = 10_000_000_000_000;
