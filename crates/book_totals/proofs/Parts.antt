@@ -2,6 +2,7 @@
 -- Assumes nothing.
 use Prim.Native.Nat.{ℕ, _^_, _+_, _≤_, _<_}
 use mathlib.Core.Path.{_≡_, sym, ap, _∙_}
+use mathlib.Core.Bool.{false}
 use mathlib.Core.List.{List, [], _∷_, map}
 use native.Mathlib.Omega.{arith}
 use lib.ListN.{length, getD}
@@ -31,8 +32,9 @@ use Rattle.herd.proofs.Bounds.{most, figures-to}
 use Rattle.model.specs.Answers.{herdFigures}
 use Rattle.model.proofs.Exact.{no-totals-small}
 use Rattle.books.specs.Steps.{moved}
-use Rattle.books.specs.Rules.{totalMost}
+use Rattle.books.specs.Rules.{totalMost, beyond}
 use Rattle.book_totals.specs.Parts.{partMost, TotalsOf, movedBy}
+use Rattle.book_totals.proofs.Beyond.{within-most}
 
 ofGrams : List ℤ → Totals
 ofGrams g = record { grams = g }
@@ -102,7 +104,22 @@ module _ (x y z : ℤ) (hx : natAbs x ≤ totalMost) (hy : natAbs y ≤ partMost
       +ℤ toZ w64 (ofZ w64 z))) ≡ (x -ℤ y) +ℤ z
   more-is = rw (less-is, back z (omega arith)) (back _ all-small)
 
--- and as it is called with what was read
+-- ---- what was read is small
+
+module _ (a : List ℤ) (n : ℕ) where
+  read-small : (k : ℕ) → k ≤ totalMost → GramsTo k a → natAbs (toZ w64 (ofZ w64 (gramsAt a n))) ≤ k
+  read-small k b s = rw (back (gramsAt a n) (omega (arith, s .most n))) (s .most n)
+
+  pub part-read : (k : ℕ) → GramsTo partMost a → partMost ≤ k → natAbs (toZ w64 (ofZ w64 (gramsAt a n))) ≤ k
+  part-read k s b = omega (arith, read-small partMost (omega arith) s)
+
+pub total-read : (t : Totals) (n : ℕ) → beyond t ≡ false → natAbs (toZ w64 (ofZ w64 (gramsAt (t .grams) n))) ≤ totalMost
+total-read t n e = read-small (t .grams) n totalMost (omega arith) (within-most t e)
+
+pub ruleset reads-small = (part-read, total-read)
+
+-- ---- one total moved, of what was read
+
 module _ {a b c : List ℤ} (ta : GramsTo totalMost a) (tb : GramsTo partMost b) (tc : GramsTo partMost c) (n : ℕ) where
   abbrev x : ℤ
   x = gramsAt a n
@@ -121,10 +138,6 @@ module _ {a b c : List ℤ} (ta : GramsTo totalMost a) (tb : GramsTo partMost b)
 
   z-back : toZ w64 (ofZ w64 z) ≡ z
   z-back = back z (omega (arith, tc .most n))
-
-  pub asks : (natAbs (toZ w64 (ofZ w64 x)) ≤ totalMost) × (natAbs (toZ w64 (ofZ w64 y)) ≤ partMost)
-      × (natAbs (toZ w64 (ofZ w64 z)) ≤ partMost)
-  asks = rw (x-back, y-back, z-back) (ta .most n, tb .most n, tc .most n)
 
   pub gave : (r : ℤ) → r ≡ (toZ w64 (ofZ w64 x) -ℤ toZ w64 (ofZ w64 y)) +ℤ toZ w64 (ofZ w64 z)
       → toZ w64 (ofZ w64 r) ≡ (x -ℤ y) +ℤ z

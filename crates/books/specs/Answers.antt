@@ -57,4 +57,4 @@ pub record StepsTo (f : Farm) (room : ℕ) (t : Totals) (step : Step) (h : Herd)
   pub decided : r .decided ≡ decidedOf f room t step h
   pub herds : herdsOf (r .farm) ≡ storedHerds (decidedOf f room t step h) (herdsOf f) step h
   pub count : r .farm .count ≡ length (storedHerds (decidedOf f room t step h) (herdsOf f) step h)
-  pub totals : r .totals .grams ≡ storedTotals (decidedOf f room t step h) (herdsOf f) t step h .grams
+  pub totals : r .totals ≡ storedTotals (decidedOf f room t step h) (herdsOf f) t step h

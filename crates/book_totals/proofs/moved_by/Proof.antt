@@ -8,7 +8,7 @@ use Rattle.outputs.specs.Names.{totals}
 use Rattle.outputs.specs.Grams.{gramsAt}
 use Rattle.outputs.proofs.ByNumber.{Filled, fill-none, fill-one, fill-all}
 use Rattle.book_totals.proofs.Beyond.{within-most}
-use Rattle.book_totals.proofs.Parts.{asks, gave}
+use Rattle.book_totals.proofs.Parts.{reads-small, gave}
 use Rattle.book_totals.proofs.moved_by.Statement.{statement}
 use Rattle.book_totals.proofs.moved_by.Tie as tie
 
@@ -42,9 +42,7 @@ element-copy-out-z : tie.Need-element-copy-out-z Inv-loop μ-loop
 element-copy-out-z c = search needs
 
 exchanged-requires : tie.Need-exchanged-requires Inv-loop μ-loop
-exchanged-requires c κs =
-    let p = c .before .before .before .before .before .pre in
-    asks (within-most _ (p .0)) (p .1) (p .2) _
+exchanged-requires c κs = (search (needs, reads-small), search (needs, reads-small), search (needs, reads-small))
 
 mul-t14 : tie.Need-mul-t14 Inv-loop μ-loop
 mul-t14 c = search needs

@@ -1,0 +1,10 @@
+pub mod Rules
+pub mod Refusals
+pub mod Herds
+pub mod Sums
+pub mod Allowed
+pub mod Keeping
+pub mod Named
+pub mod Steps
+pub mod Demands
+pub mod Again

@@ -1,0 +1,4 @@
+pub mod Refusals
+pub mod Tallies
+pub mod Places
+pub mod Moves
