@@ -24,6 +24,13 @@ pub use lent_file::read_into;
 pub use lent_line::farm_above_line;
 pub use lent_view::farm_view;
 
+// a farm's totals that follow the edit: the book of no herds, that of a file which is read into such a slice, and a step
+// that changes slice and book
+pub use book_file::empty_book;
+pub use book_file::read_book;
+pub use lent_steps::herd_named;
+pub use lent_steps::take_step;
+
 // whether a file's farm is above a line
 pub use line_calls::file_above_line;
 

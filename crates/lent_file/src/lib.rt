@@ -33,7 +33,7 @@ fn limits_for(len: usize) -> Limits
 }
 
 // The farm that a file says, or its refusal, for an array of `len` entries.
-fn read_for(s: &[u8], len: usize) -> FileAnswer
+pub fn read_for(s: &[u8], len: usize) -> FileAnswer
     ensures { λ r. ⌜ r ≡ readFor len (now (s .entry)) ⌝ }
 {
     farm_file::read_within(limits_for(len), s)

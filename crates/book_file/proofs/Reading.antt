@@ -1,0 +1,104 @@
+-- The book of no herds, and of those that a file says: each law in the form that a place of src/lib.rt wants; and what
+-- follows for the caller of `read_book`. Assumes nothing.
+use Prim.Native.Nat.{ℕ, _≤_}
+use mathlib.Core.Path.{_≡_, refl, sym, ap, _∙_}
+use native.Mathlib.Omega.{arith}
+use mathlib.Core.List.{List, [], map}
+use lib.ListN.{length}
+use Rattle.farm.specs.declared.Herd.{Herd}
+use Rattle.farm.specs.declared.Farm.{Farm}
+use Rattle.farm.specs.declared.Checked.the-variants.{Accepted}
+use Rattle.farm.specs.Limits.{herdsMost}
+use Rattle.limits.specs.declared.Limits.{Limits}
+use Rattle.checks.specs.Checks.{herdsOf, checkFarm}
+use Rattle.reader.specs.declared.FileAnswer.{FileAnswer}
+use Rattle.reader.specs.Files.{readOf}
+use Rattle.rules_theorems.proofs.Farms.{herds-of}
+use Rattle.rules_theorems.proofs.Accepts.{accepts-within}
+use Rattle.rules_theorems.proofs.Refuses.{Outcome, takes, gives, outcome-within}
+use Rattle.rules_theorems.proofs.Passing.{passes-within}
+use Rattle.outputs.specs.declared.Figures.{Figures}
+use Rattle.outputs.specs.declared.Totals.{Totals}
+use Rattle.outputs.specs.Grams.{GramsTo, figureMost, zeros, totalGrams, totalsOf}
+use Rattle.outputs.proofs.Adding.{totals-of-sum}
+use Rattle.model.specs.Answers.{herdFigures, Added}
+use Rattle.model.proofs.AnswerSteps.{zeros-small}
+use Rattle.lent.specs.Laid.{laid}
+use Rattle.lent_file.specs.Reading.{limitsFor, readFor}
+use Rattle.books.specs.declared.Book.{Book}
+use Rattle.book_file.specs.declared.BookAnswer.{BookAnswer}
+use Rattle.book_file.specs.declared.Read.{Read}
+use Rattle.book_file.specs.Books.{bookOf, herdsRead, IsRead, toldOf, ReadsBook}
+
+book-is : {n m : ℕ} {t u : Totals} → n ≡ m → t ≡ u
+    → _≡_ {A = Book} (record { count = n; totals = t }) (record { count = m; totals = u })
+book-is e q = rw (e, q)
+
+-- ---- no herds
+
+module _ (sum : Figures) (es : sum .grams ≡ zeros) where
+  pub none-small : GramsTo figureMost (sum .grams)
+  none-small = zeros-small sum es
+
+  pub none-booked : (t : Totals) → t .grams ≡ totalGrams (sum .grams) → record { count = 0; totals = t } ≡ bookOf []
+  none-booked t et = book-is refl (totals-of-sum herdFigures [] t (et ∙ ap totalGrams es))
+
+pub ruleset empty-steps = (none-small, none-booked)
+
+-- ---- a file: what it gives has as many herds as it says, and passes the checks
+
+module _ (len : ℕ) (s : List ℕ) where
+  abbrev within : Limits
+  within = limitsFor len
+
+  fit : within .herds ≤ herdsMost
+  fit = omega arith
+
+  read-passes : checkFarm (readFor len s .farm) ≡ Accepted
+  unfolding readFor checkFarm
+  read-passes = go (readOf within s) refl (outcome-within within fit s)
+    where
+      go : (a : FileAnswer) → readOf within s ≡ a → Outcome within s a → checkFarm (a .farm) ≡ Accepted
+      go a e (takes {f = f} _) = passes-within within fit s f e
+      go a e (gives _) = refl
+
+  read-count : readFor len s .farm .count ≡ length (herdsRead len s)
+  unfolding readFor
+  read-count = go (readOf within s) refl (outcome-within within fit s)
+    where
+      go : (a : FileAnswer) → readOf within s ≡ a → Outcome within s a → a .farm .count ≡ length (herdsOf (a .farm))
+      go a e (takes {f = f} _) =
+          let says = accepts-within within fit s f .0 e .says in
+          rw (says .is) (ap length (sym (herds-of (says .herds))))
+      go a e (gives _) = refl
+
+  module _ (a : FileAnswer) (q : a ≡ readFor len s) where
+    pub file-passes : checkFarm (a .farm) ≡ Accepted
+    file-passes = rw q read-passes
+
+    pub file-small : (sum : Figures) → Added (a .farm) sum → GramsTo figureMost (sum .grams)
+    file-small sum added = added .small
+
+    pub file-read : (sum : Figures) (t : Totals) → Added (a .farm) sum → t .grams ≡ totalGrams (sum .grams)
+        → IsRead len s (record { answer = a; totals = t })
+    file-read sum t added et =
+        record {
+          answer = q;
+          totals = totals-of-sum herdFigures (herdsOf (a .farm)) t (et ∙ ap totalGrams (added .is))
+              ∙ ap (λ (b : FileAnswer). totalsOf (map herdFigures (herdsOf (b .farm)))) q;
+        }
+
+pub ruleset file-steps = (file-passes, file-small, file-read)
+
+-- ---- the call
+
+pub follows : (s : List ℕ) (old : List Herd) (b : Read) (f : Farm) (t : BookAnswer) (new : List Herd)
+    → IsRead (length old) s b → f ≡ b .answer .farm → new ≡ laid (herdsOf f) old → t ≡ toldOf b
+    → ReadsBook s old t new
+follows s old b f t new is ef en et =
+    let told = ap (λ (a : FileAnswer). a .farm .count) (is .answer) ∙ read-count (length old) s in
+    record {
+      checked = ap (λ (x : BookAnswer). x .checked) et ∙ ap (λ (a : FileAnswer). a .checked) (is .answer);
+      book = ap (λ (x : BookAnswer). x .book) et ∙ book-is told (is .totals);
+      array = en ∙ ap (λ (g : Farm). laid (herdsOf g) old) (ef ∙ ap (λ (a : FileAnswer). a .farm) (is .answer));
+    }
