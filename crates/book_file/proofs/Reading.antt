@@ -1,10 +1,10 @@
--- The book of no herds, and of those that a file says: each law in the form that a place of src/lib.rt wants; and what
--- follows for the caller of `read_book`. Assumes nothing.
+-- The book of no herds, and of those that a file says: each law in the form that a place of src/lib.rt wants; what
+-- follows for the caller of `read_book`; and what that means. Assumes nothing.
 use Prim.Native.Nat.{ℕ, _≤_}
 use mathlib.Core.Path.{_≡_, refl, sym, ap, _∙_}
 use native.Mathlib.Omega.{arith}
 use mathlib.Core.List.{List, [], map}
-use lib.ListN.{length}
+use lib.ListN.{length, take}
 use Rattle.farm.specs.declared.Herd.{Herd}
 use Rattle.farm.specs.declared.Farm.{Farm}
 use Rattle.farm.specs.declared.Checked.the-variants.{Accepted}
@@ -24,7 +24,8 @@ use Rattle.outputs.proofs.Adding.{totals-of-sum}
 use Rattle.model.specs.Answers.{herdFigures, Added}
 use Rattle.model.proofs.AnswerSteps.{zeros-small}
 use Rattle.lent.specs.Laid.{laid}
-use Rattle.lent_file.specs.Reading.{limitsFor, readFor}
+use Rattle.lent.proofs.Entries.{take-laid}
+use Rattle.lent_file.specs.Reading.{limitsFor, readFor, ReadInto}
 use Rattle.books.specs.declared.Book.{Book}
 use Rattle.book_file.specs.declared.BookAnswer.{BookAnswer}
 use Rattle.book_file.specs.declared.Read.{Read}
@@ -45,7 +46,13 @@ module _ (sum : Figures) (es : sum .grams ≡ zeros) where
 
 pub ruleset empty-steps = (none-small, none-booked)
 
--- ---- a file: what it gives has as many herds as it says, and passes the checks
+-- ---- a file
+
+-- what holds of a farm that is read for an array of so many entries, and of that of no herds which a refusal has
+record Fine (len : ℕ) (f : Farm) : Type 0 where
+  passes : checkFarm f ≡ Accepted
+  count : f .count ≡ length (herdsOf f)
+  room : length (herdsOf f) ≤ len
 
 module _ (len : ℕ) (s : List ℕ) where
   abbrev within : Limits
@@ -54,27 +61,25 @@ module _ (len : ℕ) (s : List ℕ) where
   fit : within .herds ≤ herdsMost
   fit = omega arith
 
-  read-passes : checkFarm (readFor len s .farm) ≡ Accepted
+  read-fine : Fine len (readFor len s .farm)
   unfolding readFor checkFarm
-  read-passes = go (readOf within s) refl (outcome-within within fit s)
+  read-fine = go (readOf within s) refl (outcome-within within fit s)
     where
-      go : (a : FileAnswer) → readOf within s ≡ a → Outcome within s a → checkFarm (a .farm) ≡ Accepted
-      go a e (takes {f = f} _) = passes-within within fit s f e
-      go a e (gives _) = refl
-
-  read-count : readFor len s .farm .count ≡ length (herdsRead len s)
-  unfolding readFor
-  read-count = go (readOf within s) refl (outcome-within within fit s)
-    where
-      go : (a : FileAnswer) → readOf within s ≡ a → Outcome within s a → a .farm .count ≡ length (herdsOf (a .farm))
+      go : (a : FileAnswer) → readOf within s ≡ a → Outcome within s a → Fine len (a .farm)
       go a e (takes {f = f} _) =
           let says = accepts-within within fit s f .0 e .says in
-          rw (says .is) (ap length (sym (herds-of (says .herds))))
-      go a e (gives _) = refl
+          let hs = says .herds in
+          let is : herdsOf f ≡ hs = ap (λ (g : Farm). herdsOf g) (says .is) ∙ herds-of hs in
+          record {
+            passes = passes-within within fit s f e;
+            count = ap (λ (g : Farm). g .count) (says .is) ∙ ap length (sym is);
+            room = rw is (omega (arith, says .most));
+          }
+      go a e (gives _) = record { passes = refl; count = refl; room = omega arith }
 
   module _ (a : FileAnswer) (q : a ≡ readFor len s) where
     pub file-passes : checkFarm (a .farm) ≡ Accepted
-    file-passes = rw q read-passes
+    file-passes = rw q (read-fine .passes)
 
     pub file-small : (sum : Figures) → Added (a .farm) sum → GramsTo figureMost (sum .grams)
     file-small sum added = added .small
@@ -96,9 +101,30 @@ pub follows : (s : List ℕ) (old : List Herd) (b : Read) (f : Farm) (t : BookAn
     → IsRead (length old) s b → f ≡ b .answer .farm → new ≡ laid (herdsOf f) old → t ≡ toldOf b
     → ReadsBook s old t new
 follows s old b f t new is ef en et =
-    let told = ap (λ (a : FileAnswer). a .farm .count) (is .answer) ∙ read-count (length old) s in
+    let told = ap (λ (a : FileAnswer). a .farm .count) (is .answer) ∙ read-fine (length old) s .count in
     record {
       checked = ap (λ (x : BookAnswer). x .checked) et ∙ ap (λ (a : FileAnswer). a .checked) (is .answer);
       book = ap (λ (x : BookAnswer). x .book) et ∙ book-is told (is .totals);
       array = en ∙ ap (λ (g : Farm). laid (herdsOf g) old) (ef ∙ ap (λ (a : FileAnswer). a .farm) (is .answer));
     }
+
+-- ---- what it means: reading has given what `read_into` gives, and the book is that of the array's first entries
+
+module _ {s : List ℕ} {old : List Herd} {r : BookAnswer} {new : List Herd} (reads : ReadsBook s old r new) where
+  fine : Fine (length old) (readFor (length old) s .farm)
+  fine = read-fine (length old) s
+
+  counted : r .book .count ≡ length (herdsRead (length old) s)
+  counted = ap (λ (b : Book). b .count) (reads .book)
+
+  pub as-into : ReadInto s old (record { checked = r .checked; count = r .book .count }) new
+  as-into =
+      let n : r .book .count ≡ readFor (length old) s .farm .count = counted ∙ sym (fine .count) in
+      record { answer = rw (reads .checked, n); array = reads .array }
+
+  pub book-of-entries : r .book ≡ bookOf (take (r .book .count) new)
+  book-of-entries =
+      let hs = herdsRead (length old) s in
+      let first : take (r .book .count) new ≡ hs =
+      rw (counted, reads .array) (take-laid hs old (fine .room)) in
+      reads .book ∙ ap bookOf (sym first)

@@ -24,8 +24,8 @@ pub use lent_file::read_into;
 pub use lent_line::farm_above_line;
 pub use lent_view::farm_view;
 
-// a farm's totals that follow the edit: the book of no herds, that of a file which is read into such a slice, and a step
-// that changes slice and book
+// a farm's totals that follow the edit: the book of no herds, that of a file which is read into such a slice, and a
+// step that changes slice and book
 pub use book_file::empty_book;
 pub use book_file::read_book;
 pub use lent_steps::herd_named;

@@ -8,3 +8,4 @@ pub mod Named
 pub mod Steps
 pub mod Demands
 pub mod Again
+pub mod Begun
