@@ -66,7 +66,8 @@ def texts(page, name):
 # ---- parts of a source
 
 WIDTH = 120
-ARRAY_WIDTH = 60
+# The formatter puts an array on one line up to these widths, of the array and of all of the line.
+ARRAY_WIDTH, CODE_WIDTH = 60, 100
 
 
 def source(says, *items, uses=()):
@@ -98,10 +99,10 @@ def constant(name):
 
 def array(name, of, entries, says=""):
     """A table on one line, or with a line for each entry."""
-    line = ", ".join(map(str, entries))
-    if len(line) + 2 > ARRAY_WIDTH:
+    begin, line = f"pub const {name}: [{of}; {len(entries)}] = ", ", ".join(map(str, entries))
+    if len(line) + 2 > ARRAY_WIDTH or len(begin) + len(line) + 3 > CODE_WIDTH:
         line = "\n" + "".join(f"    {entry},\n" for entry in entries)
-    return f"{comment(says)}pub const {name}: [{of}; {len(entries)}] = [{line}];\n"
+    return f"{comment(says)}{begin}[{line}];\n"
 
 
 def starts(lists):
