@@ -40,6 +40,10 @@ def check_herd(herd, earlier_labels):
         raise Refused(4, NO_RECORD)
     if herd.label in earlier_labels:
         raise Refused(8, NO_RECORD)
+    check_inputs(herd)
+
+
+def check_inputs(herd):
     if herd.lacks_an_input():
         raise Refused(12, NO_RECORD)
     if not all(herd.kind.may_have(listed, herd.given[listed.name]) for listed in herd.kind.inputs):

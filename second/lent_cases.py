@@ -46,9 +46,14 @@ def checksum(numbers):
     return total
 
 
+def names_in_order(names):
+    """A list of names as its page in 001 has it: 2.62 has Outdoor behind the houses."""
+    return sorted(names, key=OUTDOOR.__eq__)
+
+
 def place_of(name, names):
-    """The place of a name in its list, as its page in 001 has it: 2.62 has Outdoor behind the houses."""
-    return sorted(names, key=OUTDOOR.__eq__).index(name)
+    """The place of a name in its list; a number stands for itself, and for no name."""
+    return name if isinstance(name, int) else names_in_order(names).index(name)
 
 
 def slot(listed, value):
@@ -58,18 +63,20 @@ def slot(listed, value):
     if not isinstance(listed.values, Number):
         return PLAIN, place_of(value, listed.values.names)
     units = int(value * 10**listed.values.decimals)
-    if not isinstance(listed.values, Signed):
-        return PLAIN, units
-    return (BELOW_0 if units < 0 else FROM_0_ON), abs(units)
+    if units < 0:
+        return BELOW_0, -units
+    return (FROM_0_ON if isinstance(listed.values, Signed) else PLAIN), units
 
 
 def numbers_of(herd):
     """Its label, which takes 16 bytes with 0 behind those in use, its kind and its slots, as numbers."""
-    label = herd.label.encode("ascii")
+    label = herd.label.encode("latin-1")
     yield len(label)
-    yield from label.ljust(LONGEST_LABEL, b"\0")
+    yield from label[:LONGEST_LABEL].ljust(LONGEST_LABEL, b"\0")
     yield KINDS.index(herd.kind)
-    slots = [slot(listed, herd.given[listed.name]) for listed in herd.kind.inputs]
+    slots = [
+        slot(listed, herd.given[listed.name]) if listed.name in herd.given else NOTHING for listed in herd.kind.inputs
+    ]
     for form, size in slots + [NOTHING] * (SLOTS - len(slots)):
         yield form
         yield size

@@ -24,11 +24,13 @@ import lent_cases
 import mend
 import mend_cases
 import printed
+import steps_cases
 import write
 from arithmetic import BILLION, CUTS, EXACT, HALF, Cuts
 from cases import COOPERATIVE_EXAMPLE
 from cuts import cuts
 from dice import Dice
+from edit import DONE, FAILED, REFUSED, edit
 from farms import FarmDice, farm_lines, file_of, herd_lines, line_for, new_labels, written
 from inputs import CATTLE, DAIRY_COWS, HOURS, KINDS, KINDS_WITH_A_YARD, PIGS, ROUGHAGE, STANDARD, Number
 from line import HIGHEST_LINE, above, in_words, livestock
@@ -36,7 +38,8 @@ from model import (
     Notes, c_grazing, figures, housing_nh3_rate, k_grazing, notes, pig_house_ammonia, share_into_yard
 )
 from reading import COOPERATIVE, STANDARD_INPUT, Limits, Refused, read_farm
-from totals import totals
+from steps import ADD, FARTHEST, REMOVE, REPLACE, Book, fresh_book, take_step
+from totals import TOTALS, totals
 from urvendlo import CUTS_OFF, FIGURES, NOTES, WHY, WHY_WORDS, answer, at_line
 from values import DAYS_A_YEAR, YARD_SHARES
 from why import REASONS, why
@@ -1545,6 +1548,133 @@ class LentArrays(unittest.TestCase):
             [filler] * 4,
         )
         self.assertEqual(len({lent_cases.entries_sum(array) for array in arrays}), len(arrays))
+
+
+class FollowedTotals(unittest.TestCase):
+    """Request W11: a herd is added, replaced or removed, and the stored totals follow."""
+
+    def setUp(self):
+        self.cows, self.pigs = herd_of(DAIRY_COWS, COWS, "Cows"), herd_of(PIGS, OUTDOOR_PIGS, "Pigs")
+        self.deer, self.others = herd_of(ROUGHAGE, DEER, "Deer"), herd_of(PIGS, HOUSED_PIGS, "Cows")
+
+    def farm(self, *herds, length=4):
+        array = [*herds, *(f"entry {i}" for i in range(len(herds), length))]
+        return array, fresh_book(array, len(herds))
+
+    def test_done(self):
+        """An added herd goes last, a replaced one stays, those behind a removed one move up; the rest is as it was."""
+        cows, pigs, deer, others = self.cows, self.pigs, self.deer, self.others
+        for step, named, after in (
+            (ADD, deer, [cows, pigs, deer, "entry 3"]),
+            (REPLACE, others, [others, pigs, "entry 2", "entry 3"]),
+            (REMOVE, "Cows", [pigs, pigs, "entry 2", "entry 3"]),
+            (REMOVE, "Pigs", [cows, pigs, "entry 2", "entry 3"]),
+        ):
+            array, book = self.farm(cows, pigs)
+            book = take_step(array, book, step, named)
+            self.assertEqual(array, after)
+            self.assertEqual(book, fresh_book(array, {ADD: 3, REPLACE: 2, REMOVE: 1}[step]))
+
+    def test_any_totals(self):
+        """Stored totals that are not the farm's move by exactly the old and the new herd's figures."""
+        old, new = (totals([figures(herd, CUTS)]) for herd in (self.cows, self.others))
+        for grams in (0, -7, FARTHEST, -FARTHEST):
+            stored = dict.fromkeys(TOTALS, grams)
+            for step, named, moves in (
+                (ADD, self.deer, totals([figures(self.deer, CUTS)])),
+                (REPLACE, self.others, {name: new[name] - old[name] for name in TOTALS}),
+                (REMOVE, "Cows", {name: -old[name] for name in TOTALS}),
+            ):
+                array, book = self.farm(self.cows, self.pigs)
+                after = take_step(array, replace(book, totals=stored), step, named)
+                self.assertEqual(after.totals, {name: grams + moves[name] for name in TOTALS})
+
+    def test_refusals(self):
+        """Each number in its order, record 0 in all; nothing has changed then."""
+        cows, pigs, deer = self.cows, self.pigs, self.deer
+        bare = replace(deer, given={})
+        beyond = replace(deer, given={**deer.given, "animals": 10001})
+        far = {"totals": {**dict.fromkeys(TOTALS, 0), "n2_ngrazing": FARTHEST + 1}}
+        far_below = {"totals": {**dict.fromkeys(TOTALS, 0), "tan_remain_grazing": -FARTHEST - 1}}
+        for herds, changes, step, named, number in (
+            ([cows, cows], far, ADD, replace(bare, label=""), 8),
+            ([cows, replace(pigs, label="")], far, ADD, deer, 4),
+            ([cows, replace(pigs, given={})], far, REMOVE, "Cows", 12),
+            ([cows, pigs], {"count": 5, **far}, REMOVE, "", 9),
+            ([cows, pigs], far, ADD, replace(bare, label=""), 16),
+            ([cows, pigs], far_below, REMOVE, "Cows", 16),
+            ([cows, pigs], far, REPLACE, replace(cows, label="None"), 16),
+            ([cows, pigs], {}, ADD, replace(bare, label=""), 4),
+            ([cows, pigs], {}, REPLACE, replace(bare, label="A" * 17), 4),
+            ([cows, pigs], {}, REMOVE, 'A"', 4),
+            ([cows, pigs], {}, REPLACE, bare, 15),
+            ([cows, pigs], {}, REMOVE, "cows", 15),
+            ([cows, pigs, deer, replace(deer, label="D")], {}, ADD, replace(bare, label="Pigs"), 8),
+            ([cows, pigs, deer, replace(deer, label="D")], {}, ADD, replace(bare, label="E"), 9),
+            ([cows, pigs], {}, ADD, replace(bare, given={"animals": 10001}), 12),
+            ([cows, pigs], {}, REPLACE, replace(bare, label="Cows"), 12),
+            ([cows, pigs], {}, ADD, beyond, 7),
+            ([cows, pigs], {}, REPLACE, replace(beyond, label="Cows"), 7),
+        ):
+            array = [*herds, *[None] * (4 - len(herds))]
+            book = replace(Book(len(herds), dict.fromkeys(TOTALS, 0)), **changes)
+            before = list(array)
+            self.assertEqual(refusal_of(take_step, array, book, step, named), (number, 0))
+            self.assertEqual(array, before)
+
+    def test_at_the_bound(self):
+        for grams in (FARTHEST, -FARTHEST):
+            array, book = self.farm(self.cows)
+            book = take_step(array, replace(book, totals=dict.fromkeys(TOTALS, grams)), ADD, self.pigs)
+            self.assertEqual(book.totals["n_excretion"], grams + 130_000)
+
+    def test_room(self):
+        """The room of a removed herd serves the next; an array of more than 512 has room for 512."""
+        array, book = self.farm(self.cows, self.pigs, length=2)
+        self.assertEqual(refusal_of(take_step, array, book, ADD, self.deer), (9, 0))
+        book = take_step(array, take_step(array, book, REMOVE, "Cows"), ADD, self.deer)
+        self.assertEqual((array, book.count), ([self.pigs, self.deer], 2))
+        array = read_farm(whole_herds(512), COOPERATIVE) + [None]
+        self.assertEqual(refusal_of(take_step, array, fresh_book(array, 512), ADD, self.deer), (9, 0))
+        self.assertEqual(take_step(array, fresh_book(array, 511), ADD, self.deer).count, 512)
+
+    def test_walks(self):
+        """The stored totals are those worked out afresh, after every step of every farm that began with its own."""
+        compared, given = 0, set()
+        for walk in steps_cases.every_walk():
+            self.assertEqual(steps_cases.walk_from(steps_cases.walk_bytes(walk)), walk)
+            began = refusal_of(fresh_book, list(walk.herds), walk.book.count) is None and (
+                fresh_book(list(walk.herds), walk.book.count) == walk.book
+            )
+            for array, book, number in steps_cases.after_each(walk):
+                given.add(number)
+                if began:
+                    self.assertEqual(book, fresh_book(array, book.count))
+                    compared += 1
+        self.assertGreater(compared, 1000)
+        self.assertEqual(given, {None, 4, 7, 8, 9, 12, 15, 16})
+
+    def test_edit(self):
+        """What the command prints: behind each step the totals or the refusal's line, and its status."""
+        cows = file_of(lines_of(DAIRY_COWS, COWS, "Cows"))
+        totals_of = lambda file: answer(file).split(b"\r\n,", 1)[1]  # noqa: E731
+        both, one = b"," + totals_of(PIG_FILE + cows), b"," + totals_of(cows)
+        for steps, expected in (
+            ([(ADD, cows)], (both, DONE)),
+            ([(ADD, cows), (REMOVE, b"P1")], (both + one, DONE)),
+            ([(ADD, cows), (ADD, cows), (REMOVE, b"P1")], (both + b"refused,8,0\r\n" + one, REFUSED)),
+            ([(REPLACE, cows)], (b"refused,15,0\r\n", REFUSED)),
+            ([(REMOVE, b"")], (b"refused,4,0\r\n", REFUSED)),
+            ([(ADD, b"H"), (ADD, cows)], (b"refused,3,1\r\n" + both, REFUSED)),
+            ([(ADD, cows), (ADD, b""), (ADD, cows)], (both, FAILED)),
+            ([(ADD, PIG_FILE + cows)], (b"", FAILED)),
+            ([], (b"", DONE)),
+        ):
+            self.assertEqual(edit(PIG_FILE, steps), expected)
+        self.assertEqual(edit(b"H", [(ADD, cows)]), (b"refused,3,1\r\n", REFUSED))
+        said_of = edit(PIG_FILE, [(ADD, cows), (REMOVE, b"P1")], only_the_farm=True)
+        self.assertEqual(said_of, (write.answer(cows), DONE))
+        self.assertEqual(edit(PIG_FILE, [(REMOVE, b"P2")], only_the_farm=True), (write.answer(PIG_FILE), REFUSED))
 
 
 class GateLogs(unittest.TestCase):

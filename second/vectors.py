@@ -9,12 +9,14 @@
     vectors.py --which OFFSET --doubles the same of the farm files whose doubles are shown
     vectors.py --which OFFSET --lent    the same of the farm files that are read into lent arrays
     vectors.py --which OFFSET --lines   the same of the farm files that are held against a line
+    vectors.py --which OFFSET --steps   the same of the walks of steps
 
-The packs are the input and the expected output of six programs: `test_vectors`, farm
+The packs are the input and the expected output of seven programs: `test_vectors`, farm
 files and for each what every command prints, `test_gate`, logs of a pasture gate and
 their answers, `test_mend`, files and what mending makes of them, `test_kilograms`,
 farm files and their figures as doubles, `test_lent`, farm files and what lent arrays
-hold after reading them, and `test_line`, farm files held against a line. In a program's
+hold after reading them, `test_line`, farm files held against a line, and `test_steps`,
+walks of steps over farms with stored totals, as bytes (`steps_cases.py`). In a program's
 folder `stdin` holds each file's length as 4 bytes, little-endian, and its bytes;
 `stdout` holds the outputs one after the other. In the packs of `test_vectors` and of `test_line` a letter stands
 before each farm file, and counts to its length: where the file comes from, which gives its limits. Behind the letter
@@ -36,6 +38,7 @@ import lent_cases
 import line_cases
 import mend
 import mend_cases
+import steps_cases
 from reading import COOPERATIVE, STANDARD_INPUT
 from urvendlo import COMMANDS, answer, at_line
 
@@ -80,22 +83,53 @@ def line_answer(farm):
     return answer(farm[end:], at_line(int(farm[2:end])), LIMITS[farm[:1]])
 
 
-class Pack:
-    """What a test program is run on: files, what it prints for each, and the answer that tells a refusal, if any does."""
+def refusal_number(output):
+    """The number of a refusal's line, or None for an answer, which has more fields."""
+    fields = output.split(b",")
+    return int(fields[1]) if len(fields) == REFUSAL_FIELDS else None
 
-    def __init__(self, program, every_file, output, answer):
+
+def told(counts):
+    return ", ".join(f"{number}: {counts[number]}" for number in sorted(counts))
+
+
+def by_refusals(answer):
+    """What is told of files, by the answer to each."""
+
+    def tell(files):
+        counts = Counter(refusal_number(answer(file)) for file in files)
+        return f"{len(files)} files, {counts.pop(None)} accepted; refused, by number:\n{told(counts)}"
+
+    return tell
+
+
+def by_changes(files):
+    counts = Counter(kind for file in files for kind, _ in mend.changes(file))
+    return f"{len(files)} files; {counts[mend.MARK_DROPPED]} marks dropped, {counts[mend.CR_PUT]} CRs put in"
+
+
+def by_steps(walks):
+    counts = Counter(steps_cases.refusal_numbers(walks))
+    return f"{len(walks)} walks, {counts.pop(None)} steps done; refused, by number:\n{told(counts)}"
+
+
+class Pack:
+    """What a test program is run on: files, what it prints for each, and what is told of all of them."""
+
+    def __init__(self, program, every_file, output, tell):
         self.files = CRATES / program / "stdin"
         self.outputs = CRATES / program / "stdout"
-        self.program, self.every_file, self.output, self.answer = program, every_file, output, answer
+        self.program, self.every_file, self.output, self.tell = program, every_file, output, tell
 
 
-FARMS = Pack("test_vectors", every_farm, output, farm_answer)
-LOGS = Pack("test_gate", gate_cases.every_log, gatelog.answer, gatelog.answer)
-MENDED = Pack("test_mend", mend_cases.every_file, mend.counted, None)
-DOUBLES = Pack("test_kilograms", doubles.every_file, doubles.doubles, answer)
-LENT = Pack("test_lent", lent_cases.every_file, lent_cases.output, partial(answer, limits=COOPERATIVE))
-LINES = Pack("test_line", every_line, line_answer, line_answer)
-PACKS = (FARMS, LOGS, MENDED, DOUBLES, LENT, LINES)
+FARMS = Pack("test_vectors", every_farm, output, by_refusals(farm_answer))
+LOGS = Pack("test_gate", gate_cases.every_log, gatelog.answer, by_refusals(gatelog.answer))
+MENDED = Pack("test_mend", mend_cases.every_file, mend.counted, by_changes)
+DOUBLES = Pack("test_kilograms", doubles.every_file, doubles.doubles, by_refusals(answer))
+LENT = Pack("test_lent", lent_cases.every_file, lent_cases.output, by_refusals(partial(answer, limits=COOPERATIVE)))
+LINES = Pack("test_line", every_line, line_answer, by_refusals(line_answer))
+STEPS = Pack("test_steps", steps_cases.every_case, steps_cases.output, by_steps)
+PACKS = (FARMS, LOGS, MENDED, DOUBLES, LENT, LINES, STEPS)
 
 
 def packed(files):
@@ -132,29 +166,8 @@ def check(pack):
         if path.read_bytes() != made:
             print(f"{pack.program}/{path.name}: the stored pack differs from the one made now")
             same = False
-    if pack.answer is None:
-        tell_changes(pack, files)
-    else:
-        tell_refusals(pack, files)
+    print(f"{pack.program}: {pack.tell(files)}")
     return same
-
-
-def tell_refusals(pack, files):
-    counts = Counter(refusal_number(pack.answer(file)) for file in files)
-    print(f"{pack.program}: {len(files)} files, {counts.pop(None)} accepted; refused, by number:")
-    print(", ".join(f"{number}: {counts[number]}" for number in sorted(counts)))
-
-
-def tell_changes(pack, files):
-    counts = Counter(kind for file in files for kind, _ in mend.changes(file))
-    marks, crs = counts[mend.MARK_DROPPED], counts[mend.CR_PUT]
-    print(f"{pack.program}: {len(files)} files; {marks} marks dropped, {crs} CRs put in")
-
-
-def refusal_number(output):
-    """The number of a refusal's line, or None for an answer, which has more fields."""
-    fields = output.split(b",")
-    return int(fields[1]) if len(fields) == REFUSAL_FIELDS else None
 
 
 def show(pack, offset):
@@ -183,6 +196,7 @@ def main():
     of.add_argument("--doubles", action="store_const", dest="pack", const=DOUBLES, help="of the doubles' farm files")
     of.add_argument("--lent", action="store_const", dest="pack", const=LENT, help="of the lent arrays' farm files")
     of.add_argument("--lines", action="store_const", dest="pack", const=LINES, help="of the farm files at a line")
+    of.add_argument("--steps", action="store_const", dest="pack", const=STEPS, help="of the walks of steps")
     chosen = parser.parse_args()
     if chosen.write:
         for pack in PACKS:
