@@ -29,8 +29,8 @@ STEPS_ON_A_FARM = 30
 HERDS_MOST = 4
 NEARLY_FULL = 8
 STEPS_ON_A_FULL_ARRAY = 40
-# Farther from zero than any total, to the ends of a number of 64 bits.
-LOWEST, HIGHEST = -(2**63), 2**63 - 1
+# Farther from zero than any total.
+HIGHEST = 2**63 - 1
 
 # How many bytes a number of a walk takes.
 COUNT_BYTES, TOTAL_BYTES, SIZE_BYTES = 2, 8, 4
@@ -48,7 +48,7 @@ class Walk:
     steps: tuple
 
 
-# ---- as bytes: the length, the count and the number of herds, the totals from the lowest on, the herds, the steps
+# ---- as bytes: the length, the count and the number of herds, the totals, the herds, the steps
 
 
 def number_bytes(number, size):
@@ -63,13 +63,17 @@ def herd_bytes(herd):
     return bytes([length, *label, kind]) + b"".join(bytes([form]) + size for form, size in zip(slots[::2], sizes))
 
 
+def total_bytes(grams):
+    """Whether it is below zero, a byte, and how far from zero it is."""
+    return bytes([grams < 0]) + number_bytes(abs(grams), TOTAL_BYTES)
+
+
 def walk_bytes(walk):
     counts = (walk.length, walk.book.count, len(walk.herds))
-    totals = (walk.book.totals[name] - LOWEST for name in TOTALS)
     return b"".join(
         (
             *(number_bytes(count, COUNT_BYTES) for count in counts),
-            *(number_bytes(total, TOTAL_BYTES) for total in totals),
+            *(total_bytes(walk.book.totals[name]) for name in TOTALS),
             *map(herd_bytes, walk.herds),
             *(bytes([STEPS.index(step)]) + herd_bytes(herd) for step, herd in walk.steps),
         )
@@ -107,10 +111,15 @@ def herd_from(given):
     return Herd(label[:length].decode("latin-1").ljust(length, "\0"), kind, NO_RECORD, held)
 
 
+def total_from(given):
+    is_below, grams = given.number(), given.number(TOTAL_BYTES)
+    return -grams if is_below else grams
+
+
 def walk_from(file):
     given = Bytes(file)
     length, count, herds = (given.number(COUNT_BYTES) for _ in range(3))
-    totals = {name: given.number(TOTAL_BYTES) + LOWEST for name in TOTALS}
+    totals = {name: total_from(given) for name in TOTALS}
     standing = tuple(herd_from(given) for _ in range(herds))
     steps = []
     while given.left:
@@ -280,7 +289,7 @@ def at_the_bound(dice):
     """A stored total at 16's bound, one gram beyond it and as far as can be, on either side of zero; each of them."""
     herds = herds_in(lean_herds(dice, 2))
     for name in TOTALS:
-        for grams in (FARTHEST, FARTHEST + 1, -FARTHEST, -FARTHEST - 1, LOWEST, HIGHEST):
+        for grams in (FARTHEST, FARTHEST + 1, -FARTHEST, -FARTHEST - 1, HIGHEST, -HIGHEST):
             book = Book(2, {**dict.fromkeys(TOTALS, 0), name: grams})
             yield Walk(3, book, herds, tuple(every_step(dice, herds)))
 

@@ -2,8 +2,6 @@
 // whose entries were all the same and no herd. For either array five lines are printed: the answer, the number of
 // herds, how many entries are as they were, a checksum of all others with their places, and the ammonia of the herds
 // as a farm's record. The expected output is what the second implementation gives.
-mod entries; // an entry as it was, and the checksum
-
 use farm::HERDS_MOST;
 use farm::Herd;
 use lent_file::LentAnswer;
@@ -28,8 +26,8 @@ fn tell_entries(herds: [Herd; HERDS_MOST]) {
     let mut i = 0;
     while i < HERDS_MOST {
         let h = herds[i];
-        left += entries::untouched(h);
-        sum = entries::with_entry(sum, i, h);
+        left += test_entries::untouched(h);
+        sum = test_entries::with_entry(sum, i, h);
         i += 1;
     }
     tell::number(left);
@@ -42,8 +40,8 @@ fn tell_short_entries(herds: [Herd; SHORT]) {
     let mut i = 0;
     while i < SHORT {
         let h = herds[i];
-        left += entries::untouched(h);
-        sum = entries::with_entry(sum, i, h);
+        left += test_entries::untouched(h);
+        sum = test_entries::with_entry(sum, i, h);
         i += 1;
     }
     tell::number(left);
@@ -56,7 +54,7 @@ fn tell_ammonia(answer: FarmAnswer) {
 }
 
 fn by_array(file: &[u8]) {
-    let through = test_arrays::read_through(file, entries::filler());
+    let through = test_arrays::read_through(file, test_entries::filler());
     let answer = through.answer;
     let herds = through.herds;
     tell_answer(answer);
@@ -65,7 +63,7 @@ fn by_array(file: &[u8]) {
 }
 
 fn by_short_array(file: &[u8]) {
-    let through = test_arrays::read_through_short(file, entries::filler());
+    let through = test_arrays::read_through_short(file, test_entries::filler());
     let answer = through.answer;
     let herds = through.herds;
     tell_answer(answer);

@@ -3,7 +3,7 @@
 
 // A refusal in words, by its number; there is none of the number 0. Behind the last those of a cooperative's file that
 // name another limit.
-pub const WORDS: [u8; 843] = *b"\
+pub const WORDS: [u8; 1025] = *b"\
 the file has more than 65,536 bytes\
 a record breaks RFC 4180\
 a record has not four fields, or in a gate's log not three\
@@ -11,18 +11,20 @@ bad label: not 1 to 16 bytes from 32 to 126, or a quote among them\
 module and input name are not in the list\
 `standard` as inp_n_excretion or tan_fraction of cattle or pigs, or as inp_n_excretion of dairy cows\
 the value can't be read or is out of range; in a gate's log also hours above 24 together\
-the label of an earlier herd, not the current one\
+the label of an earlier herd, not the current one; of a herd to be added, the label of any\
 a new label after 64 herds\
 a record of another kind than its herd\
 the input was given already in this herd\
 the file is read through, and a herd lacks an input\
 a lent buffer is shorter than what is to be written (library calls)\
 the date of a gate's log can't be read or is not the next one, or the log ends before 31 December\
+no herd has the label that is to be replaced or removed\
+a stored total is beyond 10,000,000,000,000 grams, above or below zero (library calls)\
 the file has more than 262,144 bytes\
 a new label after 512 herds\
 ";
 
-pub const WORDS_STARTS: [usize; 18] = [
+pub const WORDS_STARTS: [usize; 20] = [
     0,
     0,
     35,
@@ -32,24 +34,44 @@ pub const WORDS_STARTS: [usize; 18] = [
     224,
     324,
     412,
-    461,
-    487,
-    525,
-    565,
-    616,
-    683,
-    780,
-    816,
-    843,
+    502,
+    528,
+    566,
+    606,
+    657,
+    724,
+    821,
+    876,
+    962,
+    998,
+    1025,
 ];
 
 // The last number, and the last place.
-pub const REFUSALS: usize = 14;
+pub const REFUSALS: usize = 16;
 
-pub const WORDS_LAST: usize = 16;
+pub const WORDS_LAST: usize = 18;
 
 // Where the words for a cooperative's file stand, by the refusal's number.
-pub const COOPERATIVE_WORDS: [usize; 15] = [0, 15, 2, 3, 4, 5, 6, 7, 8, 16, 10, 11, 12, 13, 14];
+pub const COOPERATIVE_WORDS: [usize; 17] = [
+    0,
+    17,
+    2,
+    3,
+    4,
+    5,
+    6,
+    7,
+    8,
+    18,
+    10,
+    11,
+    12,
+    13,
+    14,
+    15,
+    16,
+];
 
 // What takes a file that is too large for standard input.
 pub const LARGER: [u8; 58] = *b"\

@@ -1,8 +1,8 @@
--- `test_lent::entries::size_of` is safe: an i32 is an i64. Assumes nothing.
+-- `test_entries::size_of` is safe: an i32 is an i64. Assumes nothing.
 use borrow.Author.Needs.{needs}
 use Rattle.farm.proofs.Narrow.{wide-fits}
-use Rattle.test_lent.proofs.entries.size_of.Statement.{statement}
-use Rattle.test_lent.proofs.entries.size_of.Tie as tie
+use Rattle.test_entries.proofs.size_of.Statement.{statement}
+use Rattle.test_entries.proofs.size_of.Tie as tie
 
 enum-told : tie.Need-enum-told
 enum-told c = search needs

@@ -1,9 +1,9 @@
--- `test_lent::entries::with_label` is safe and ends. Assumes nothing.
+-- `test_entries::with_label` is safe and ends. Assumes nothing.
 use Prim.Native.Nat.{_≤_, _-_}
 use Rattle.farm.specs.Limits.{labelMost}
 use borrow.Author.Needs.{needs}
-use Rattle.test_lent.proofs.entries.with_label.Statement.{statement}
-use Rattle.test_lent.proofs.entries.with_label.Tie as tie
+use Rattle.test_entries.proofs.with_label.Statement.{statement}
+use Rattle.test_entries.proofs.with_label.Tie as tie
 
 abbrev Inv-loop : tie.InvT-loop
 Inv-loop sum label mix₀ i₀ mix i = i ≤ labelMost

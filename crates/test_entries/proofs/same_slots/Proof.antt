@@ -1,9 +1,9 @@
--- `test_lent::entries::same_slots` is safe and ends. Assumes nothing.
+-- `test_entries::same_slots` is safe and ends. Assumes nothing.
 use Prim.Native.Nat.{_≤_, _-_}
 use Rattle.farm.specs.Limits.{slots}
 use borrow.Author.Needs.{needs}
-use Rattle.test_lent.proofs.entries.same_slots.Statement.{statement}
-use Rattle.test_lent.proofs.entries.same_slots.Tie as tie
+use Rattle.test_entries.proofs.same_slots.Statement.{statement}
+use Rattle.test_entries.proofs.same_slots.Tie as tie
 
 abbrev Inv-loop : tie.InvT-loop
 Inv-loop a b i₀ i = i ≤ slots

@@ -1,9 +1,9 @@
--- `test_lent::entries::with_slots` is safe and ends. Assumes nothing.
+-- `test_entries::with_slots` is safe and ends. Assumes nothing.
 use Prim.Native.Nat.{_≤_, _-_}
 use Rattle.farm.specs.Limits.{slots}
 use borrow.Author.Needs.{needs}
-use Rattle.test_lent.proofs.entries.with_slots.Statement.{statement}
-use Rattle.test_lent.proofs.entries.with_slots.Tie as tie
+use Rattle.test_entries.proofs.with_slots.Statement.{statement}
+use Rattle.test_entries.proofs.with_slots.Tie as tie
 
 abbrev Inv-loop : tie.InvT-loop
 Inv-loop sum h mix₀ i₀ mix i = i ≤ slots
