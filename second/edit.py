@@ -4,7 +4,8 @@
     edit.py [--farm] [--cooperative] FARM STEP..
 
 A step is `add HERDFILE`, `replace HERDFILE` or `remove LABEL`. Behind each stand the totals' listing or the refusal's
-line; with --farm there is only the farm's file after the last step (request W5). A HERDFILE is a farm file of one herd.
+line; with --farm there is only the farm's file after the last step (request W5). A HERDFILE is a farm file of one herd,
+by the same limits.
 """
 
 import sys
@@ -28,19 +29,19 @@ def refused_line(refused):
     return refusal(refused.number, refused.record).encode("ascii")
 
 
-def named_by(word, given):
+def named_by(word, given, limits):
     """The label that is to be removed, or the one herd of a file; None where the file has another number of herds."""
     if word == REMOVE:
         return given.decode("latin-1")
-    herds = read_farm(given)
+    herds = read_farm(given, limits)
     return herds[0] if len(herds) == 1 else None
 
 
-def walk(array, book, steps):
+def walk(array, book, steps, limits):
     """Give the book after each step and what is printed for it; the last is None where a file is of no one herd."""
     for word, given in steps:
         try:
-            named = named_by(word, given)
+            named = named_by(word, given, limits)
             if named is None:
                 yield book, None
                 return
@@ -58,7 +59,7 @@ def edit(farm, steps, limits=STANDARD_INPUT, only_the_farm=False):
         return refused_line(refused), REFUSED
     array = herds + [None] * (limits.herds - len(herds))
     book, shown, status = fresh_book(array, len(herds)), [], DONE
-    for book, lines in walk(array, book, steps):
+    for book, lines in walk(array, book, steps, limits):
         if lines is None:
             return (b"" if only_the_farm else b"".join(shown)), FAILED
         shown.append(lines)

@@ -6,7 +6,7 @@ _urvendlo_words() { # WHAT BEGIN
     nothing) ;;
     files) compgen -f -- "$2" ;;
     folders) compgen -d -- "$2" ;;
-    commands) compgen -W 'help figures notes cuts chart why line write gate mend changes explain template inputs outputs install uninstall version' -- "$2" ;;
+    commands) compgen -W 'help figures notes cuts chart why line write edit gate mend changes explain template inputs outputs install uninstall version' -- "$2" ;;
     *) compgen -W "$1" -- "$2" ;;
     esac
 }
@@ -30,6 +30,7 @@ _urvendlo_of() { # COMMAND
     why) flags='--words -o --cooperative --help' places=(files nothing) ;;
     line) flags='--words -o --cooperative --help' places=(nothing files nothing) ;;
     write) flags='-o --cooperative --help' places=(files nothing) ;;
+    edit) flags='-o --cooperative --help' places=(files nothing) ;;
     gate) flags='-o --help' places=(files nothing) ;;
     mend) flags='-o --help' places=(files nothing) ;;
     changes) flags='-o --help' places=(files nothing) ;;

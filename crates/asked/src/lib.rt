@@ -49,6 +49,15 @@ pub fn is_past(i: usize) -> bool {
     os::arg_count() <= i
 }
 
+// How many words there are from this one on.
+pub fn count_from(i: usize) -> usize {
+    let count = os::arg_count();
+    if count < i {
+        return 0;
+    }
+    count - i
+}
+
 // Is it longer than a name may be?
 pub fn is_too_long(i: usize) -> bool {
     let mut name = [0u8; NAME_MOST];
@@ -72,6 +81,18 @@ pub fn is_words(i: usize) -> bool {
 
 pub fn is_cooperative(i: usize) -> bool {
     is_word(i, b"--cooperative")
+}
+
+pub fn is_add(i: usize) -> bool {
+    is_word(i, b"add")
+}
+
+pub fn is_replace(i: usize) -> bool {
+    is_word(i, b"replace")
+}
+
+pub fn is_remove(i: usize) -> bool {
+    is_word(i, b"remove")
 }
 
 // Is it the word for standard input?

@@ -30,6 +30,28 @@ pub fn refused(source: Source, name: usize, number: u64, record: usize) {
     say(&line, e);
 }
 
+// A step that is refused: what the word at `at` and the one behind it say.
+pub fn step_refused(source: Source, at: usize, number: u64) -> Ended {
+    let mut line = message_lines::room();
+    let a = message_lines::add_both(&mut line, 0, b"urvendlo: ", at);
+    let b = message_lines::add_both(&mut line, a, b" ", asked::after(at));
+    let c = message_lines::add(&mut line, b, b": ");
+    let d = message_lines::add_refusal(&mut line, c, source, number);
+    say(&line, d);
+    Ended::Refused
+}
+
+// A file that a step takes its herd from, and that has not one.
+pub fn not_one_herd(name: usize, count: usize) -> Ended {
+    let mut line = message_lines::room();
+    let a = message_lines::add_both(&mut line, 0, b"urvendlo: ", name);
+    let b = message_lines::add(&mut line, a, b": it has ");
+    let c = message_lines::add_herds(&mut line, b, count);
+    let d = message_lines::add(&mut line, c, b", and a step takes a file of one herd\n");
+    say(&line, d);
+    Ended::Failed
+}
+
 // That the option --cooperative takes larger files.
 pub fn larger() {
     let mut line = message_lines::room();
@@ -59,7 +81,8 @@ pub fn screened(name: usize, is_above: bool, grams: u64, count: usize) {
     let c = message_lines::add(&mut line, b, b": ");
     let d = message_lines::add_above(&mut line, c, is_above, grams);
     let e = message_lines::add_herds(&mut line, d, count);
-    say(&line, e);
+    let f = message_lines::add(&mut line, e, b" added up\n");
+    say(&line, f);
 }
 
 pub fn unread() -> Ended {

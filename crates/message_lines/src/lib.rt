@@ -137,11 +137,11 @@ pub fn add_above(line: &mut [u8], at: usize, is_above: bool, grams: u64) -> usiz
     add(line, b, b" g of NH3-N a year: ")
 }
 
-// How many herds were added up.
+// So many herds.
 pub fn add_herds(line: &mut [u8], at: usize, count: usize) -> usize {
     let a = add_number(line, at, count as u64);
     if count == 1 {
-        return add(line, a, b" herd added up\n");
+        return add(line, a, b" herd");
     }
-    add(line, a, b" herds added up\n")
+    add(line, a, b" herds")
 }

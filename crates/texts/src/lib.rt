@@ -79,7 +79,7 @@ pub const LARGER: [u8; 58] = *b"\
 ";
 
 // The pages of help, one for each command.
-pub const PAGES: [u8; 7808] = *b"\
+pub const PAGES: [u8; 8443] = *b"\
 usage: urvendlo [COMMAND] [OPTION..] [FILE]\n\
 \n\
 Reads a farm file, which is FILE or standard input (also as -), and prints\n\
@@ -92,6 +92,7 @@ Reads a farm file, which is FILE or standard input (also as -), and prints\n\
 \x20 why      why each yard has its share on days with both yard and pasture\n\
 \x20 line     whether the farm's ammonia is above so many grams, yes or no\n\
 \x20 write    the farm as a clean file: its inputs in the order of the list\n\
+\x20 edit     the farm's totals after each step: a herd is added, replaced, removed\n\
 \x20 gate     the days and hours of a pasture gate's log, read in place of a farm\n\
 \x20 mend     the file without what spreadsheets do to it\n\
 \x20 changes  what mending changes in the file\n\
@@ -180,6 +181,16 @@ than 262,144 bytes it is refused with 1. A file that a spreadsheet spoiled is\n\
 mended first.\n\
 \n\
 \x20 $ urvendlo mend farm.csv | urvendlo write -o farm.csv\n\
+usage: urvendlo edit [-o FILE] [--cooperative] FARM STEP..\n\
+\n\
+A STEP is `add HERDFILE`, `replace HERDFILE` or `remove LABEL`. HERDFILE is a\n\
+farm file of one herd; it is added as the last, or put in the place of the herd\n\
+that has its label. After each step the farm's totals, 18 lines. A refused step\n\
+gets the line refused,NUMBER,RECORD and changes nothing, and the next ones go\n\
+on; standard error has it in words. The status is 1 where a step was refused.\n\
+\n\
+\x20 $ urvendlo edit examples/farm.csv add examples/edit/calves.csv\n\
+\x20 ,Livestock,n_excretion,3831.000\n\
 usage: urvendlo gate [-o FILE] [LOG]\n\
 \n\
 LOG has a record a day of one year: date, hours on pasture, hours on the yard.\n\
@@ -254,30 +265,31 @@ usage: urvendlo version\n\
 The commit of this program, and the kit that proves it, where there is one.\n\
 ";
 
-pub const PAGES_STARTS: [usize; 19] = [
+pub const PAGES_STARTS: [usize; 20] = [
     0,
-    2272,
-    2752,
-    3105,
-    3361,
-    3610,
-    3954,
-    4406,
-    4851,
-    5083,
-    5366,
-    5613,
-    5897,
-    6246,
-    6624,
-    6933,
-    7436,
-    7707,
-    7808,
+    2353,
+    2833,
+    3186,
+    3442,
+    3691,
+    4035,
+    4487,
+    4932,
+    5486,
+    5718,
+    6001,
+    6248,
+    6532,
+    6881,
+    7259,
+    7568,
+    8071,
+    8342,
+    8443,
 ];
 
 // The commands' names, by the numbers of their pages.
-pub const NAMES: [u8; 103] = *b"\
+pub const NAMES: [u8; 107] = *b"\
 help\
 figures\
 notes\
@@ -286,6 +298,7 @@ chart\
 why\
 line\
 write\
+edit\
 gate\
 mend\
 changes\
@@ -298,7 +311,7 @@ uninstall\
 version\
 ";
 
-pub const NAMES_STARTS: [usize; 19] = [
+pub const NAMES_STARTS: [usize; 20] = [
     0,
     4,
     11,
@@ -310,14 +323,15 @@ pub const NAMES_STARTS: [usize; 19] = [
     37,
     41,
     45,
-    52,
-    59,
-    67,
-    73,
-    80,
-    87,
-    96,
-    103,
+    49,
+    56,
+    63,
+    71,
+    77,
+    84,
+    91,
+    100,
+    107,
 ];
 
 // The numbers of the pages, and the last of them.
@@ -337,24 +351,26 @@ pub const LINE: usize = 6;
 
 pub const WRITE: usize = 7;
 
-pub const GATE: usize = 8;
+pub const EDIT: usize = 8;
 
-pub const MEND: usize = 9;
+pub const GATE: usize = 9;
 
-pub const CHANGES: usize = 10;
+pub const MEND: usize = 10;
 
-pub const EXPLAIN: usize = 11;
+pub const CHANGES: usize = 11;
 
-pub const TEMPLATE: usize = 12;
+pub const EXPLAIN: usize = 12;
 
-pub const INPUTS: usize = 13;
+pub const TEMPLATE: usize = 13;
 
-pub const OUTPUTS: usize = 14;
+pub const INPUTS: usize = 14;
 
-pub const INSTALL: usize = 15;
+pub const OUTPUTS: usize = 15;
 
-pub const UNINSTALL: usize = 16;
+pub const INSTALL: usize = 16;
 
-pub const VERSION: usize = 17;
+pub const UNINSTALL: usize = 17;
 
-pub const PAGE_LAST: usize = 17;
+pub const VERSION: usize = 18;
+
+pub const PAGE_LAST: usize = 18;

@@ -1,5 +1,6 @@
 // The program: urvendlo [--status-fd N] [COMMAND] [NAME]. The file is standard input, and NAME is for messages alone;
-// with --cooperative before or behind it, NAME is the file, which is opened and may be larger. Standard output has what
+// with --cooperative before or behind it, NAME is the file, which is opened and may be larger. Of edit, whose option
+// stands in front, NAME is given always, and the steps behind it. Standard output has what
 // the command prints, or the refusal's line. Standard error has what is to be said of it, in whole lines. How the run
 // ended goes as one digit, after all output, to the descriptor that --status-fd names.
 mod runs; // what each command does
@@ -130,6 +131,62 @@ fn run_line(command: usize) -> Ended {
     run_line_at(false, command, next)
 }
 
+// Is it a word that says a step?
+fn is_step(at: usize) -> bool {
+    asked::is_add(at) || asked::is_replace(at) || asked::is_remove(at)
+}
+
+// What is wrong with the word at `at`, of which there are so many from there on.
+fn no_step(at: usize, left: usize) -> Ended {
+    if left == 1 && is_step(at) {
+        return messages::misused(b"nothing stands behind the step ", at);
+    }
+    messages::misused(b"no step, which is add, replace or remove: ", at)
+}
+
+// Where the first word stands that is no step, or past all words: a step is a word and another behind it.
+fn after_steps(first: usize) -> usize {
+    let mut at = first;
+    let mut left = asked::count_from(first);
+    while 1 < left {
+        if !is_step(at) {
+            return at;
+        }
+        at = asked::after(asked::after(at));
+        left -= 2;
+    }
+    at
+}
+
+fn run_edit_of(cooperative: bool, name: usize) -> Ended {
+    let first = asked::after(name);
+    let end = after_steps(first);
+    if asked::is_past(first) {
+        return messages::misused(b"edit takes a farm file and steps", first);
+    }
+    if !asked::is_past(end) {
+        return no_step(end, asked::count_from(end));
+    }
+    if asked::is_too_long(name) {
+        return messages::misused(b"the name has more than 4,096 bytes", end);
+    }
+    if !cooperative {
+        return runs::of_edit(name);
+    }
+    if asked::is_input(name) {
+        return messages::misused(b"--cooperative takes the name of a file, and not ", name);
+    }
+    runs::of_cooperative_edit(name)
+}
+
+// The farm's file and the steps, with --cooperative in front of them or without.
+fn run_edit(next: usize) -> Ended {
+    if asked::is_cooperative(next) {
+        return run_edit_of(true, asked::after(next));
+    }
+    run_edit_of(false, next)
+}
+
 fn run_help(next: usize) -> Ended {
     if asked::is_past(next) {
         return messages::help(texts::HELP);
@@ -153,6 +210,7 @@ fn run_command(command: Command, at: usize) -> Ended {
         Command::Why => run_why(at),
         Command::Line => run_line(at),
         Command::Write => run_view(View::File, at, next),
+        Command::Edit => run_edit(next),
         Command::Gate => run_job(Job::Log, at, next),
         Command::Mend => run_job(Job::Mend, at, next),
         Command::Changes => run_job(Job::Changes, at, next),

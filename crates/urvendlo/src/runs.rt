@@ -4,10 +4,8 @@ use above_line::LineAnswer;
 use console::Ended;
 use console::messages;
 use console::named;
-use farm::Refusal;
+use editing::Edited;
 use gate::LogAnswer;
-use gate_days::LogRefusal;
-use hints::Input;
 use limits::Source;
 use printing::Printed;
 use printing::input;
@@ -26,50 +24,16 @@ pub enum Question {
     Line(u64, bool),
 }
 
-// The command `mend`, where it helps a refused file.
-fn hint(kind: Input, s: &[u8], name: usize) -> Ended {
-    let changes = hints::hint(kind, s);
-    if changes > 0 {
-        messages::hinted(name, changes);
-    }
-    Ended::Refused
-}
-
-// The option --cooperative, where a farm file is too large without it.
-fn tell_larger(number: u64) {
-    if number == refusal_numbers::number_of(Refusal::FileTooLong) {
-        messages::larger();
-    }
-    if number == refusal_numbers::number_of(Refusal::NoRoomForHerd) {
-        messages::larger();
-    }
-}
-
-fn tell_if_larger(source: Source, number: u64) {
-    match source {
-        Source::StandardInput => tell_larger(number),
-        Source::Cooperative => {}
-    }
-}
-
-// A refused file: the refusal in words, and what may help.
-fn farm_refused(source: Source, s: &[u8], name: usize, refusal: Refusal, record: usize) -> Ended {
-    let number = refusal_numbers::number_of(refusal);
-    messages::refused(source, name, number, record);
-    tell_if_larger(source, number);
-    hint(Input::Farm(source), s, name)
-}
-
-fn log_refused(s: &[u8], name: usize, refusal: LogRefusal, record: usize) -> Ended {
-    let number = gate_days::faults::number_of(refusal);
-    messages::refused(Source::StandardInput, name, number, record);
-    hint(Input::Log, s, name)
-}
-
 fn answer_view(view: View, source: Source, s: &[u8], name: usize) -> Ended {
     match printing::print_view(view, source, s) {
         Printed::Listed => Ended::Printed,
-        Printed::Refused(refusal, record) => farm_refused(source, s, name, refusal, record),
+        Printed::Refused(refusal, record) => refused_input::of_farm(
+            source,
+            s,
+            name,
+            refusal,
+            record,
+        ),
         Printed::Broken => messages::unwritten(),
     }
 }
@@ -99,7 +63,13 @@ fn end_line(
 ) -> Ended {
     match ended {
         LineAnswer::Screened(above) => tell_if_asked(in_words, above, line, name),
-        LineAnswer::Refused(refusal, record) => farm_refused(source, s, name, refusal, record),
+        LineAnswer::Refused(refusal, record) => refused_input::of_farm(
+            source,
+            s,
+            name,
+            refusal,
+            record,
+        ),
     }
 }
 
@@ -167,6 +137,50 @@ pub fn of_cooperative(question: Question, name: usize) -> Ended {
     }
 }
 
+// Where messages look for the name: a word that says standard input is none, and there is none at the largest number.
+fn name_or_none(word: usize) -> usize {
+    if asked::is_input(word) {
+        return usize::MAX;
+    }
+    word
+}
+
+// The farm on standard input; a word that says so is not its name.
+fn open_input(name: usize) -> Edited {
+    let mut file = farm_room();
+    match input::read_file(&mut file) {
+        Outcome::Whole(n) => editing::open(
+            Source::StandardInput,
+            base::part_of(&file, 0, n),
+            name_or_none(name),
+        ),
+        Outcome::Broken => editing::none(messages::unread()),
+    }
+}
+
+// A cooperative's farm, by its name.
+fn open_cooperative(name: usize) -> Edited {
+    let mut file = cooperative_room();
+    match read_cooperative(name, &mut file) {
+        Outcome::Whole(n) => editing::open(Source::Cooperative, base::part_of(&file, 0, n), name),
+        Outcome::Broken => editing::none(Ended::Failed),
+    }
+}
+
+// The steps that stand behind the farm's name; the farm is on standard input.
+pub fn of_edit(name: usize) -> Ended {
+    editing::run(open_input(name), Source::StandardInput, asked::after(name))
+}
+
+// The same of a cooperative's farm.
+pub fn of_cooperative_edit(name: usize) -> Ended {
+    editing::run(
+        open_cooperative(name),
+        Source::Cooperative,
+        asked::after(name),
+    )
+}
+
 // One byte more than a log may have, so that a longer one is seen.
 const LOG_INPUT_MOST: usize = gate::LOG_MOST + 1;
 
@@ -181,7 +195,7 @@ fn read_log(log: &mut [u8]) -> Outcome
 fn end_log(answer: LogAnswer, s: &[u8], name: usize) -> Ended {
     match answer {
         LogAnswer::Gives(_) => Ended::Printed,
-        LogAnswer::Refused(refusal, record) => log_refused(s, name, refusal, record),
+        LogAnswer::Refused(refusal, record) => refused_input::of_log(s, name, refusal, record),
     }
 }
 
