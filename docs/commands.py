@@ -7,6 +7,7 @@ the command takes, and the page of `help` what it does in a few words.
 import re
 from collections import namedtuple
 from functools import cache
+from itertools import takewhile
 
 from common import ROOT, faults
 
@@ -41,7 +42,7 @@ def help_pages():
 
 Command = namedtuple("Command", "name is_of_launcher options operands says")
 Option = namedtuple("Option", "name argument")
-USAGE = re.compile(r"usage: urvendlo \[?([a-z]+)\]?((?: .*)?)\n")
+USAGE = re.compile(r"usage: urvendlo \[?([a-z]+)\]?((?: .*)?)")
 
 
 @cache
@@ -60,12 +61,17 @@ def listed(begin):
     return {word: " ".join(said.split()) for word, said in rows}
 
 
+def usage_of(page):
+    """The first paragraph of a page; a usage that is too long for a line goes on in the next."""
+    return " ".join(line.strip() for line in takewhile(str.strip, page.lines))
+
+
 def taken(name, page):
     """The options and the operands of a usage, `[-o FILE] GRAMS [FILE | --cooperative FILE]`; help's names a command.
 
     An option beside an operand, as the last one, has no argument of its own.
     """
-    usage = USAGE.match(page.lines[0])
+    usage = USAGE.fullmatch(usage_of(page))
     if name != "help" and (not usage or usage[1] != name):
         faults.append(f"{HELP}: the page of {name} does not begin with its usage")
         return [], []

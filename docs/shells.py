@@ -5,7 +5,7 @@ They stand in share/, and `./urvendlo install` puts them in place.
 
 import re
 
-from commands import HELP, commands, help_pages, listed
+from commands import HELP, commands, help_pages, listed, usage_of
 from common import ROOT
 
 SHARE = ROOT / "share"
@@ -25,7 +25,7 @@ def manual():
     sections = {"DESCRIPTION": [], "OPTIONS": [], "EXIT STATUS": [], "NOTES": []}
     for lines in others:
         sections[section(lines)] += definitions(lines) if lines[0].startswith("  ") else prose(lines)
-    usages = [line.removeprefix("usage: ") for name in help_pages() for line in paragraphs(name)[0]]
+    usages = [usage_of(page).removeprefix("usage: ") for page in help_pages().values()]
     pages = [line for name in help_pages() if name != "help" for line in command_page(name)]
     parts = [
         f'.\\" {MADE}',

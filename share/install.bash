@@ -4,7 +4,7 @@
 own=lib/urvendlo
 
 # What goes with the program into that tree, where it is there: files, and folders with their files.
-goes_along=(urvendlo docs/help.txt docs/refusals.txt share/install.bash LICENSE chart advice report)
+goes_along=(urvendlo docs/help.txt docs/refusals.txt share/install.bash LICENSE chart advice)
 
 # The files that are put in place: each file here, a tab, and its name below the prefix.
 to_install() {

@@ -6,7 +6,7 @@ _urvendlo_words() { # WHAT BEGIN
     nothing) ;;
     files) compgen -f -- "$2" ;;
     folders) compgen -d -- "$2" ;;
-    commands) compgen -W 'help figures notes cuts chart why line write edit gate mend changes explain template inputs outputs install uninstall version' -- "$2" ;;
+    commands) compgen -W 'help figures notes cuts chart report why line write edit gate mend changes explain template inputs outputs install uninstall version' -- "$2" ;;
     *) compgen -W "$1" -- "$2" ;;
     esac
 }
@@ -15,6 +15,8 @@ _urvendlo_words() { # WHAT BEGIN
 _urvendlo_behind() { # OPTION
     behind=
     case $1 in
+    --by) behind='file ammonia' ;;
+    --language) behind='en de fr' ;;
     -o) behind=files ;;
     esac
 }
@@ -26,7 +28,8 @@ _urvendlo_of() { # COMMAND
     figures) flags='-o --cooperative --help' places=(files nothing) ;;
     notes) flags='-o --cooperative --help' places=(files nothing) ;;
     cuts) flags='-o --cooperative --help' places=(files nothing) ;;
-    chart) flags='-o --cooperative --help' places=(files nothing) ;;
+    chart) flags='--by --language -o --cooperative --help' places=(files nothing) ;;
+    report) flags='--by --language -o --cooperative --help' places=(files nothing) ;;
     why) flags='--words -o --cooperative --help' places=(files nothing) ;;
     line) flags='--words -o --cooperative --help' places=(nothing files nothing) ;;
     write) flags='-o --cooperative --help' places=(files nothing) ;;

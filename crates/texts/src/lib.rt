@@ -79,7 +79,7 @@ pub const LARGER: [u8; 58] = *b"\
 ";
 
 // The pages of help, one for each command.
-pub const PAGES: [u8; 8443] = *b"\
+pub const PAGES: [u8; 9329] = *b"\
 usage: urvendlo [COMMAND] [OPTION..] [FILE]\n\
 \n\
 Reads a farm file, which is FILE or standard input (also as -), and prints\n\
@@ -89,6 +89,7 @@ Reads a farm file, which is FILE or standard input (also as -), and prints\n\
 \x20 notes    each herd's notes, yes or no, on what an adviser should look at\n\
 \x20 cuts     what each division that is rounded down cut off, and its divisor\n\
 \x20 chart    the figures as a picture, an SVG\n\
+\x20 report   a page to read, print or send: picture, figures, notes, reasons\n\
 \x20 why      why each yard has its share on days with both yard and pasture\n\
 \x20 line     whether the farm's ammonia is above so many grams, yes or no\n\
 \x20 write    the farm as a clean file: its inputs in the order of the list\n\
@@ -110,6 +111,10 @@ Reads a farm file, which is FILE or standard input (also as -), and prints\n\
 \x20          leaves FILE as it was\n\
 \x20 --words  of the command why: sentences in place of records; of line: a\n\
 \x20          sentence on standard error, too\n\
+\x20 --by X   of chart and report: the herds as in the file (file), or those with\n\
+\x20          the most ammonia first (ammonia)\n\
+\x20 --language L\n\
+\x20          of chart and report: en, de or fr\n\
 \x20 --cooperative\n\
 \x20          of commands whose usage names it: FILE, which has to be named, may\n\
 \x20          have up to 262,144 bytes and 512 herds; else 65,536 and 64\n\
@@ -148,12 +153,24 @@ and the divisor.\n\
 \n\
 \x20 $ urvendlo cuts examples/odd.csv\n\
 \x20 Heifers,Livestock::OtherCattle::Excretion,tan_excretion,0,10000\n\
-usage: urvendlo chart [-o FILE] [FILE | --cooperative FILE]\n\
+usage: urvendlo chart [--by file|ammonia] [--language en|de|fr] [-o FILE]\n\
+\x20                     [FILE | --cooperative FILE]\n\
 \n\
-The figures as an SVG, which any browser shows: of each herd a bar of its\n\
-nitrogen and a bar of its ammonia, by place. It needs Python 3.\n\
+The figures as an SVG, which any browser shows, and prints on pages of A4: of\n\
+each herd a bar of its nitrogen by place, and in it the ammonia, all on one\n\
+scale. It needs Python 3.\n\
 \n\
 \x20 $ urvendlo chart -o farm.svg examples/farm.csv\n\
+usage: urvendlo report [--by file|ammonia] [--language en|de|fr] [-o FILE]\n\
+\x20                      [FILE | --cooperative FILE]\n\
+\n\
+One page of HTML with nothing to fetch, to be read, printed on A4 or sent: the\n\
+picture, the farm's totals, each herd's figures by plain names, its notes and\n\
+the reason for its yard's share, where the odd grams went, which file, when and\n\
+by which version. A refused file gets the page that explains its refusal. It\n\
+needs Python 3.\n\
+\n\
+\x20 $ urvendlo report --language de examples/farm.csv > farm.html\n\
 usage: urvendlo why [--words] [-o FILE] [FILE | --cooperative FILE]\n\
 \n\
 A line a herd with a yard: LABEL, the reason (no_such_days, not_available,\n\
@@ -265,36 +282,38 @@ usage: urvendlo version\n\
 The commit of this program, and the kit that proves it, where there is one.\n\
 ";
 
-pub const PAGES_STARTS: [usize; 20] = [
+pub const PAGES_STARTS: [usize; 21] = [
     0,
-    2353,
-    2833,
-    3186,
-    3442,
-    3691,
-    4035,
-    4487,
-    4932,
-    5486,
-    5718,
-    6001,
-    6248,
-    6532,
-    6881,
-    7259,
-    7568,
-    8071,
-    8342,
-    8443,
+    2611,
+    3091,
+    3444,
+    3700,
+    4055,
+    4577,
+    4921,
+    5373,
+    5818,
+    6372,
+    6604,
+    6887,
+    7134,
+    7418,
+    7767,
+    8145,
+    8454,
+    8957,
+    9228,
+    9329,
 ];
 
 // The commands' names, by the numbers of their pages.
-pub const NAMES: [u8; 107] = *b"\
+pub const NAMES: [u8; 113] = *b"\
 help\
 figures\
 notes\
 cuts\
 chart\
+report\
 why\
 line\
 write\
@@ -311,27 +330,28 @@ uninstall\
 version\
 ";
 
-pub const NAMES_STARTS: [usize; 20] = [
+pub const NAMES_STARTS: [usize; 21] = [
     0,
     4,
     11,
     16,
     20,
     25,
-    28,
-    32,
-    37,
-    41,
-    45,
-    49,
-    56,
-    63,
-    71,
+    31,
+    34,
+    38,
+    43,
+    47,
+    51,
+    55,
+    62,
+    69,
     77,
-    84,
-    91,
-    100,
-    107,
+    83,
+    90,
+    97,
+    106,
+    113,
 ];
 
 // The numbers of the pages, and the last of them.
@@ -345,32 +365,34 @@ pub const CUTS: usize = 3;
 
 pub const CHART: usize = 4;
 
-pub const WHY: usize = 5;
+pub const REPORT: usize = 5;
 
-pub const LINE: usize = 6;
+pub const WHY: usize = 6;
 
-pub const WRITE: usize = 7;
+pub const LINE: usize = 7;
 
-pub const EDIT: usize = 8;
+pub const WRITE: usize = 8;
 
-pub const GATE: usize = 9;
+pub const EDIT: usize = 9;
 
-pub const MEND: usize = 10;
+pub const GATE: usize = 10;
 
-pub const CHANGES: usize = 11;
+pub const MEND: usize = 11;
 
-pub const EXPLAIN: usize = 12;
+pub const CHANGES: usize = 12;
 
-pub const TEMPLATE: usize = 13;
+pub const EXPLAIN: usize = 13;
 
-pub const INPUTS: usize = 14;
+pub const TEMPLATE: usize = 14;
 
-pub const OUTPUTS: usize = 15;
+pub const INPUTS: usize = 15;
 
-pub const INSTALL: usize = 16;
+pub const OUTPUTS: usize = 16;
 
-pub const UNINSTALL: usize = 17;
+pub const INSTALL: usize = 17;
 
-pub const VERSION: usize = 18;
+pub const UNINSTALL: usize = 18;
 
-pub const PAGE_LAST: usize = 18;
+pub const VERSION: usize = 19;
+
+pub const PAGE_LAST: usize = 19;
