@@ -4,10 +4,10 @@
     chart/page.py [--by file|ammonia] [--language en|de|fr] [--file FILE] [--version VERSION] FOLDER > PAGE
 
 FOLDER has the farm file as it was read, `farm`, and what the program printed for it, a file a view: `figures`, `notes`,
-`cuts`, `why` and `words`; of a refused file `figures` alone, which is then the refusal's line, `said`, which is what the
-program said on standard error, and `advice`, the same in richer words where there are any. The page goes to standard
-output: one file, with no script, and nothing is fetched. The status is 0 where all was written, else 2, with a message
-on standard error.
+`cuts`, `why` and `words`; of a refused file `figures` alone, which is then the refusal's line, `said`, which is what
+the program said on standard error, and `advice`, the same in richer words where there are any. The page goes to
+standard output: one file, with no script, and nothing is fetched. The status is 0 where all was written, else 2, with a
+message on standard error.
 """
 
 import argparse

@@ -1,11 +1,16 @@
-"""The words of a language, from the one table of words, chart/words.txt."""
+"""The words of a language, from the one table of words, chart/words.txt.
 
+The English words of refusals, kinds and outputs are those of docs/refusals.txt and docs/meanings.txt.
+"""
+
+import json
 import re
 from pathlib import Path
 
 ROOT = Path(__file__).resolve().parent.parent
 TABLE = Path(__file__).resolve().parent / "words.txt"
 REFUSALS = ROOT / "docs" / "refusals.txt"
+MEANINGS = ROOT / "advice" / "lists.json"  # made from docs/meanings.txt
 
 ENGLISH = "en"
 LANGUAGES = (ENGLISH, "de", "fr")
@@ -39,10 +44,22 @@ def refusals(text):
     return {f"refusal {number}": LIMIT.sub(r"{\1}", words) for number, words, _ in found}
 
 
+def meanings(lists):
+    """The English words of the kinds, by the parts of their paths, and of the outputs that are listed."""
+    kinds = {f"kind {kind['path'].split('::')[1]}": kind["what"] for kind in lists["kinds"]}
+    return {**kinds, **{f"output {output['name']}": output["means"] for output in lists["outputs"]}}
+
+
+def of_lists():
+    """The English words that other lists have."""
+    in_lists = json.loads(MEANINGS.read_text(encoding="utf-8"))
+    return {**refusals(REFUSALS.read_text(encoding="utf-8")), **meanings(in_lists)}
+
+
 def table():
     """Of each key its words by language."""
     found = rows(TABLE.read_text(encoding="utf-8"))
-    for key, words in refusals(REFUSALS.read_text(encoding="utf-8")).items():
+    for key, words in of_lists().items():
         found.setdefault(key, {}).setdefault(ENGLISH, words)
     return found
 

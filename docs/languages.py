@@ -8,7 +8,9 @@ is a key.
 import re
 import sys
 
+from commands import HELP, commands
 from common import CRATES, ROOT, faults
+from meanings import MEANINGS
 from sources import COOPERATIVE, LIMITS, WORDS, cut_names, definitions, limit, output_names, refusal_rows, texts, totals
 
 CHART = ROOT / "chart"
@@ -29,9 +31,9 @@ def check_words():
         return
     for key, said in table.items():
         check_row(key, said)
-    for key in words.refusals(words.REFUSALS.read_text(encoding="utf-8")):
+    for key in words.of_lists():
         if words.ENGLISH in own.get(key, {}):
-            faults.append(f"chart/words.txt: `{key}` has English words, which docs/refusals.txt has")
+            faults.append(f"chart/words.txt: `{key}` has English words, which docs/refusals.txt or {MEANINGS} has")
     check_keys(set(table))
     check_launcher()
 
@@ -78,7 +80,10 @@ def check_keys(keys):
 
 
 def check_launcher():
-    """The languages, and the longest file, of which a report has a copy, stand in the launcher, too."""
+    """The languages, and the longest file, of which a report has a copy, stand in the launcher and in the help, too."""
+    said = {option.argument for of in commands() for option in of.options if option.name == "--language"}
+    if said != {"|".join(words.LANGUAGES)}:
+        faults.append(f"{HELP}: the languages of a usage are not those of chart/words.py")
     launcher = (ROOT / "urvendlo").read_text()
     found = re.search(r"^languages='([a-z ]+)'", launcher, re.M)
     if not found or tuple(found[1].split()) != words.LANGUAGES:
