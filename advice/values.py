@@ -127,6 +127,10 @@ def better_number(text, form):
 
 # ---- names
 
+NEAR = 0.75  # so much of two words has to be the same
+LEAD = 0.05  # and so much less of any other
+FEW = 3  # a word of fewer letters begins too much
+
 
 def better_name(text, names):
     """The name that is meant: the same but for blanks, letter case and what joins words, or the nearest; or None."""
@@ -138,9 +142,20 @@ def better_name(text, names):
         found = [name for name in names if change(name) == change(text)]
         if len(found) == 1:
             return found[0], words
-    near = difflib.get_close_matches(text.lower(), [name.lower() for name in names], 1)
-    found = [name for name in names if name.lower() in near]
-    return (found[0], "it is the nearest that there is") if found else None
+    found = nearest(text.lower(), names)
+    return (found, "it is the nearest that there is") if found else None
+
+
+def nearest(text, names):
+    """The one name that begins so, or the one that is nearest by far; None where there is no such one, since a wrong
+    name would say something else of the herd."""
+    begun = [name for name in names if len(text) >= FEW and name.lower().startswith(text)]
+    if begun:
+        return begun[0] if len(begun) == 1 else None
+    alike = {name: difflib.SequenceMatcher(None, text, name.lower()).ratio() for name in names}
+    first, *others = sorted(names, key=alike.get, reverse=True)
+    by_far = all(alike[other] < alike[first] - LEAD for other in others)
+    return first if by_far and alike[first] >= NEAR else None
 
 
 # ---- what else may stand there

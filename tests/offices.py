@@ -40,6 +40,10 @@ DAYS = "it may be 0 to 365, a whole number (refusal 7)"
 TAN = "it may be 0 to 100, up to 2 decimals (refusal 7)"
 FLOOR = "solid_floor, unpaved_floor, perforated_floor, paddock_or_pasture_used_as_exercise_yard"
 FLOORS = f"it may be one of {FLOOR} (refusal 7)"
+YARD, CUT_SHORT = b"available_roughage_is_exclusively_supplied_in_the_exercise_yard", b"available_rough"
+YARDS = "it may be one of not_available, " + ", ".join(
+    f"available_roughage_is_{much}_supplied_in_the_exercise_yard" for much in ("not", "partly", "exclusively")
+) + " (refusal 7)"
 SAVED = "open it in the program that made it, and save the sheet as CSV with commas"
 HEADLESS = "take the first line out: a farm file has no header"
 ENDS = "it ends in LF alone; a record ends in CR and LF (refusal 2)"
@@ -145,6 +149,8 @@ OFFICE = (
     ("letter case of an input", changed(b"animals", b"Animals"),
      f"record 1: Livestock::OtherCattle::Excretion has no input Animals; {EXCRETION}",
      "write animals: letter case counts"),
+    ("a name cut short, as three begin", changed(YARD, CUT_SHORT),
+     f"record 5: exercise_yard is {CUT_SHORT.decode()}; {YARDS}"),
     ("letter case of a value", changed(b"unpaved_floor", b"Unpaved_Floor"),
      f"record 6: floor_properties_exercise_yard is Unpaved_Floor; {FLOORS}",
      "write unpaved_floor: letter case counts"),

@@ -1,6 +1,6 @@
--- 02, W11, Refusals: "in order: 01's for a farm record, 16 a stored total beyond 10,000,000,000,000 grams above or below
--- zero, 4 bad label, 15 label not present (replace, remove), 8 label present (add), 9 farm full (add), 12, 7 (add,
--- replace); record 0 in all." To be believed.
+-- 02, W11, Refusals: "in order: 01's for a farm record, 16 a stored total beyond 10,000,000,000,000 grams above or
+-- below zero, 4 bad label, 15 label not present (replace, remove), 8 label present (add), 9 farm full (add), 12, 7
+-- (add, replace); record 0 in all." To be believed.
 use Prim.Native.Nat.{ℕ, min}
 use mathlib.Core.Bool.{Bool, true, false, not, _&&_, _||_}
 use mathlib.Core.List.{List, [], _∷_}

@@ -1,7 +1,7 @@
 -- What the calls that write what a file's farm has are to do, said by the rules that the file keeps or breaks (crate
 -- `rules_theorems`) and not by how it is read: the first refusal, or what the view lists of the herds that its records
--- say, or their totals; and where the view is a file that would be too long, refusal 1. proofs/Files.antt shows that the
--- calls do exactly that. To be believed.
+-- say, or their totals; and where the view is a file that would be too long, refusal 1. proofs/Files.antt shows that
+-- the calls do exactly that. To be believed.
 use Prim.Native.Nat.{ℕ, suc, _≤_, _<_}
 use mathlib.Core.Path.{_≡_}
 use mathlib.Core.List.{List, [], _∷_, _++_, map}

@@ -1,5 +1,5 @@
-// The herd that a step is handed: the one of a file, or for a removal the label alone. Where there is none, that is printed
-// and said.
+// The herd that a step is handed: the one of a file, or for a removal the label alone. Where there is none, that is
+// printed and said.
 use console::Ended;
 use console::messages;
 use console::named;

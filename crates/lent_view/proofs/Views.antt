@@ -1,6 +1,6 @@
 -- What a view lists of a slice of herds and a count: the first refusal that applies to them, then 1, then 13, and
--- nothing is written; or the view of the first `count` herds. There is one result, and what stands behind the count says
--- nothing. Assumes nothing.
+-- nothing is written; or the view of the first `count` herds. There is one result, and what stands behind the count
+-- says nothing. Assumes nothing.
 use Prim.Native.Nat.{ℕ, _≤_, _<_}
 use mathlib.Core.Path.{_≡_, refl, sym, ap, _∙_}
 use mathlib.Core.List.{List, _++_}

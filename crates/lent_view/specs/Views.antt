@@ -1,6 +1,6 @@
--- 02, W5 and W12: what the call on a farm's record gives in a view, by a slice of herds and a count: what the view lists
--- of the farm of the first `count` herds. And the same by the refusals that apply to the slice and the count (crate
--- `farm_calls`): these first, then 1, then 13; proofs/Views.antt shows that it is that. To be believed.
+-- 02, W5 and W12: what the call on a farm's record gives in a view, by a slice of herds and a count: what the view
+-- lists of the farm of the first `count` herds. And the same by the refusals that apply to the slice and the count
+-- (crate `farm_calls`): these first, then 1, then 13; proofs/Views.antt shows that it is that. To be believed.
 use Prim.Native.Nat.{ℕ, _≤_, _<_}
 use mathlib.Core.Path.{_≡_}
 use mathlib.Core.List.{List, _++_}

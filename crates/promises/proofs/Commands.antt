@@ -112,7 +112,8 @@ pub prints-records : (source : Source) (t : Recorded) {s : List ℕ} {f : Farm} 
 prints-records source t {s} k =
     let hs = k .says .herds in
     let good = accepted-farm (farmOf hs) (accepted-passes source s (farmOf hs) (read-as source k)) .herds in
-    rw (printed-view source k (viewOf t) (unlimited t (viewText (viewOf t) hs))) (herds-read t (rw (herds-of hs) at good))
+    rw (printed-view source k (viewOf t) (unlimited t (viewText (viewOf t) hs)))
+    (herds-read t (rw (herds-of hs) at good))
 
 -- so it is a file of RFC 4180, of these records
 pub prints-a-file : (source : Source) (t : Recorded) {s : List ℕ} {f : Farm} (k : KeepsRules (allowed source) s f)

@@ -148,7 +148,8 @@ module _ (f : Farm) (room : ℕ) (t : Totals) (h : Herd) where
       (alone (fits-replaced f room t h Replace _ refl e refl)) (within-most t (s .within))
   after-most Remove e =
       let s = is-sound f room t h Remove _ refl e in
-      moved-to (named (h .label) (herdsOf f)) [] t (old h (farm-each f (s .accepted))) nobody (within-most t (s .within))
+      moved-to (named (h .label) (herdsOf f)) [] t (old h (farm-each f (s .accepted))) nobody
+      (within-most t (s .within))
 
 -- ---- their listing
 

@@ -1,5 +1,5 @@
--- The calls that give a farm its first book begin what is reached by steps: `empty_book`, and `read_book` of a file that
--- is accepted. Assumes nothing.
+-- The calls that give a farm its first book begin what is reached by steps: `empty_book`, and `read_book` of a file
+-- that is accepted. Assumes nothing.
 use Prim.Native.Nat.{ℕ}
 use mathlib.Core.Path.{_≡_, sym, ap, subst}
 use mathlib.Core.List.{List, []}

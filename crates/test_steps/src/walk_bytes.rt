@@ -1,6 +1,7 @@
-// A walk's bytes as records. Numbers have their lowest byte first. A walk is the length of the array, how many herds the
-// farm counts and how many stand there; the totals, each a byte that says 1 below zero and eight more; those herds; and
-// steps, a byte and a herd each. A herd is the length of its label, 16 bytes, its kind, and a form and a size a slot.
+// A walk's bytes as records. Numbers have their lowest byte first. A walk is the length of the array, how many herds
+// the farm counts and how many stand there; the totals, each a byte that says 1 below zero and eight more; those herds;
+// and steps, a byte and a herd each. A herd is the length of its label, 16 bytes, its kind, and a form and a size a
+// slot.
 use books::Step;
 use farm::Farm;
 use farm::Given;

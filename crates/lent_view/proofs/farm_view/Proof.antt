@@ -166,7 +166,8 @@ module _ {M : Type 1} (𝓤 : URA M) (H : Heap 𝓤) (A : Atoms 𝓤) (mem : Mem
         qed W (Left zs) ∵
         suffices ! _
         (ends-at 𝓤 H A f.ended stayed (f.clauses 𝓤 H A mem run) W (((κ, (κ′, tt)), (q, (q′, tt)), tt, a, at), tt) u t
-        (tt, (tt, (tt, (zs, tt)))) (tt, (tt, (tt, (l, tt))))) $ says ! e $ split ! $ move ! (0 ∷ 2 ∷ []) $ join ! $ frame ! $
+        (tt, (tt, (tt, (zs, tt)))) (tt, (tt, (tt, (l, tt))))) $ says ! e $ split ! $ move ! (0 ∷ 2 ∷ []) $ join ! $
+        frame ! $
         move ! (1 ∷ 0 ∷ []) $ fjoin ! $ owned ! usize (Is usize) (makes-word 𝓤 H A W) c _ (refl, gc) $ fjoin ! $
         move ! (1 ∷ 0 ∷ []) $ fjoin ! $ owned ! E (Is E) makes-view b _ gb $ fjoin ! $ frame ! $
         owned ! O (Is O) makes-written t _ is $ done !

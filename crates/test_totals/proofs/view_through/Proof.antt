@@ -180,7 +180,8 @@ module _ {M : Type 1} (𝓤 : URA M) (H : Heap 𝓤) (A : Atoms 𝓤) (mem : Mem
         suffices ! _
         (ends-at 𝓤 H A f.ended stayed (f.clauses 𝓤 H A mem run) W (((κ, tt), (q, tt), tt, a, at), tt) u t
         (tt, (tt, (tt, (zs, tt)))) (tt, (tt, (tt, (k, tt))))) $ says ! e $ frame ! $ nothing ! $ move ! (1 ∷ 0 ∷ []) $
-        fjoin ! $ nothing ! $ fjoin ! $ nothing ! $ fjoin ! $ nothing ! $ fjoin ! $ frame ! $ owned ! O (Is O) makes-written t _ is $ done !
+        fjoin ! $ nothing ! $ fjoin ! $ nothing ! $ fjoin ! $ nothing ! $ fjoin ! $ frame ! $
+        owned ! O (Is O) makes-written t _ is $ done !
 
     walk : (𝓣 : Tables 𝓤 H) → Triple 𝓤 (𝓣 .C #lent-view·farm-view) Lists
         → ent 𝓤 (onEntry 𝓤 H A f.signature (κ, tt) (q, tt) a at)
@@ -194,8 +195,8 @@ module _ {M : Type 1} (𝓤 : URA M) (H : Heap 𝓤) (A : Atoms 𝓤) (mem : Mem
         pass1 ! (init ! 14 refl (lawful-array 𝓤 H A W n .typed xs _ gx .0)) $
         pass1 ! (init ! 12 refl (tt, record { fits = gc })) $
         pass1 ! (init ! 10 refl (tt, (tt, (record { fits = go .0 }, tt)))) $ pass0 ! $
-        -- [_9; …; _8 at 2; _7 at 4; _6 at 6; _5 at 8; _4 at 10; _3 at 12; _2 at 14; _1 at 16; _0 at 18; the token at 20;
-        -- what the parameters own at 21]
+        -- [_9; …; _8 at 2; _7 at 4; _6 at 6; _5 at 8; _4 at 10; _3 at 12; _2 at 14; _1 at 16; _0 at 18; the token
+        -- at 20; what the parameters own at 21]
         assigns ! (of-opd ! (load ! (from ! (stop !)) (look ! 14 refl))) (from ! (stop !))
         (init ! 8 refl (lawful-array 𝓤 H A W n .typed xs _ gx .0)) $
         assigns ! (addr ! (from ! (stop !))) (from ! (stop !)) (init ! 6 refl (tt, tt)) $
@@ -219,8 +220,8 @@ module _ {M : Type 1} (𝓤 : URA M) (H : Heap 𝓤) (A : Atoms 𝓤) (mem : Mem
         -- [what out owns; true; the slice; the lender's part; ν's token at 4; _9 at 5; …; the token at 24]
         move ! (4 ∷ 24 ∷ []) $ join ! $ move ! (0 ∷ 3 ∷ 1 ∷ []) $
         use3 W (raw (Lists .pre (to-list l₅ ν δ))) (goes-list l₅ ν δ) $
-        -- [what `farm_view` asks; true; the lender's part; _9 at 3; _8 at 5; _7 at 7; _6 at 9; _5's end at 11; _4 at 12;
-        -- _3 at 14; _2 at 16; _1 at 18; _0 at 20]
+        -- [what `farm_view` asks; true; the lender's part; _9 at 3; _8 at 5; _7 at 7; _6 at 9; _5's end at 11; _4 at
+        -- 12; _3 at 14; _2 at 16; _1 at 18; _0 at 20]
         calls-at ! (fmOf 𝓤 H (W .laws) 𝓣) Lists known-list (to-list l₅ ν δ)
         (and-then ! (load ! (from ! (stop !)) (look ! 18 refl))
         (and-then ! (load ! (from ! (stop !)) (look ! 7 refl))
