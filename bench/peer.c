@@ -4,7 +4,7 @@
 //
 //   peer [LETTER]  one farm file; without a letter one on standard input
 //   peer cases     farm files one after the other, each behind its length in four bytes, the lowest first, and a
-//                  letter: for each what `figures`, `notes`, `cuts`, `why` and `why --words` print, as
+//                  letter: for each what `figures`, `notes`, `cuts`, `why`, `why --words` and `write` print, as
 //                  crates/test_vectors does
 //   peer repeat    a mode, a letter, how often in eight digits, and a farm file: repeats the work inside the process
 //                  and prints one checksum, as the program `bench_repeat` does. The mode is w for the whole job, r for
@@ -961,11 +961,14 @@ static uint8_t *list_farm(uint8_t *out) {
     return list_totals(out, &farm);
 }
 
+static uint8_t *put_refusal(uint8_t *out, struct refusal r) {
+    return out + sprintf((char *)out, "refused,%u,%u\r\n", r.number, r.record);
+}
+
 // What a file is answered with, into the output; the end of it.
 static uint8_t *put_answer(const uint8_t *file, size_t length, struct limits limits) {
     struct refusal r = read_farm(file, length, limits, &farm);
-    if (r.number) return output + sprintf((char *)output, "refused,%u,%u\r\n", r.number, r.record);
-    return list_farm(output);
+    return r.number ? put_refusal(output, r) : list_farm(output);
 }
 
 static void answer(const uint8_t *file, size_t length, struct limits limits) {
@@ -1021,8 +1024,99 @@ static void answer_with(uint8_t *put(uint8_t *, const struct herd *), const uint
                         struct limits limits) {
     struct refusal r = read_farm(file, length, limits, &farm);
     uint8_t *end = output;
-    if (r.number) end += sprintf((char *)output, "refused,%u,%u\r\n", r.number, r.record);
+    if (r.number) end = put_refusal(output, r);
     else for (uint32_t i = 0; i < farm.count; i++) end = put(end, &farm.herds[i]);
+    write_all(output, (size_t)(end - output));
+}
+
+// ---- the farm written as a file. Nothing of it is measured: `put_whole` is left to what is.
+
+#define EXCRETION_INPUTS(kind)                            \
+    "Livestock::" kind "::Excretion,animals",             \
+        "Livestock::" kind "::Excretion,inp_n_excretion", \
+        "Livestock::" kind "::Excretion,tan_fraction"
+
+#define OUTDOOR_INPUTS(kind)                                           \
+    "Livestock::" kind "::Outdoor,yard_days",                          \
+        "Livestock::" kind "::Outdoor,exercise_yard",                  \
+        "Livestock::" kind "::Outdoor,floor_properties_exercise_yard", \
+        "Livestock::" kind "::Outdoor,free_correction_factor",         \
+        "Livestock::" kind "::Outdoor,grazing_days",                   \
+        "Livestock::" kind "::Outdoor,grazing_hours"
+
+// The module and the name of each input of the list.
+static const char *const input_texts[] = {
+    "Livestock::RoughageConsuming::Excretion,animalcategory",
+    EXCRETION_INPUTS("RoughageConsuming"),
+    "Livestock::RoughageConsuming::Housing::CFreeFactor,free_correction_factor",
+    "Livestock::RoughageConsuming::Grazing,grazing_days",
+    "Livestock::RoughageConsuming::Grazing,grazing_hours",
+    EXCRETION_INPUTS("OtherCattle"),
+    OUTDOOR_INPUTS("OtherCattle"),
+    EXCRETION_INPUTS("FatteningPigs"),
+    "Livestock::FatteningPigs::Housing::Type,housing_type",
+    "Livestock::FatteningPigs::Housing::AirScrubber,air_scrubber",
+    "Livestock::FatteningPigs::Housing::MitigationOptions,mitigation_housing_floor",
+    "Livestock::FatteningPigs::Housing::MitigationOptions,mitigation_housing_air",
+    "Livestock::FatteningPigs::Housing::CFreeFactor,free_correction_factor",
+    EXCRETION_INPUTS("DairyCow"),
+    OUTDOOR_INPUTS("DairyCow"),
+};
+
+// The names of each form that has names.
+static const char *const value_names[][11] = {
+    [CATEGORY] = {"fallow_deer", "red_deer", "wapiti", "bison_older_than_3yr", "bison_younger_than_3yr",
+                  "lama_older_than_2yr", "lama_younger_than_2yr", "alpaca_older_than_2yr", "alpaca_younger_than_2yr",
+                  "rabbit_doe_kits", "rabbit_young"},
+    [YARD] = {"not_available", "available_roughage_is_not_supplied_in_the_exercise_yard",
+              "available_roughage_is_partly_supplied_in_the_exercise_yard",
+              "available_roughage_is_exclusively_supplied_in_the_exercise_yard"},
+    [FLOOR] = {"solid_floor", "unpaved_floor", "perforated_floor", "paddock_or_pasture_used_as_exercise_yard"},
+    [HOUSING] = {"Slurry_Conventional", "Slurry_Label", "Slurry_Label_Open", "Deep_Litter", [OUTDOOR_PIGS] = "Outdoor"},
+    [SCRUBBER] = {[NO_SCRUBBER] = "none", [ACID] = "acid", [BIOTRICKLING] = "biotrickling"},
+    [HOUSING_FLOOR] = {"none"},
+    [HOUSING_AIR] = {"none", "low_impuls_air_supply"},
+};
+
+// A number in units of its last decimal, without the zeros at the decimals' end.
+static uint8_t *put_shortest(uint8_t *out, uint32_t n, int decimals) {
+    for (; decimals > 0 && n % 10 == 0; decimals--) n /= 10;
+    uint32_t unit = 1;
+    for (int i = 0; i < decimals; i++) unit *= 10;
+    out += sprintf((char *)out, "%u", n / unit);
+    return decimals == 0 ? out : out + sprintf((char *)out, ".%0*u", decimals, n % unit);
+}
+
+static uint8_t *put_value(uint8_t *out, const struct input *input, uint32_t value) {
+    if (value == STANDARD) return out + sprintf((char *)out, "standard");
+    switch (input->form) {
+    case NUMBER:
+    case OR_STANDARD:
+    case NO_STANDARD: return put_shortest(out, value, input->decimals);
+    case FREE: return out + sprintf((char *)out, "%d", 100 - (int)value);
+    default: return out + sprintf((char *)out, "%s", value_names[input->form][value]);
+    }
+}
+
+static uint8_t *put_records(uint8_t *out, const struct herd *herd) {
+    uint8_t label[LABEL_ROOM];
+    size_t length = printed_label(herd, label);
+    for (size_t i = 0; i < sizeof inputs / sizeof inputs[0]; i++) {
+        if (inputs[i].kind != herd->kind) continue;
+        out += sprintf((char *)out, "%.*s,%s,", (int)length, (const char *)label, input_texts[i]);
+        out = put_value(out, &inputs[i], herd->values[inputs[i].slot]);
+        out += sprintf((char *)out, "\r\n");
+    }
+    return out;
+}
+
+// Refused too where it is longer than a file may be.
+static void answer_with_file(const uint8_t *file, size_t length, struct limits limits) {
+    struct refusal r = read_farm(file, length, limits, &farm);
+    uint8_t *end = output;
+    if (!r.number) for (uint32_t i = 0; i < farm.count; i++) end = put_records(end, &farm.herds[i]);
+    if (end - output > limits.bytes) r = refused(1, 0);
+    if (r.number) end = put_refusal(output, r);
     write_all(output, (size_t)(end - output));
 }
 
@@ -1038,6 +1132,7 @@ static int run_cases(void) {
         answer_with(put_cuts, file + 1, length - 1, limits);
         answer_with(put_why, file + 1, length - 1, limits);
         answer_with(put_why_in_words, file + 1, length - 1, limits);
+        answer_with_file(file + 1, length - 1, limits);
     }
     return 0;
 }
