@@ -1,10 +1,14 @@
 // The library's work, repeated inside one process, so that a benchmark can measure it. Standard input has a mode, a
 // letter for where the file comes from, how often in eight digits, and a farm file. The mode is w for the whole job, as
 // the program does it, r for reading alone, l for what comes after reading: figures and listing, n for no more than
-// whether the farm is above a line of 0 grams, once it is read and checked. The letter is c for a cooperative, else the
-// file counts as one on standard input. One checksum is printed: it takes little of each answer, so that it costs
-// nearly nothing and still needs the answer.
+// whether the farm is above a line of 0 grams, once it is read and checked; a, p, m for one step on the opened farm, to
+// add, replace or remove a herd, in capitals for the step through a lent array, and k for the checks that a step begins
+// with. The letter is c for a cooperative, else the file counts as one on standard input. One checksum is printed.
+mod checksum; // the checksum of the answers
+mod steps; // steps on a farm with its totals
+
 use above_line::Above;
+use books::Step;
 use farm::Checked;
 use farm::Farm;
 use farm::Given;
@@ -32,14 +36,14 @@ const INPUT_MOST: usize = HEAD + limits::COOPERATIVE_BYTES + 1;
 // A herd of any kind has this many slots in use.
 const SLOTS_LEAST: u64 = 4;
 
-// What the checksum is the remainder of.
-const PRIME: u64 = 1000003;
-
 enum Mode {
     Whole,
     Reading,
     Listing,
     Line,
+    Step(Step),
+    LentStep(Step),
+    Checks,
 }
 
 fn wide(b: u8) -> u64
@@ -72,6 +76,27 @@ fn mode_of(s: &[u8]) -> Mode {
     if base::same(s, b"n") {
         return Mode::Line;
     }
+    if base::same(s, b"a") {
+        return Mode::Step(Step::Add);
+    }
+    if base::same(s, b"p") {
+        return Mode::Step(Step::Replace);
+    }
+    if base::same(s, b"m") {
+        return Mode::Step(Step::Remove);
+    }
+    if base::same(s, b"A") {
+        return Mode::LentStep(Step::Add);
+    }
+    if base::same(s, b"P") {
+        return Mode::LentStep(Step::Replace);
+    }
+    if base::same(s, b"M") {
+        return Mode::LentStep(Step::Remove);
+    }
+    if base::same(s, b"k") {
+        return Mode::Checks;
+    }
     Mode::Whole
 }
 
@@ -80,18 +105,6 @@ fn source_of(letter: &[u8]) -> Source {
         return Source::Cooperative;
     }
     Source::StandardInput
-}
-
-// The checksum with one number more.
-fn mixed(sum: u64, x: u64) -> u64 {
-    (sum % PRIME * 31 + x % PRIME) % PRIME
-}
-
-fn refusal_sum(sum: u64, refusal: Refusal, record: usize) -> u64 {
-    mixed(
-        mixed(sum, refusal_numbers::number_of(refusal)),
-        record as u64,
-    )
 }
 
 fn given_number(given: Given) -> u64 {
@@ -105,7 +118,7 @@ fn given_number(given: Given) -> u64 {
 
 // Of a farm the number of herds, and of one herd the label's length and a value.
 fn farm_sum(sum: u64, turn: u64, farm: Farm) -> u64 {
-    let counted = mixed(sum, farm.count as u64);
+    let counted = checksum::mixed(sum, farm.count as u64);
     if farm.count == 0 {
         return counted;
     }
@@ -116,12 +129,15 @@ fn farm_sum(sum: u64, turn: u64, farm: Farm) -> u64 {
     let h = farm.herds[i];
     let slot = h.slots[(turn % SLOTS_LEAST) as usize];
     let given = slot.given;
-    mixed(mixed(counted, h.label.len as u64), given_number(given))
+    checksum::mixed(
+        checksum::mixed(counted, h.label.len as u64),
+        given_number(given),
+    )
 }
 
 // Of a text its length and a byte.
 fn text_sum(sum: u64, turn: u64, out: &[u8], n: usize) -> u64 {
-    let counted = mixed(sum, n as u64);
+    let counted = checksum::mixed(sum, n as u64);
     if n == 0 {
         return counted;
     }
@@ -129,7 +145,7 @@ fn text_sum(sum: u64, turn: u64, out: &[u8], n: usize) -> u64 {
     if out.len() <= i {
         return counted;
     }
-    mixed(counted, wide(out[i]))
+    checksum::mixed(counted, wide(out[i]))
 }
 
 // One turn of reading, of the whole job, and of what comes after reading.
@@ -138,14 +154,14 @@ fn read_sum(sum: u64, turn: u64, source: Source, file: &[u8]) -> u64 {
     let checked = answer.checked;
     match checked {
         Checked::Accepted => farm_sum(sum, turn, answer.farm),
-        Checked::Refused(refusal, record) => refusal_sum(sum, refusal, record),
+        Checked::Refused(refusal, record) => checksum::refusal_sum(sum, refusal, record),
     }
 }
 
 fn whole_sum(sum: u64, turn: u64, source: Source, file: &[u8], out: &mut [u8]) -> u64 {
     match calls::file_view(View::Figures, source, file, out) {
         Written::Length(n) => text_sum(sum, turn, out, n),
-        Written::Refused(refusal, record) => refusal_sum(sum, refusal, record),
+        Written::Refused(refusal, record) => checksum::refusal_sum(sum, refusal, record),
     }
 }
 
@@ -160,8 +176,8 @@ fn line_sum(sum: u64, farm: Farm) -> u64
     requires { ⌜ checkFarm farm ≡ Accepted ⌝ }
 {
     match farm_above::above(farm, 0) {
-        Above::Yes(count) => mixed(sum, count as u64),
-        Above::No(count) => mixed(sum, count as u64),
+        Above::Yes(count) => checksum::mixed(sum, count as u64),
+        Above::No(count) => checksum::mixed(sum, count as u64),
     }
 }
 
@@ -218,7 +234,7 @@ fn listed(times: u64, source: Source, file: &[u8], out: &mut [u8]) -> u64
     let checked = answer.checked;
     match checked {
         Checked::Accepted => repeat_listing(times, answer.farm, out),
-        Checked::Refused(refusal, record) => refusal_sum(0, refusal, record),
+        Checked::Refused(refusal, record) => checksum::refusal_sum(0, refusal, record),
     }
 }
 
@@ -227,7 +243,7 @@ fn screened(times: u64, source: Source, file: &[u8]) -> u64 {
     let checked = answer.checked;
     match checked {
         Checked::Accepted => repeat_line(times, answer.farm),
-        Checked::Refused(refusal, record) => refusal_sum(0, refusal, record),
+        Checked::Refused(refusal, record) => checksum::refusal_sum(0, refusal, record),
     }
 }
 
@@ -242,6 +258,9 @@ fn repeated(mode: Mode, times: u64, source: Source, file: &[u8]) -> u64 {
         Mode::Reading => repeat_reading(times, source, file),
         Mode::Listing => listed(times, source, file, &mut out),
         Mode::Line => screened(times, source, file),
+        Mode::Step(step) => steps::by_value(times, source, file, step),
+        Mode::LentStep(step) => steps::lent(times, source, file, step),
+        Mode::Checks => steps::checks_alone(times, source, file),
     }
 }
 
