@@ -33,7 +33,7 @@ _urvendlo_of() { # COMMAND
     why) flags='--words -o --cooperative --help' places=(files nothing) ;;
     line) flags='--words -o --cooperative --help' places=(nothing files nothing) ;;
     write) flags='-o --cooperative --help' places=(files nothing) ;;
-    edit) flags='-o --cooperative --help' places=(files nothing) ;;
+    edit) flags='--farm -o --cooperative --help' places=(files nothing) ;;
     gate) flags='-o --help' places=(files nothing) ;;
     mend) flags='-o --help' places=(files nothing) ;;
     changes) flags='-o --help' places=(files nothing) ;;

@@ -83,6 +83,10 @@ pub fn is_cooperative(i: usize) -> bool {
     is_word(i, b"--cooperative")
 }
 
+pub fn is_farm(i: usize) -> bool {
+    is_word(i, b"--farm")
+}
+
 pub fn is_add(i: usize) -> bool {
     is_word(i, b"add")
 }

@@ -41,6 +41,15 @@ pub fn step_refused(source: Source, at: usize, number: u64) -> Ended {
     Ended::Refused
 }
 
+// An edited farm whose file is refused.
+pub fn edited_refused(source: Source, number: u64) -> Ended {
+    let mut line = message_lines::room();
+    let a = message_lines::add(&mut line, 0, b"urvendlo: the edited farm: ");
+    let b = message_lines::add_refusal(&mut line, a, source, number);
+    say(&line, b);
+    Ended::Refused
+}
+
 // A file that a step takes its herd from, and that has not one.
 pub fn not_one_herd(name: usize, count: usize) -> Ended {
     let mut line = message_lines::room();

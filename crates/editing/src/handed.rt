@@ -1,5 +1,6 @@
 // The herd that a step is handed: the one of a file, or for a removal the label alone. Where there is none, that is
-// printed and said.
+// said, and printed unless only the farm's file is.
+use crate::Manner;
 use console::Ended;
 use console::messages;
 use console::named;
@@ -7,9 +8,9 @@ use farm::Checked;
 use farm::Farm;
 use farm::Herd;
 use farm::LABEL_MOST;
+use farm::Refusal;
 use farm::herds;
 use farm::labels;
-use limits::Source;
 use streams::Outcome;
 
 // A herd; or, where the run ended otherwise than printed, none.
@@ -41,16 +42,24 @@ fn only_herd(farm: Farm, name: usize) -> Handed {
     }
 }
 
+// A file that is refused.
+fn refused(manner: Manner, s: &[u8], name: usize, refusal: Refusal, record: usize) -> Ended {
+    let source = manner.source;
+    if manner.only_farm {
+        return refused_input::of_farm(source, s, name, refusal, record);
+    }
+    crate::print_refused(source, s, name, refusal, record)
+}
+
 // The herd of a file, unless that is refused.
-fn in_file(source: Source, s: &[u8], name: usize) -> Handed {
+fn in_file(manner: Manner, s: &[u8], name: usize) -> Handed {
+    let source = manner.source;
     let answer = farm_file::read(source, s);
     let checked = answer.checked;
     let farm = answer.farm;
     match checked {
         Checked::Accepted => only_herd(farm, name),
-        Checked::Refused(refusal, record) => {
-            none(crate::print_refused(source, s, name, refusal, record))
-        }
+        Checked::Refused(refusal, record) => none(refused(manner, s, name, refusal, record)),
     }
 }
 
@@ -60,10 +69,10 @@ fn room() -> [u8; FILE_MOST] {
 }
 
 // The herd of the file that the word at `name` names, by the same limits as the farm's.
-pub fn by_file(source: Source, name: usize) -> Handed {
+pub fn by_file(manner: Manner, name: usize) -> Handed {
     let mut file = room();
     match named::read_file(name, &mut file) {
-        Outcome::Whole(n) => in_file(source, base::part_of(&file, 0, n), name),
+        Outcome::Whole(n) => in_file(manner, base::part_of(&file, 0, n), name),
         Outcome::Broken => none(Ended::Failed),
     }
 }

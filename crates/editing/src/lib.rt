@@ -1,7 +1,8 @@
 // The command `edit` (02, W11): a farm is opened with its totals, and step after step is taken, each said by a word of
-// the command line and the one behind it. After a step the totals' listing is printed, or the refusal's line; a refused
-// step is told in words, and the next ones go on.
+// the command line and the one behind it. After a step the totals' listing is printed, or the refusal's line; or after
+// the last one the farm's file and nothing else. A refused step is told in words, and the next ones go on.
 mod handed; // the herd that a step is handed
+mod kept; // the edited farm's file
 
 use crate::handed::Handed;
 use books::Decided;
@@ -16,6 +17,12 @@ use farm::herds;
 use limits::Source;
 use outputs::Totals;
 use streams::Outcome;
+
+// By which limits the files of a run are read, and whether only the farm's file is printed, after the last step.
+pub struct Manner {
+    pub source: Source,
+    pub only_farm: bool,
+}
 
 // A farm with its totals, and how the run has ended so far.
 pub struct Edited {
@@ -79,21 +86,27 @@ fn end_step(before: Ended, decided: Decided, source: Source, at: usize) -> Ended
     }
 }
 
-fn end_printed(
-    outcome: Outcome,
-    before: Ended,
-    decided: Decided,
-    source: Source,
-    at: usize,
-) -> Ended {
-    match outcome {
-        Outcome::Whole(_) => end_step(before, decided, source, at),
-        Outcome::Broken => messages::unwritten(),
+// What a step is answered with, unless only the farm's file is printed; is nothing of it missing?
+fn print_answer(only_farm: bool, answer: &[u8]) -> bool {
+    if only_farm {
+        return true;
+    }
+    match streams::write_all(answer) {
+        Outcome::Whole(_) => true,
+        Outcome::Broken => false,
     }
 }
 
+fn end_printed(printed: bool, before: Ended, decided: Decided, source: Source, at: usize) -> Ended {
+    if !printed {
+        return messages::unwritten();
+    }
+    end_step(before, decided, source, at)
+}
+
 // The step with this herd.
-fn take(edited: Edited, source: Source, step: Step, h: Herd, at: usize) -> Edited {
+fn take(edited: Edited, manner: Manner, step: Step, h: Herd, at: usize) -> Edited {
+    let source = manner.source;
     let limits = limits::limits_of(source);
     let farm = edited.farm;
     let totals = edited.totals;
@@ -103,8 +116,8 @@ fn take(edited: Edited, source: Source, step: Step, h: Herd, at: usize) -> Edite
     let farm_after = taken.farm;
     let totals_after = taken.totals;
     let bytes = taken.bytes;
-    let outcome = streams::write_all(base::part_of(&bytes, 0, taken.length));
-    let ended = end_printed(outcome, before, decided, source, at);
+    let printed = print_answer(manner.only_farm, base::part_of(&bytes, 0, taken.length));
+    let ended = end_printed(printed, before, decided, source, at);
     Edited {
         farm: farm_after,
         totals: totals_after,
@@ -124,47 +137,46 @@ fn left(edited: Edited, ended: Ended) -> Edited {
 }
 
 // The step that the word at `at` says, with the herd that the one behind it hands over.
-fn take_handed(edited: Edited, source: Source, step: Step, handed: Handed, at: usize) -> Edited {
+fn take_handed(edited: Edited, manner: Manner, step: Step, handed: Handed, at: usize) -> Edited {
     let found = handed.ended;
     let h = handed.herd;
     match found {
-        Ended::Printed => take(edited, source, step, h, at),
+        Ended::Printed => take(edited, manner, step, h, at),
         Ended::Refused => left(edited, Ended::Refused),
         Ended::Failed => left(edited, Ended::Failed),
     }
 }
 
-fn take_at(edited: Edited, source: Source, at: usize) -> Edited {
+fn take_at(edited: Edited, manner: Manner, at: usize) -> Edited {
     let behind = asked::after(at);
     if asked::is_add(at) {
-        let handed = handed::by_file(source, behind);
-        return take_handed(edited, source, Step::Add, handed, at);
+        let handed = handed::by_file(manner, behind);
+        return take_handed(edited, manner, Step::Add, handed, at);
     }
     if asked::is_replace(at) {
-        let handed = handed::by_file(source, behind);
-        return take_handed(edited, source, Step::Replace, handed, at);
+        let handed = handed::by_file(manner, behind);
+        return take_handed(edited, manner, Step::Replace, handed, at);
     }
-    take_handed(edited, source, Step::Remove, handed::by_label(behind), at)
+    take_handed(edited, manner, Step::Remove, handed::by_label(behind), at)
 }
 
 // ---- all of them
 
 // The steps that the words from `first` on say, two by two, to the last or until one fails.
-fn take_all(opened: Edited, source: Source, first: usize) -> Ended {
+fn take_all(opened: Edited, manner: Manner, first: usize) -> Edited {
     let mut edited = opened;
     let mut at = first;
     let mut words = asked::count_from(first);
     while 1 < words {
         let ended = edited.ended;
         if is_failed(ended) {
-            return ended;
+            return edited;
         }
-        edited = take_at(edited, source, at);
+        edited = take_at(edited, manner, at);
         at = asked::after(asked::after(at));
         words -= 2;
     }
-    let last = edited.ended;
-    last
+    edited
 }
 
 fn is_failed(ended: Ended) -> bool {
@@ -175,11 +187,25 @@ fn is_failed(ended: Ended) -> bool {
     }
 }
 
+// What is printed after the last step, unless one failed: the farm's file, or nothing more.
+fn end_steps(edited: Edited, manner: Manner) -> Ended {
+    let ended = edited.ended;
+    if is_failed(ended) {
+        return ended;
+    }
+    if !manner.only_farm {
+        return ended;
+    }
+    let farm = edited.farm;
+    let source = manner.source;
+    kept::print_farm(farm, source, ended)
+}
+
 // The steps of a farm that was opened; one that was not is not edited.
-pub fn run(opened: Edited, source: Source, first: usize) -> Ended {
+pub fn run(opened: Edited, manner: Manner, first: usize) -> Ended {
     let ended = opened.ended;
     match ended {
-        Ended::Printed => take_all(opened, source, first),
+        Ended::Printed => end_steps(take_all(opened, manner, first), manner),
         Ended::Refused => Ended::Refused,
         Ended::Failed => Ended::Failed,
     }

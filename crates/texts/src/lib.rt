@@ -79,7 +79,7 @@ pub const LARGER: [u8; 58] = *b"\
 ";
 
 // The pages of help, one for each command.
-pub const PAGES: [u8; 9329] = *b"\
+pub const PAGES: [u8; 9561] = *b"\
 usage: urvendlo [COMMAND] [OPTION..] [FILE]\n\
 \n\
 Reads a farm file, which is FILE or standard input (also as -), and prints\n\
@@ -111,6 +111,7 @@ Reads a farm file, which is FILE or standard input (also as -), and prints\n\
 \x20          leaves FILE as it was\n\
 \x20 --words  of the command why: sentences in place of records; of line: a\n\
 \x20          sentence on standard error, too\n\
+\x20 --farm   of edit: the farm after the last step, in place of the totals\n\
 \x20 --by X   of chart and report: the herds as in the file (file), or those with\n\
 \x20          the most ammonia first (ammonia)\n\
 \x20 --language L\n\
@@ -198,13 +199,15 @@ than 262,144 bytes it is refused with 1. A file that a spreadsheet spoiled is\n\
 mended first.\n\
 \n\
 \x20 $ urvendlo mend farm.csv | urvendlo write -o farm.csv\n\
-usage: urvendlo edit [-o FILE] [--cooperative] FARM STEP..\n\
+usage: urvendlo edit [--farm] [-o FILE] [--cooperative] FARM STEP..\n\
 \n\
 A STEP is `add HERDFILE`, `replace HERDFILE` or `remove LABEL`. HERDFILE is a\n\
 farm file of one herd; it is added as the last, or put in the place of the herd\n\
 that has its label. After each step the farm's totals, 18 lines. A refused step\n\
 gets the line refused,NUMBER,RECORD and changes nothing, and the next ones go\n\
 on; standard error has it in words. The status is 1 where a step was refused.\n\
+With --farm only the farm is printed, after the last step, as write prints it.\n\
+Edits are kept with -o, which writes nothing where a step was refused.\n\
 \n\
 \x20 $ urvendlo edit examples/farm.csv add examples/edit/calves.csv\n\
 \x20 ,Livestock,n_excretion,3831.000\n\
@@ -284,26 +287,26 @@ The commit of this program, and the kit that proves it, where there is one.\n\
 
 pub const PAGES_STARTS: [usize; 21] = [
     0,
-    2611,
-    3091,
-    3444,
-    3700,
-    4055,
-    4577,
-    4921,
-    5373,
-    5818,
-    6372,
+    2684,
+    3164,
+    3517,
+    3773,
+    4128,
+    4650,
+    4994,
+    5446,
+    5891,
     6604,
-    6887,
-    7134,
-    7418,
-    7767,
-    8145,
-    8454,
-    8957,
-    9228,
-    9329,
+    6836,
+    7119,
+    7366,
+    7650,
+    7999,
+    8377,
+    8686,
+    9189,
+    9460,
+    9561,
 ];
 
 // The commands' names, by the numbers of their pages.

@@ -1,8 +1,8 @@
 // The program: urvendlo [--status-fd N] [COMMAND] [NAME]. The file is standard input, and NAME is for messages alone;
-// with --cooperative before or behind it, NAME is the file, which is opened and may be larger. Of edit, whose option
-// stands in front, NAME is given always, and the steps behind it. Standard output has what
-// the command prints, or the refusal's line. Standard error has what is to be said of it, in whole lines. How the run
-// ended goes as one digit, after all output, to the descriptor that --status-fd names.
+// with --cooperative before or behind it, NAME is the file, which is opened and may be larger. Of edit, whose options
+// stand in front, --farm first, NAME is given always, and the steps behind it. Standard output has what the command
+// prints, or the refusal's line. Standard error has what is to be said of it, in whole lines. How the run ended goes as
+// one digit, after all output, to the descriptor that --status-fd names.
 mod runs; // what each command does
 
 use crate::runs::Question;
@@ -158,7 +158,7 @@ fn after_steps(first: usize) -> usize {
     at
 }
 
-fn run_edit_of(cooperative: bool, name: usize) -> Ended {
+fn run_edit_of(only_farm: bool, cooperative: bool, name: usize) -> Ended {
     let first = asked::after(name);
     let end = after_steps(first);
     if asked::is_past(first) {
@@ -171,20 +171,28 @@ fn run_edit_of(cooperative: bool, name: usize) -> Ended {
         return messages::misused(b"the name has more than 4,096 bytes", end);
     }
     if !cooperative {
-        return runs::of_edit(name);
+        return runs::of_edit(only_farm, name);
     }
     if asked::is_input(name) {
         return messages::misused(b"--cooperative takes the name of a file, and not ", name);
     }
-    runs::of_cooperative_edit(name)
+    runs::of_cooperative_edit(only_farm, name)
 }
 
 // The farm's file and the steps, with --cooperative in front of them or without.
-fn run_edit(next: usize) -> Ended {
+fn run_edit_at(only_farm: bool, next: usize) -> Ended {
     if asked::is_cooperative(next) {
-        return run_edit_of(true, asked::after(next));
+        return run_edit_of(only_farm, true, asked::after(next));
     }
-    run_edit_of(false, next)
+    run_edit_of(only_farm, false, next)
+}
+
+// Before all of that --farm may stand.
+fn run_edit(next: usize) -> Ended {
+    if asked::is_farm(next) {
+        return run_edit_at(true, asked::after(next));
+    }
+    run_edit_at(false, next)
 }
 
 fn run_help(next: usize) -> Ended {

@@ -5,6 +5,7 @@ use console::Ended;
 use console::messages;
 use console::named;
 use editing::Edited;
+use editing::Manner;
 use gate::LogAnswer;
 use limits::Source;
 use printing::Printed;
@@ -168,17 +169,17 @@ fn open_cooperative(name: usize) -> Edited {
 }
 
 // The steps that stand behind the farm's name; the farm is on standard input.
-pub fn of_edit(name: usize) -> Ended {
-    editing::run(open_input(name), Source::StandardInput, asked::after(name))
+pub fn of_edit(only_farm: bool, name: usize) -> Ended {
+    let source = Source::StandardInput;
+    let manner = Manner { source, only_farm };
+    editing::run(open_input(name), manner, asked::after(name))
 }
 
 // The same of a cooperative's farm.
-pub fn of_cooperative_edit(name: usize) -> Ended {
-    editing::run(
-        open_cooperative(name),
-        Source::Cooperative,
-        asked::after(name),
-    )
+pub fn of_cooperative_edit(only_farm: bool, name: usize) -> Ended {
+    let source = Source::Cooperative;
+    let manner = Manner { source, only_farm };
+    editing::run(open_cooperative(name), manner, asked::after(name))
 }
 
 // One byte more than a log may have, so that a longer one is seen.

@@ -5,10 +5,10 @@ use Rattle.editing.proofs.take_all.Statement.{statement}
 use Rattle.editing.proofs.take_all.Tie as tie
 
 abbrev Inv-loop : tie.InvT-loop
-Inv-loop source first edited₀ at₀ words₀ edited at words = words ≤ words₀
+Inv-loop manner first edited₀ at₀ words₀ edited at words = words ≤ words₀
 
 abbrev μ-loop : tie.MeasureT-loop
-μ-loop source first edited₀ at₀ words₀ edited at words = words
+μ-loop manner first edited₀ at₀ words₀ edited at words = words
 
 count-from-requires : tie.Need-count-from-requires Inv-loop μ-loop
 count-from-requires c κs = search needs
