@@ -68,7 +68,7 @@ module _ (h : Herd) (sound : Sound (typed_of h)) (t : Inputs) (et : t ≡ typed_
           small = rw (er, eg) (own-most f.grams to-most);
         }
 
-pub ruleset own-steps = (own-sound, own-asks, own-gave)
+pub ruleset own_steps = (own-sound, own-asks, own-gave)
 
 -- ---- i herds were added up, and no beginning so far passes the line
 
@@ -135,4 +135,4 @@ module _ (line : ℕ) (f : Farm) (accepted : check_farm f ≡ Accepted) where
               none = none-next line (herds_of f) (i + 1) (omega (arith, next-sum)) inv.none;
             }
 
-pub ruleset line-steps = (below-starts, below-ends, next-sound, sum_fits, stops, goes_on)
+pub ruleset line_steps = (below-starts, below-ends, next-sound, sum_fits, stops, goes_on)

@@ -33,7 +33,7 @@ module _ (amount shares of : ℕ) (fit : FitsPortion amount shares of) where
   pub is-portion : (q : Quotient) → q ≡ quotient_of (amount * shares) of → PortionOf amount shares of q
   is-portion q e = record { cut = e; is = rw e refl; most = rw e (part-le amount shares of fit.within) }
 
-pub ruleset portion-steps = (product_fits, is-portion)
+pub ruleset portion_steps = (product_fits, is-portion)
 
 -- the same of up to twice the shares
 module _ (amount shares of : ℕ) (fit : FitsPortionTwice amount shares of) where
@@ -44,7 +44,7 @@ module _ (amount shares of : ℕ) (fit : FitsPortionTwice amount shares of) wher
   is-twice q e =
       record { cut = e; most = rw e (div-le_of_le-mul of (omega (arith, mul-le-mul_left amount fit.within))) }
 
-pub ruleset twice-steps = (twice-fits, is-twice)
+pub ruleset twice_steps = (twice-fits, is-twice)
 
 -- ---- of shares that the code has found
 
@@ -55,7 +55,7 @@ module _ (shares of found m : ℕ) (u : UpTo m shares found) where
   pub portions_by : (n tan : ℕ) (r : Parts) → PortionsOf n tan found of r → PortionsOf n tan shares of r
   portions_by n tan r p = rw (← u.is) p
 
-pub ruleset shares-found = (portion-by, portions_by)
+pub ruleset shares_found = (portion-by, portions_by)
 
 -- ---- a larger amount has no smaller portion
 

@@ -1,5 +1,7 @@
 // The units of the formulas, and a portion of an amount with one cut. Every division that a herd's formulas make is
 // that of `portion` or of `portion_to_twice`, but for c_grazing, which cuts a sum (crate `housing`).
+#![tactic(auto)]
+
 ghost use Rattle.amounts.specs.Bounds.{WithinMostN, FitsPortion, PortionOf};
 ghost use Rattle.amounts.specs.Bounds.{FitsPortionTwice, PortionToTwice, PortionsOf};
 

@@ -1,5 +1,7 @@
 // A herd's record answered with its figures, notes and cuts, a farm's with its totals, or either with its refusal.
 // Nothing is asked of the record beforehand.
+#![tactic(auto)]
+
 ghost use Rattle.std.specs.Prelude.{◌≡◌};
 ghost use Rattle.model.specs.Answers.{herd_answer, farm_answer};
 

@@ -1,4 +1,6 @@
 // The words of the command line: which command they ask for, and where the file's name stands.
+#![tactic(auto)]
+
 pub mod commands; // the commands of the program, by their pages of help
 
 use digits::Number;

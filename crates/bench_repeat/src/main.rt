@@ -4,6 +4,8 @@
 // whether the farm is above a line of 0 grams, once it is read and checked; a, p, m for one step on the opened farm, to
 // add, replace or remove a herd, in capitals for the step through a lent array, and k for the checks that a step begins
 // with. The letter is c for a cooperative, else the file counts as one on standard input. One checksum is printed.
+#![tactic(auto)]
+
 mod checksum; // the checksum of the answers
 mod steps; // steps on a farm with its totals
 

@@ -94,4 +94,4 @@ module _ (t old mid : List ℕ) (at p : ℕ) (first : Wrote old at (part t 0 (0 
       last-put (block + block) (block-put t block block first-put v (omega arith) (omega arith) (omega arith)) w g
       (omega arith)
 
-pub ruleset block-steps = (in_two, in_three)
+pub ruleset block_steps = (in_two, in_three)

@@ -1,4 +1,6 @@
 // A text copied a block at a time: 16 bytes by way of an array of their own, which the compiler moves at once.
+#![tactic(auto)]
+
 ghost use Rattle.std.specs.Prelude.{◌+◌, ◌≤◌, length};
 ghost use Rattle.base.specs.Part.{part};
 ghost use Rattle.base.specs.Wrote.{Wrote};

@@ -44,7 +44,7 @@ module _ (sum : Figures) (es : sum.grams ≡ zeros) where
   pub none_booked : (t : Totals) → t.grams ≡ total_grams sum.grams → record { count = 0; totals = t } ≡ book_of []
   none_booked t et = book-is refl (totals-of-sum herd_figures [] t (et ∙ ap total_grams es))
 
-pub ruleset empty-steps = (none-small, none_booked)
+pub ruleset empty_steps = (none-small, none_booked)
 
 -- ---- a file
 
@@ -93,7 +93,7 @@ module _ (len : ℕ) (s : List ℕ) where
               ∙ ap (λ (b : FileAnswer). totals_of (map herd_figures (herds_of b.farm))) q;
         }
 
-pub ruleset file-steps = (file-passes, file-small, file-read)
+pub ruleset file_steps = (file-passes, file-small, file-read)
 
 -- ---- the call
 

@@ -1,5 +1,7 @@
 // Where a farm's book begins (02, W11): the book of a farm of no herds, and that of a file which is read into a lent
 // array of herd records, as crate `lent_file` reads it.
+#![tactic(auto)]
+
 ghost use Rattle.std.specs.Prelude.{◌≡◌, []};
 ghost use Rattle.book_file.specs.Books.{book_of, ReadsBook, IsRead, told_of};
 

@@ -47,7 +47,7 @@ module _ (f : Farm) (l : Label) (i : ℕ) (inv : Looking f l i) where
       let p : i + 0 ≡ place_of (herds_of f) l = (rw (taken-end f.count f.herds i b) at inv.left) in
       omega (arith, inv.within)
 
-pub ruleset place-steps = (looking_starts, label-here, label-later, label-nowhere)
+pub ruleset place_steps = (looking_starts, label-here, label-later, label-nowhere)
 
 -- ---- a herd more, and another in its place
 
@@ -69,7 +69,7 @@ module _ (f : Farm) (h : Herd) (long : length f.herds ≡ herds_most) where
         count = omega (arith, length-take f.count f.herds, length-set (herds_of f) place h);
       }
 
-pub ruleset edit-steps = (herd-added, herd-replaced)
+pub ruleset edit_steps = (herd-added, herd-replaced)
 
 -- ---- those behind a place move up, in an array whose last herd stands at `last`: those before i are where they belong
 
@@ -138,4 +138,4 @@ module _ (f : Farm) (long : length f.herds ≡ herds_most) (room : f.count ≤ h
             );
       }
 
-pub ruleset removal-steps = (closing-starts, closing-next, herd-removed)
+pub ruleset removal_steps = (closing-starts, closing-next, herd-removed)

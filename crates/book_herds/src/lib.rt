@@ -1,5 +1,7 @@
 // A farm's herds, edited by value (02, W11): where the herd of a label stands, and the farm with a herd behind the
 // others, with another herd at a place, or without the one at a place. Knows nothing of totals and refusals.
+#![tactic(auto)]
+
 ghost use Rattle.std.specs.Prelude.{◌≡◌, ◌<◌, ◌≤◌, [], ◌∷◌, ◌++◌, set};
 ghost use Rattle.farm.specs.Limits.{herds_most};
 ghost use Rattle.checks.specs.Checks.{herds_of};

@@ -40,7 +40,7 @@ module _ (count room : ℕ) where
       go true e = e ∙ sym (le-leb (min room herds_most) count (omega (arith, leb-true room count e)))
       go false e = e ∙ sym (lt-leb (min room herds_most) count (omega (arith, leb-false room count e)))
 
-pub ruleset room-steps = (full-farm, full-array)
+pub ruleset room_steps = (full-farm, full-array)
 
 -- ---- the rules of every step, and those of the step
 
@@ -102,5 +102,5 @@ module _ (f : Farm) (room : ℕ) (t : Totals) (step : Step) (h : Herd) where
     unfolding decided_of
     record_bad q = rw (decided_of, sym e, q)
 
-pub ruleset rule-steps =
+pub ruleset rule_steps =
     (total-beyond, label-bad, decided-add, decided_replace, decided_remove, record_room_lem, record_good, record_bad)

@@ -1,4 +1,6 @@
 // What is decided of a step (02, W11): 01's refusals of the farm's record, then the rules of a step in their order.
+#![tactic(auto)]
+
 ghost use Rattle.std.specs.Prelude.{◌≡◌, ◌≤◌, min, leb};
 ghost use Rattle.base.specs.First.{first};
 ghost use Rattle.farm.specs.Limits.{herds_most};

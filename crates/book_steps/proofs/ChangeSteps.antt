@@ -86,5 +86,5 @@ module _ (f : Farm) (t : Totals) (h : Herd) (sound : Sound f t) where
           removed-changed n y =
               changed Remove (rw e (removed-at (herds_of f) h.label present)) is-named refl n x y m
 
-pub ruleset change-steps =
+pub ruleset change_steps =
     (farm-room, added-changed, place-within, place-room, old-accepted, replaced-changed, removed-changed)

@@ -146,7 +146,7 @@ module _ (f : Farm) (room : ℕ) (t : Totals) (h : Herd) where
           totals = rw (sym e, q) refl;
         }
 
-pub ruleset decided-steps = (
+pub ruleset decided_steps = (
   is-sound,
   has_room,
   fits-added,

@@ -1,5 +1,7 @@
 // A step on a farm by value (02, W11): it is decided, and where it is not refused the farm's herds and their totals are
 // changed. Of a refused step no herd is handed back, so that nothing of it can be stored.
+#![tactic(auto)]
+
 ghost use Rattle.books.specs.Answers.{StepsTo};
 
 use books::{Decided, Step, Stepped};

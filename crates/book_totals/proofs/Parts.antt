@@ -80,7 +80,7 @@ none-totals f e t d =
     let a : t ≡ totals_of [] = totals-of-sum herd_figures [] t (d ∙ ap total_grams e) in
     record { is = a; small = rw a (widen 0 part_most no-totals-small (omega arith)) }
 
-pub ruleset part-steps = (part_sound, part_small, part-totals, none-small, none-totals)
+pub ruleset part_steps = (part_sound, part_small, part-totals, none-small, none-totals)
 
 -- ---- one total moved, as the machine does it
 
@@ -116,7 +116,7 @@ module _ (a : List ℤ) (n : ℕ) where
 pub total-read : (t : Totals) (n : ℕ) → beyond t ≡ false → nat_abs (to_z w64 (of_z w64 (grams_at t.grams n))) ≤ total_most
 total-read t n e = read_small t.grams n total_most (omega arith) (within-most t e)
 
-pub ruleset reads-small = (part-read, total-read)
+pub ruleset reads_small = (part-read, total-read)
 
 -- ---- one total moved, of what was read
 

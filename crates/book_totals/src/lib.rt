@@ -1,5 +1,7 @@
 // The totals that a step moves (02, W11): whether one is beyond what 16 allows, what a herd adds to them, and totals
 // from which a herd's were taken and to which another's were added.
+#![tactic(auto)]
+
 ghost use Rattle.std.specs.Prelude.{◌≤◌, ◌≡◌, false, [], ◌∷◌, nat_abs, ◌+ℤ◌, ◌-ℤ◌};
 ghost use Rattle.farm.specs.declared.Checked.TheVariants.{Accepted};
 ghost use Rattle.checks.specs.Checks.{check_herd};

@@ -1,5 +1,7 @@
 // A farm's totals that follow the edit (02, W11): the book that is kept beside a farm's herds, the steps that change
 // both, and what a step is answered with. What a step does stands in specs/; the crates behind this one do it.
+#![tactic(auto)]
+
 use farm::{Farm, Refusal};
 use outputs::Totals;
 

@@ -41,7 +41,7 @@ pub month_none : (y m : ℕ) → 12 < m → 0 ≡ days_in y m
 unfolding days_in
 month_none y m h = sym (get_or-eq_default (0 ∷ months_of (is_leap y)) 0 h)
 
-pub ruleset month-steps = (february-long, february-short, february-is, month_is, month_none)
+pub ruleset month_steps = (february-long, february-short, february-is, month_is, month_none)
 
 -- ---- what is due
 
@@ -68,4 +68,4 @@ module _ {due : Due} (d : Date) where
   pub due-never : due ≡ Nothing → false ≡ is_due due d
   due-never e = ap (λ (x : Due). is_due x d) (sym e)
 
-pub ruleset due-steps = (due_in_month, due_in_next, due-nothing, due-new-year, due-on, due-never)
+pub ruleset due_steps = (due_in_month, due_in_next, due-nothing, due-new-year, due-on, due-never)

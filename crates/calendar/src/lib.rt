@@ -1,5 +1,7 @@
 // Dates of the Gregorian calendar: leap years, the days of a month, and the dates of one year as they come, from 1
 // January to 31 December.
+#![tactic(auto)]
+
 ghost use Rattle.std.specs.Prelude.{◌≡◌};
 ghost use Rattle.calendar.specs.Calendar.{is_leap, days_in, same_day, same_date, is_leap_day};
 ghost use Rattle.calendar.specs.Following.{is_due, due_after};

@@ -2,6 +2,8 @@
 // record of any content get what is asked for, or exactly one refusal, and where a call refuses, 13 too, the lent
 // buffer is as it was. How long a file and how large its farm may be is said by where it comes from. What the calls are
 // to do stands in crate `contracts`, the demands in crate `promises`.
+#![tactic(auto)]
+
 ghost use Rattle.std.specs.Prelude.{◌≡◌};
 ghost use Rattle.contracts.specs.Listings.{Called, file_herd_call, file_totals_call, file_call};
 ghost use Rattle.contracts.specs.Reasons.{file_reason};

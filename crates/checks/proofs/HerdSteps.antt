@@ -107,5 +107,5 @@ module _ (f : Farm) where
       pub herds-accepted : f.count ≤ i → Accepted ≡ check_farm f
       herds-accepted b = rw (taken-end f.count f.herds i b) at inv
 
-pub ruleset farm-steps =
+pub ruleset farm_steps =
     (no_room, farm-start, herd-labelled_badly, herd-labelled-again, herd-accepted, herd-refused, herds-accepted)

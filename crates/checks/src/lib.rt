@@ -1,4 +1,6 @@
 // 01's checks of a record that is handed in, in their order, always with record 0. A record of any content is answered.
+#![tactic(auto)]
+
 ghost use Rattle.std.specs.Prelude.{◌≡◌};
 ghost use Rattle.base.specs.First.{first};
 ghost use Rattle.farm.specs.declared.Checked.TheVariants.{Accepted};

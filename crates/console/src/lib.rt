@@ -1,5 +1,7 @@
 // What stands around a run: a file that is read by its name, what is said on standard error, and how the run ended. The
 // pages of help, too.
+#![tactic(auto)]
+
 pub mod messages; // what is said on standard error, the pages of help, and the digit
 pub mod named; // a file that is read by its name
 

@@ -160,7 +160,7 @@ module _ (source : Source) (s : List ℕ) (a : FileAnswer) (q : a ≡ read_of (l
     unfolding file_call
     is_view_unread v = record { buffer = rw refusing; answer = rw refusing }
 
-pub ruleset file-steps =
+pub ruleset file_steps =
     (in_array, place-fits, is-file-herd, is-past-herds, is-file-totals, is-herd_unread, is-totals_unread)
 
-pub ruleset view-steps = (passes, herds-fit, room_fits, is-file-limited, is-file-put, is-file_view, is_view_unread)
+pub ruleset view_steps = (passes, herds-fit, room_fits, is-file-limited, is-file-put, is-file_view, is_view_unread)

@@ -39,7 +39,7 @@ module _ (source : Source) (s : List ℕ) (a : FileAnswer) (q : a ≡ read_of (l
   unfolding file_reason
   is_unread refusal at_record i e = rw (refusing source s a q refusal at_record e [])
 
-pub ruleset file-reason-steps = (in_array, place-fits, is-file-reason, is-no-herd, is_unread)
+pub ruleset file_reason_steps = (in_array, place-fits, is-file-reason, is-no-herd, is_unread)
 
 -- ---- by the rules
 

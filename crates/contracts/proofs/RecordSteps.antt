@@ -118,10 +118,10 @@ module _ (view : View) (f : Farm) (k : Checked) (q : k ≡ check_farm f) where
   unfolding farm_call
   farm-refused old refusal at_record t = record { buffer = rw (← q, t); answer = rw (← q, t) }
 
-pub ruleset accepted-steps = (accepted-answered, accepted-refused)
+pub ruleset accepted_steps = (accepted-answered, accepted-refused)
 
-pub ruleset farm-steps = (farm-passes, farm-viewed, farm-refused)
+pub ruleset farm_steps = (farm-passes, farm-viewed, farm-refused)
 
-pub ruleset herd-steps = (accepted, is-herd_view, is-herd-refused)
+pub ruleset herd_steps = (accepted, is-herd_view, is-herd-refused)
 
-pub ruleset totals-steps = (has-totals-room, is-totals-listing, is-totals-refused)
+pub ruleset totals_steps = (has-totals-room, is-totals-listing, is-totals-refused)

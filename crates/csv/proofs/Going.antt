@@ -94,5 +94,5 @@ module _ (s : List ℕ) (at : ℕ) (r : FieldEnd) (p : Place) (n : ℕ) (q : r �
 pub none-count : (f : Fields) (at : ℕ) → f ≡ no_fields → f.count ≤ at
 none-count f at e = omega (arith, ap (λ (x : Fields). x.count) e)
 
-pub ruleset row-steps =
+pub ruleset row_steps =
     (going_start, step_end, row-comma, row-crlf, row-file, row-broken, next_fits, next-less, next-count, none-count)

@@ -5,6 +5,8 @@
 // Advice for those who change it: four places are kept, and every field is counted and read to its end, so that a fifth
 // is seen, and a break in it too. Whoever needs a fifth place adds it to `Fields`, to `none` and `and`, and to the
 // definitions of the same names.
+#![tactic(auto)]
+
 ghost use Rattle.std.specs.Prelude.{◌≡◌, ◌^◌, ◌<◌};
 ghost use Rattle.base.specs.Pick.{if◌is◌then◌else◌};
 ghost use Rattle.plain_fields.specs.Places.{held};

@@ -118,7 +118,7 @@ module _ (a b : ℕ) (ha : a < 2 ^ 63) (hb : b < 2 ^ 63) where
   pub less-is : to_z w64 (of_z w64 (to_z w64 a -ℤ to_z w64 b)) ≡ pos a -ℤ pos b
   less-is = rw (cast_pos a ha, cast_pos b hb) (back _ (less-size (2 ^ 63) ha hb))
 
-pub ruleset less-steps = (less-fits, less-is)
+pub ruleset less_steps = (less-fits, less-is)
 
 -- ---- a sum, whose parts are held as bits: it fits, `plus` may be asked for it, and this is what it gave
 

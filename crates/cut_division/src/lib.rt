@@ -1,4 +1,6 @@
 // The arithmetic that the figures stand on: division rounded down, and differences and sums that may fall below zero.
+#![tactic(auto)]
+
 ghost use Rattle.std.specs.Prelude.{◌≡◌, ◌+◌, ◌<◌, ◌^◌, pos, nat_abs, ◌+ℤ◌, ◌-ℤ◌};
 ghost use Rattle.cut_division.specs.Cut.{quotient_of, ◌cut_by◌, Divides, undivided};
 

@@ -1,4 +1,6 @@
 // The quotients of the sections in two arrays. A quotient meets its number here, and nowhere else in the code.
+#![tactic(auto)]
+
 ghost use Rattle.std.specs.Prelude.{◌≡◌};
 ghost use Rattle.cuts.specs.Cuts.{in_order, cuts_from, no_cuts};
 

@@ -51,7 +51,7 @@ module _ (a b : ℕ) where
         unfolding pair_of
         both-digits h = simp (pair_of, le-ltb a 48 l, le-ltb 57 a u, le-ltb b 48 k, le-ltb 57 b h)
 
-pub ruleset pair-steps = (first-low, first-high, second-low, second-high, both-digits)
+pub ruleset pair_steps = (first-low, first-high, second-low, second-high, both-digits)
 
 -- ---- the whole text
 
@@ -95,5 +95,5 @@ module _ (s : List ℕ) where
                 pub date-is : {k : ℕ} → d ≡ Value k → Is (date (h * 100 + y) m k) ≡ date_of s
                 date-is e = rw (sym qa ∙ ea, sym qb ∙ eb, sym qc ∙ ec, sym qd ∙ e) at by_digits
 
-pub ruleset date-steps =
+pub ruleset date_steps =
     (wrong-length, no-first-hyphen, no-second-hyphen, no-hundreds, no_years, no_month, no-day, date-is)

@@ -1,4 +1,6 @@
 // A date read from its text.
+#![tactic(auto)]
+
 ghost use Rattle.std.specs.Prelude.{◌≡◌};
 ghost use Rattle.dates.specs.Reading.{pair_of, date_of};
 

@@ -35,7 +35,7 @@ module _ (m v b : ℕ) where
       pub digit-fits : more v b ≤ m → Value (more v b) ≡ up_to m (with_digit v b)
       digit-fits h = simp (le-ltb b 48 l, le-ltb 57 b u, le-leb (more v b) m h)
 
-pub ruleset digit-steps = (digit_low, digit-high, digit_large, digit-fits)
+pub ruleset digit_steps = (digit_low, digit-high, digit_large, digit-fits)
 
 -- one digit more was taken: y is the number with it
 pub record Taken (m v b y : ℕ) : Type 0 where
@@ -129,7 +129,7 @@ module _ (m x j val : ℕ) (inv : x * 10 ^ j ≡ val) where
       let e : x ≡ val = sym (mul-one x) ∙ ap (λ (k : ℕ). x * 10 ^ k) (sym z) ∙ inv in
       rw (← e) (simp (le-leb x m l))
 
-pub ruleset scaled-steps = (taken-small, scaled-more, scaled-stop, scaled-end)
+pub ruleset scaled_steps = (taken-small, scaled-more, scaled-stop, scaled-end)
 
 -- what is too large already stays so, whatever follows
 fraction-over : (k m v : ℕ) (rest : List ℕ) → m < v → Over m (fraction_from k v rest)
@@ -170,7 +170,7 @@ module _ (s : List ℕ) (i k m x : ℕ) (X : Number) (inv : up_to m (fraction_fr
       fraction-stop e = sym (lost m x (get_or s i 0) r q e _ (fraction-over (k - 1) m _ (drop (i + 1) s)))
           ∙ fraction-going
 
-pub ruleset fraction-steps = (taken-small, fraction_end, fraction-full, fraction-more, fraction-stop)
+pub ruleset fraction_steps = (taken-small, fraction_end, fraction-full, fraction-more, fraction-stop)
 
 module _ (s : List ℕ) (at d m v : ℕ) where
   pub point-none : length s ≤ at → Unreadable ≡ up_to m (point_from d v (drop at s))
@@ -182,4 +182,4 @@ module _ (s : List ℕ) (at d m v : ℕ) where
   unfolding point_from
   point-some h r q = q ∙ simp (rest_at s at h, point_from)
 
-pub ruleset point-steps = (point-none, point-some)
+pub ruleset point_steps = (point-none, point-some)

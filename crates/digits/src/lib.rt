@@ -1,4 +1,6 @@
 // Digits read within a largest value: one digit more, zeros behind a number, the digits behind the point.
+#![tactic(auto)]
+
 ghost use Rattle.std.specs.Prelude.{◌≡◌, ◌≤◌, drop};
 ghost use Rattle.digits.specs.Digits.{up_to, with_digit, scaled_by, fraction_from, point_from};
 

@@ -1,6 +1,8 @@
 // The command `edit` (02, W11): a farm is opened with its totals, and step after step is taken, each said by a word of
 // the command line and the one behind it. After a step the totals' listing is printed, or the refusal's line; or after
 // the last one the farm's file and nothing else. A refused step is told in words, and the next ones go on.
+#![tactic(auto)]
+
 mod handed; // the herd that a step is handed
 mod kept; // the edited farm's file
 

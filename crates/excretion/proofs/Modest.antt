@@ -56,7 +56,7 @@ module _ (animals grams : ℕ) (ha : animals ≤ most_animals) (hg : grams ≤ m
   pub n-fits : Fits w64 (animals * grams)
   n-fits = omega (arith, n-le)
 
-pub ruleset n-steps = (n_within, n-fits)
+pub ruleset n_steps = (n_within, n-fits)
 
 module _ (animals grams fraction : ℕ) (ha : animals ≤ most_animals) (hg : grams ≤ most_grams)
     (hf : fraction ≤ ten_thousandths) where
@@ -75,4 +75,4 @@ module _ (n fraction : ℕ) (tan : Quotient) (p : PortionOf n fraction ten_thous
   pub is-modest : n ≤ most_n → WithinMostN n tan.whole
   is-modest h = record { n_most = h; tan_most = p.most }
 
-pub ruleset excreted-steps = (is-excretion, is-modest)
+pub ruleset excreted_steps = (is-excretion, is-modest)

@@ -1,4 +1,6 @@
 // 2.2, 2.22, 2.50 and 2.84: what the animals of a herd excrete in a year.
+#![tactic(auto)]
+
 ghost use Rattle.std.specs.Prelude.{◌≡◌, ◌*◌, ◌≤◌};
 ghost use Rattle.amounts.specs.Units.{ten_thousandths};
 ghost use Rattle.amounts.specs.Dividing.{dividing};

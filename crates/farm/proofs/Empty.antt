@@ -16,4 +16,4 @@ herd-none e = rw e
 pub farm-none : {h : Herd} → h ≡ no_herd → ◌≡◌ {A = Farm} (record { herds = replicate herds_most h; count = 0 }) no_farm
 farm-none e = ap (λ (x : Herd). record { herds = replicate herds_most x; count = 0 }) e
 
-pub ruleset empty-steps = (herd-none, farm-none)
+pub ruleset empty_steps = (herd-none, farm-none)

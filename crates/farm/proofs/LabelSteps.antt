@@ -58,7 +58,7 @@ module _ (l : Label) where
     pub bytes_good : l.len ≤ i → true ≡ label_ok l
     bytes_good h = rw (taken-end l.len l.bytes i h) at inv
 
-pub ruleset label-steps = (no_byte, past_room, label-start, byte-bad, byte-good, bytes_good)
+pub ruleset label_steps = (no_byte, past_room, label-start, byte-bad, byte-good, bytes_good)
 
 -- ---- two labels: all bytes from i on were the same
 
@@ -117,7 +117,7 @@ module _ (a b : Label) where
     unfolding same_bytes
     bytes_same h = let z : i ≡ 0 = omega arith in rw z at inv
 
-pub ruleset same-label-steps = (other_length, both_long, same_start, byte-other, byte-same, bytes_same)
+pub ruleset same_label_steps = (other_length, both_long, same_start, byte-other, byte-same, bytes_same)
 
 -- ---- the label that a text is: a text stored over zeros is the text with zeros behind it
 
@@ -147,4 +147,4 @@ module _ (s : List ℕ) {p : List ℕ} (q : p ≡ part s 0 label_most) where
   label-written w = let e = w.bytes ∙ ap (sets (replicate label_most 0) 0) q ∙ padded label_most label_most s (lit≤ tt) in
       cc
 
-pub ruleset label-of-steps = (label-fits, label-written)
+pub ruleset label_of_steps = (label-fits, label-written)

@@ -39,7 +39,7 @@ module _ (l : Label) where
     pub print_end : l.len ≤ i → p ≡ print_of l
     print_end h = rw (taken-end l.len l.bytes i h) at inv
 
-pub ruleset print-steps = (print_past, print_start, print_next, print_end)
+pub ruleset print_steps = (print_past, print_start, print_next, print_end)
 
 -- ---- labels that are one
 

@@ -1,5 +1,7 @@
 // The farm as a record: labelled herds, of which any input may be missing; and 01's refusals, of files and of records.
 // Knows nothing of how a file is read, and nothing of formulas.
+#![tactic(auto)]
+
 use inputs::Kind;
 
 pub mod labels; // when a label is good, and when two are one

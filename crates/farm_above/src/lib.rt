@@ -1,4 +1,6 @@
 // 02, W8: whether a farm's nh3_nlivestock passes a line, found herd by herd; no herd behind the answer is worked out.
+#![tactic(auto)]
+
 ghost use Rattle.std.specs.Prelude.{◌≡◌};
 ghost use Rattle.farm.specs.declared.Checked.TheVariants.{Accepted};
 ghost use Rattle.checks.specs.Checks.{check_farm, herds_of};

@@ -1,6 +1,8 @@
 // The calls on a farm's record, which for a caller is a lent slice of herds and a count (02, W12): its herds are the
 // first `count` entries. A count beyond the slice, or beyond the herds that any farm may have, is refusal 9 with record
 // 0. The herds are loaded into a farm by value, which the rest of the library works on.
+#![tactic(auto)]
+
 ghost use Rattle.std.specs.Prelude.{◌≡◌};
 ghost use Rattle.contracts.specs.Listings.{Called};
 ghost use Rattle.farm_calls.specs.Totals.{totals_in, listing_in};

@@ -27,4 +27,4 @@ module _ (limits : Limits) (s : List ℕ) (r : FileAnswer) where
   pub from : (source : Source) → limits ≡ limits_of source → r ≡ read_of limits s → r ≡ read_of (limits_of source) s
   from source q e = e ∙ ap (λ (l : Limits). read_of l s) q
 
-pub ruleset read-steps = (too_long, within, from)
+pub ruleset read_steps = (too_long, within, from)

@@ -1,6 +1,8 @@
 // A farm file, of any bytes, becomes the farm that its records say, or exactly one refusal with its record number: the
 // first that applies in 01's order, within the limits of where the file comes from. 1 comes before all; the records are
 // crate `reader`.
+#![tactic(auto)]
+
 ghost use Rattle.std.specs.Prelude.{◌≡◌};
 ghost use Rattle.limits.specs.Limits.{limits_of};
 ghost use Rattle.reader.specs.Files.{herds_within, read_of};

@@ -53,7 +53,7 @@ module _ (s : List ℕ) (from i : ℕ) (X : FieldEnd) (inv : quoted_from from i 
         closed-other n1 n2 n3 =
             simp (rest_at s (i + 1) h2, closed_from, ne_eqb _ _ n1, ne_eqb _ _ n2, ne_eqb _ _ n3) at closed
 
-pub ruleset quoted-steps = (quoted-end, quoted-byte, closed-end, closed-comma, closed-cr, closed-quote, closed-other)
+pub ruleset quoted_steps = (quoted-end, quoted-byte, closed-end, closed-comma, closed-cr, closed-quote, closed-other)
 
 -- at a field's start
 module _ (s : List ℕ) (at : ℕ) (r : FieldEnd) where
@@ -71,4 +71,4 @@ module _ (s : List ℕ) (at : ℕ) (r : FieldEnd) where
   unfolding field_from
   field-none q h = q ∙ simp (rest_end s at h, field_from)
 
-pub ruleset field-steps = (field-quoted, field_plain, field-none)
+pub ruleset field_steps = (field-quoted, field_plain, field-none)

@@ -22,6 +22,8 @@
 //   file: to undo the doubling would need room to write to.
 // - Each answer has its own `return`, so that the proof knows the tests that led there. A scan's invariant says what is
 //   still to be found, never what was passed.
+#![tactic(auto)]
+
 ghost use Rattle.std.specs.Prelude.{◌≡◌, ◌+◌, drop};
 ghost use Rattle.field_ends.specs.Places.{quoted_from, field_from};
 

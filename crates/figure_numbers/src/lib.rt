@@ -1,4 +1,6 @@
 // The sections of 001 in one array. A field meets its number here, and nowhere else in the code.
+#![tactic(auto)]
+
 ghost use Rattle.std.specs.Prelude.{◌≡◌};
 ghost use Rattle.outputs.specs.Grams.{grams_in, GramsTo, figure_most};
 

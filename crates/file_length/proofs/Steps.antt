@@ -76,7 +76,7 @@ module _ (f : Farm) where
         let none = taken-end f.count f.herds i b in
         omega (arith, inv.adds-up, ap (λ (l : List Herd). length (each herd_file l)) none)
 
-pub ruleset length-steps = (passes, starts, sum_fits, goes_on, all_measured)
+pub ruleset length_steps = (passes, starts, sum_fits, goes_on, all_measured)
 
 -- ---- the whole
 
@@ -89,4 +89,4 @@ module _ (file : List ℕ) (n : ℕ) (e : n ≡ length file) where
   unfolding file_checked
   not_too_long h = rw (le-ltb cooperative_bytes (length file) (omega (arith, h, e)))
 
-pub ruleset limit-steps = (too_long, not_too_long)
+pub ruleset limit_steps = (too_long, not_too_long)

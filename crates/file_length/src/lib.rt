@@ -1,5 +1,7 @@
 // How long the file of an accepted farm is, herd by herd, and refusal 1 where it would be longer than any that is read
 // (02, W5 and W12). It is told before a byte of it is put.
+#![tactic(auto)]
+
 ghost use Rattle.std.specs.Prelude.{◌≡◌, length};
 ghost use Rattle.farm.specs.declared.Checked.TheVariants.{Accepted};
 ghost use Rattle.checks.specs.Checks.{check_herd, check_farm, herds_of};

@@ -1,4 +1,6 @@
 // The line of a farm file's refusal, of its fault and its record.
+#![tactic(auto)]
+
 ghost use Rattle.std.specs.Prelude.{◌≤◌, length};
 ghost use Rattle.base.specs.Wrote.{Wrote};
 ghost use Rattle.farm.specs.Refusals.{number};

@@ -59,4 +59,4 @@ module _ (h : Herd) (i : ℕ) {count : ℕ} (q : count ≡ count_of h.kind) {old
       none_left : rest_of h i ≡ []
       none_left = rw (left_end (rows_of h.kind) i (omega (arith, q, b)))
 
-pub ruleset herd-steps = (herd-begun, record_room_lem, record_put, slot-inside, herd-put)
+pub ruleset herd_steps = (herd-begun, record_room_lem, record_put, slot-inside, herd-put)

@@ -42,7 +42,7 @@ module _ (kind : Kind) (slot : ℕ) (b : slot < count_of kind) {k : Kind} (words
       → Wrote old at (input_text (row_at kind slot)) new next
   input-put x = wrote_as input-is x
 
-pub ruleset input-steps = (input-room, input-put)
+pub ruleset input_steps = (input-room, input-put)
 
 -- ---- the record
 

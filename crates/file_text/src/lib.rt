@@ -1,5 +1,7 @@
 // A herd put into a buffer as the file that says it (02, W5). It goes by the list of inputs: a record for each, with
 // what stands in its slot.
+#![tactic(auto)]
+
 mod heads; // module and input name of each record
 
 ghost use Rattle.std.specs.Prelude.{◌+◌, ◌≤◌, ◌<◌, length};

@@ -122,7 +122,7 @@ pub no_module : (m n : List ℕ) {x : Found} → x ≡ find_text modules m → x
 unfolding find_placed placed_among first_row is_placed
 no_module m n q e = sym (input-placed m n q refl ∙ ap (λ (z : Found). find_placed z (find_text input_names n)) e)
 
-pub ruleset input-steps = (no_module, no_name, in_module, past-modules)
+pub ruleset input_steps = (no_module, no_name, in_module, past-modules)
 
 -- ---- the slots from `slot` on are still to be looked at, X is what is found among them all
 
@@ -142,4 +142,4 @@ module _ (k : Kind) (slot to j : ℕ) (X : FoundInput) (inv : find_slots k (to -
   unfolding find_slots
   slot-none b = let z : to - slot ≡ 0 = omega arith in rw z at inv
 
-pub ruleset slot-steps = (slot-found, slot-other, slot-none)
+pub ruleset slot_steps = (slot-found, slot-other, slot-none)

@@ -1,5 +1,7 @@
 // An input of 01's list, found by a record's module and name: by its module first, whose inputs are a stretch of its
 // kind's, then by its name among those.
+#![tactic(auto)]
+
 ghost use Rattle.std.specs.Prelude.{◌≡◌};
 ghost use Rattle.words.specs.declared.Found.{Found};
 ghost use Rattle.words.specs.declared.Found.TheVariants.{At};

@@ -55,7 +55,7 @@ pub given-signed : (form : Form) {given : Given} {v : ℤ} → SFits w32 v → g
     → r ≡ signed_fits form (back v) → r ≡ fits form given
 given-signed form f e h = rw (e, ← to_z-of_z f) h
 
-pub ruleset fit-steps =
+pub ruleset fit_steps =
     (number_fits, or_standard-fits, no-standard-fits, one-of-fits, value-fits, wide_fits, signed-fits, given-signed)
 
 -- ---- i inputs fitted
@@ -77,4 +77,4 @@ module _ (h : Herd) (i : ℕ) {count : ℕ} (q : count ≡ count_of h.kind) wher
     pub all-fitting : count ≤ i → false ≡ unfit h
     all-fitting b = rw (left_end (rows_of h.kind) i (omega arith)) at inv
 
-pub ruleset unfit-steps = (misfit, fitting, all-fitting)
+pub ruleset unfit_steps = (misfit, fitting, all-fitting)

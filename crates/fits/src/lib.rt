@@ -1,4 +1,6 @@
 // Whether a value of a record that is handed in is one of its input's form, and whether a herd has one that is none: 7.
+#![tactic(auto)]
+
 ghost use Rattle.std.specs.Prelude.{◌≡◌};
 ghost use Rattle.fits.specs.Fits.{standard_fits, value_fits, signed_fits, fits, unfit};
 

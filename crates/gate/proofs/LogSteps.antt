@@ -54,7 +54,7 @@ module _ (p : Progress) {x : DayRead} where
         → Further (progress due t) ≡ taken_by p x
     taken-further h u v = simp (e, sym q ∙ not-false b h, u, v)
 
-pub ruleset taken-steps = (taken-wrong, taken-not-due, taken-further)
+pub ruleset taken_steps = (taken-wrong, taken-not-due, taken-further)
 
 -- ---- read through
 
@@ -71,7 +71,7 @@ module _ (p : Progress) where
   unfolding finished
   ends_in_time e q = simp (finished, e, q)
 
-pub ruleset finished-steps = (ends-at-once, ends_early, ends_in_time)
+pub ruleset finished_steps = (ends-at-once, ends_early, ends_in_time)
 
 -- ---- the loop
 
@@ -189,4 +189,4 @@ module _ (s : List ℕ) (place : ReaderPlace) (p : Progress) (n : ℕ) (x : Reac
           go (reads.Wrong refusal) h = let k : Wrong refusal ≡ Further q = ap (taken_by p) (sym h) ∙ sym qt ∙ e in
               clash cc
 
-pub ruleset log-steps = (reached-front, reached-roomy, log-ends, log-broken, record_less, log-wrong, log-further)
+pub ruleset log_steps = (reached-front, reached-roomy, log-ends, log-broken, record_less, log-wrong, log-further)

@@ -1,5 +1,7 @@
 // The log of a pasture gate, a record a day, through one calendar year, becomes a farm file's grazing days, yard days
 // and grazing hours; or exactly one refusal with its record number, the first that applies in the order of 02's W10.
+#![tactic(auto)]
+
 pub mod logs; // the log read through
 
 use calendar::Due;

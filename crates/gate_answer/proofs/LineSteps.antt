@@ -39,4 +39,4 @@ answer-is s {a} q {new} {r} w =
     w.past ∙ omega arith ∙ ap (λ (x : LogAnswer). length (answer_lines x)) q in
     rw (q, b, l)
 
-pub ruleset line-steps = (lines-given, lines-refused, answer-is)
+pub ruleset line_steps = (lines-given, lines-refused, answer-is)

@@ -1,4 +1,6 @@
 // What a gate's log is answered with, put together as bytes: its three lines, or the line of the refusal.
+#![tactic(auto)]
+
 ghost use Rattle.std.specs.Prelude.{◌≡◌, ◌≤◌, length};
 ghost use Rattle.base.specs.Wrote.{Wrote};
 ghost use Rattle.gate_answer.specs.Lines.{answer_lines};

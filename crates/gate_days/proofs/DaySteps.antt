@@ -61,7 +61,7 @@ module _ (s : List ℕ) (f : Fields) {a : List ℕ} (qa : a ≡ held s f.second)
       unfolding hours_of
       hours-are h = simp (hours_of, pasture-at ∙ e, yard-at ∙ g, le-ltb 240 (p + q) h)
 
-pub ruleset hours-steps = (no-pasture, no-yard, too_many, hours-are)
+pub ruleset hours_steps = (no-pasture, no-yard, too_many, hours-are)
 
 -- ---- the day
 
@@ -88,7 +88,7 @@ module _ (s : List ℕ) (f : Fields) where
       unfolding day_of
       says-day g = simp (day_of, eq-eqb f.count 3 three, sym qx ∙ e, date-at ∙ g)
 
-pub ruleset day-steps = (not_three, bad_hours, wrong_date, says-day)
+pub ruleset day_steps = (not_three, bad_hours, wrong_date, says-day)
 
 -- ---- a day has 24 hours
 

@@ -1,4 +1,6 @@
 // What a record of a gate's log says of its day by itself, and the refusals of a log (02, W10).
+#![tactic(auto)]
+
 pub mod faults; // the refusals' numbers
 pub mod days; // what a record says of its day
 

@@ -1,5 +1,7 @@
 // The sections of herds that have no pig house, cattle and roughage-consuming animals: excretion, yard, pasture, and
 // what remains for the housing.
+#![tactic(auto)]
+
 ghost use Rattle.std.specs.Prelude.{◌≡◌, ◌≤◌};
 ghost use Rattle.amounts.specs.Units.{ten_thousandths};
 ghost use Rattle.amounts.specs.Dividing.{dividing};

@@ -46,19 +46,19 @@ module _ {name : String} (grows : Grows name) (h g : Herd) (accepted : check_her
       rw (typed_cattle h k m.kind_of_first, typed_cattle g k m.kind_of_second, cattle-alike k b)
       (by_name (cattle-grows (number_at g 0) (cattle_of k h) (number_at g 1) (cattle-animals k b) (cattle_head k b)))
 
-  of-kind : (kind : Kind) → More name kind h g → NoLessAmmonia (herd_figures h) (herd_figures g)
+  of_kind : (kind : Kind) → More name kind h g → NoLessAmmonia (herd_figures h) (herd_figures g)
   unfolding figures_of
-  of-kind kinds.Roughage m =
+  of_kind kinds.Roughage m =
       let b = both_grow grows m in
       rw (typed_roughage h m.kind_of_first, typed_roughage g m.kind_of_second, roughage-alike b)
       (by_name (roughage-grows (number_at g 1) (roughage_of h) (entered_at g 2)
       (roughage-sound h accepted m.kind_of_first) (roughage-animals b) (roughage_head b _)))
-  of-kind kinds.Cattle m = of-cattle OtherCattle m
-  of-kind kinds.DairyCow m = of-cattle DairyCow m
-  of-kind kinds.Pigs m =
+  of_kind kinds.Cattle m = of-cattle OtherCattle m
+  of_kind kinds.DairyCow m = of-cattle DairyCow m
+  of_kind kinds.Pigs m =
       let b = both_grow grows m in
       rw (typed_pigs h m.kind_of_first, typed_pigs g m.kind_of_second, pigs-alike b)
       (by_name (pigs_grow (number_at g 0) (pigs_of h) (number_at g 1) (pigs-animals b) (pigs_head b)))
 
   pub more-no-less : {kind : Kind} → More name kind h g → NoLessAmmonia (herd_figures h) (herd_figures g)
-  more-no-less {kind} m = of-kind kind m
+  more-no-less {kind} m = of_kind kind m

@@ -56,4 +56,4 @@ module _ (i j : Inputs) (s : Sections) (es : s ≡ sections_of j) (k : i ≡ j) 
   pub figures-are : (f : Figures) → f.grams ≡ grams_in s → f ≡ figures_of i
   figures-are f q = ap (λ (g : List ℤ). record { grams = g }) (q ∙ is-herd)
 
-pub ruleset kind-steps = (sections_small, figures-are)
+pub ruleset kind_steps = (sections_small, figures-are)

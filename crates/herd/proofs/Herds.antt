@@ -84,7 +84,7 @@ module _ (r : Rates) (o : Outdoor) (e : Excretion) (y : Yard) (g : Grazing)
       → s ≡ of_grazer_sections e y g h → s ≡ handed_sections (outdoor_on dividing r o (with_tan dividing n fraction))
   is-outdoor n fraction h s qe qh qs = qs ∙ rw (qh, qy, qg, qe) refl
 
-pub ruleset outdoor-steps = (yard_in_n, yard_in_tan, grazing_in_n, grazing_in_tan, is-outdoor)
+pub ruleset outdoor_steps = (yard_in_n, yard_in_tan, grazing_in_n, grazing_in_tan, is-outdoor)
 
 module _ (c : Cattle) (fraction : ℕ) (qt : fraction ≡ cattle_fraction c) where
   pub cattle-within : SoundCattle c → fraction ≤ ten_thousandths
@@ -97,7 +97,7 @@ module _ (c : Cattle) (fraction : ℕ) (qt : fraction ≡ cattle_fraction c) whe
   unfolding sections_of
   is-cattle r n s er en es = es ∙ rw (er.is, en.is, qt) refl
 
-pub ruleset cattle-steps = (cattle-within, is-cattle)
+pub ruleset cattle_steps = (cattle-within, is-cattle)
 
 -- ---- roughage-consuming animals
 module _ (r : Roughage) (e : Excretion) (g : Grazing)
@@ -122,7 +122,7 @@ module _ (r : Roughage) (e : Excretion) (g : Grazing)
       → s ≡ of_grazer_sections e y g h → s ≡ handed_sections (roughage_on dividing r (with_tan dividing n fraction))
   is-roughage-from n fraction y h s qe qy qh qs = qs ∙ rw (qh, qy, qg, qe) refl
 
-pub ruleset roughage-from-steps = (roughage-n, roughage-tan, housed-modest, is-roughage-from)
+pub ruleset roughage_from_steps = (roughage-n, roughage-tan, housed-modest, is-roughage-from)
 
 module _ (r : Roughage) (grams fraction : ℕ)
     (qn : grams ≡ n_excretion_animal r.animalcategory r.inp_n_excretion)
@@ -138,7 +138,7 @@ module _ (r : Roughage) (grams fraction : ℕ)
   unfolding sections_of
   is-roughage n s en es = es ∙ rw (en.is, qn, qt) refl
 
-pub ruleset roughage-steps = (grams-within, fraction-within, is-roughage)
+pub ruleset roughage_steps = (grams-within, fraction-within, is-roughage)
 
 -- ---- pigs
 module _ (p : Pigs) (e : Excretion) (g : Grazing)
@@ -179,7 +179,7 @@ module _ (p : Pigs) (e : Excretion) (g : Grazing)
       (handed_sections (pigs_handed p (with_tan dividing n p.tan_fraction)))
   is-pigs-from n y h q x qe qy qh qq qx = rw (qh, qq, qx, qy, qg, qe) refl
 
-pub ruleset pigs-from-steps = (pigs-n, pigs-tan, pigs-housed, pigs-n-fits, is-pigs-from)
+pub ruleset pigs_from_steps = (pigs-n, pigs-tan, pigs-housed, pigs-n-fits, is-pigs-from)
 
 pub is-pigs : (p : Pigs) (n : ℕ) (s : Sections) → UpTo most_n (p.animals * p.inp_n_excretion) n
     → s ≡ handed_sections (pigs_handed p (with_tan dividing n p.tan_fraction)) → s ≡ sections_of (kinds.Pigs p)

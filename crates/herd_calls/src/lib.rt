@@ -2,6 +2,8 @@
 // into a lent buffer; and the totals' listing of a farm by value, for the calls that have read or loaded one. A record
 // of any content is answered, with exactly one refusal or with what is asked for; what the checks refuse comes before
 // 13.
+#![tactic(auto)]
+
 mod writing; // into the lent buffer, or refusal 13
 
 ghost use Rattle.std.specs.Prelude.{◌≡◌};

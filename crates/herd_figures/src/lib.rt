@@ -1,4 +1,6 @@
 // A herd's figures and its cuts, by the kind: both are read off the same sections.
+#![tactic(auto)]
+
 ghost use Rattle.std.specs.Prelude.{◌≡◌};
 ghost use Rattle.kinds.specs.Sound.{Sound};
 ghost use Rattle.herd.specs.Herd.{figures_of};

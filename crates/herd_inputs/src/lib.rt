@@ -1,4 +1,6 @@
 // A herd's record as the complete inputs of its kind, each from the slot of its name.
+#![tactic(auto)]
+
 ghost use Rattle.std.specs.Prelude.{◌≡◌};
 ghost use Rattle.inputs.specs.declared.Kind.TheVariants as kinds;
 ghost use Rattle.typed_inputs.specs.Typed.{given_named, tan_in, roughage_of, outdoor_of, cattle_of, pigs_of, typed_of};

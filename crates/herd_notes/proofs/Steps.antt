@@ -127,9 +127,9 @@ module _ (k : CattleKind) where
       → r ≡ cattle_off_share k entered
   off_dairy_tan entered e q = rw e q
 
-pub ruleset cattle-kinds = (none_other, off_dairy)
+pub ruleset cattle_kinds = (none_other, off_dairy)
 
-pub ruleset cattle-tan-kinds = (none-other-tan, off_dairy_tan)
+pub ruleset cattle_tan_kinds = (none-other-tan, off_dairy_tan)
 
 -- the standards are within what may be entered
 pub category-within : (category s : ℕ) → s ≡ standard_of category → s ≤ most_grams
@@ -155,9 +155,9 @@ module _ (n : Notes) (i : Inputs) where
   unfolding notes_of
   notes-of-pigs p q e = q ∙ rw e
 
-pub ruleset kind-notes = (notes-of-roughage, notes-of-cattle, notes-of-pigs)
+pub ruleset kind_notes = (notes-of-roughage, notes-of-cattle, notes-of-pigs)
 
-pub ruleset note-steps = (
+pub ruleset note_steps = (
   entered-fits,
   standard-fits,
   fraction-fits,

@@ -1,4 +1,6 @@
 // A herd's notes, kind by kind, and the notes one after the other.
+#![tactic(auto)]
+
 ghost use Rattle.std.specs.Prelude.{◌≡◌, ◌≤◌};
 ghost use Rattle.amounts.specs.Units.{ten_thousandths};
 ghost use Rattle.kinds.specs.Sound.{EnteredTo, SoundRoughage, SoundCattle, Sound, most_grams};

@@ -54,7 +54,7 @@ module _ (o : Outdoor) (both : ℕ) (eb : DaysWithBoth o both) where
       unfolding reason_of
       is-lowered h = rw (← eb.is, ne_eqb both 0 some, ← ea, there, ← es.is, lt-leb share partly h)
 
-pub ruleset reason-steps = (no-days, none-there, is-chosen, is-lowered)
+pub ruleset reason_steps = (no-days, none-there, is-chosen, is-lowered)
 
 pub is-why : (o : Outdoor) (r : Reason) (chosen both share : ℕ) → r ≡ reason_of o
     → UpTo tenths (share_excretion o.exercise_yard) chosen → DaysWithBoth o both → share ≡ share_from r chosen
@@ -79,7 +79,7 @@ module _ (i : Inputs) where
   unfolding told_of
   told-pigs p e = rw e
 
-pub ruleset kind-steps = (outdoor-sound, told-cattle, told-roughage, told-pigs)
+pub ruleset kind_steps = (outdoor-sound, told-cattle, told-roughage, told-pigs)
 
 -- ---- a herd's record
 
@@ -90,7 +90,7 @@ module _ (t : YardReason) where
   pub answer-refused : t ≡ NoYard → Refused OtherKind 0 ≡ told_answer t
   answer-refused e = rw e
 
-pub ruleset told-steps = (answer-given, answer-refused)
+pub ruleset told_steps = (answer-given, answer-refused)
 
 module _ (h : Herd) (k : Checked) (q : k ≡ check_herd h) where
   pub accepted-sound : (i : Inputs) → k ≡ checks.Accepted → i ≡ typed_of h → Sound i
@@ -105,4 +105,4 @@ module _ (h : Herd) (k : Checked) (q : k ≡ check_herd h) where
   unfolding reason_answer
   is-refused refusal at t = rw (← q, t)
 
-pub ruleset answer-steps = (accepted-sound, is-answer, is-refused)
+pub ruleset answer_steps = (accepted-sound, is-answer, is-refused)

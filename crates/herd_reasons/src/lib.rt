@@ -1,4 +1,6 @@
 // 02, W2: the first reason whose fact holds in a herd's inputs, with the number of days and the share that follows.
+#![tactic(auto)]
+
 pub mod answers; // from a herd's record
 
 ghost use Rattle.std.specs.Prelude.{◌≡◌};

@@ -30,4 +30,4 @@ module _ (hs : List Herd) (n : ℕ) (l : Label) (i : ℕ) (X : Bool) (inv : earl
   unfolding earlier_label
   label-new b = rw (taken-end n hs i b) at inv
 
-pub ruleset earlier-steps = (label-found, label-not-here, label-new)
+pub ruleset earlier_steps = (label-found, label-not-here, label-new)

@@ -28,4 +28,4 @@ module _ (ps : List ℕ) (n print i : ℕ) (any X : Bool) (inv : (any || has_pri
   pub prints-end : n ≤ i → any ≡ X
   prints-end h = rw (taken-end n ps i h, or_false) at inv
 
-pub ruleset print-steps = (print_turn, prints-end)
+pub ruleset print_steps = (print_turn, prints-end)

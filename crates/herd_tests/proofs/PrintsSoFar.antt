@@ -61,4 +61,4 @@ module _ (hs : List Herd) (l : Label) {b : Bool} where
   pub new-by-label : b ≡ earlier_label hs l → b ≡ false → earlier_label hs l ≡ false
   new-by-label q t = sym q ∙ t
 
-pub ruleset new-steps = (new-by_print, new-by-label)
+pub ruleset new_steps = (new-by_print, new-by-label)

@@ -39,4 +39,4 @@ module _ (h : Herd) (i : ℕ) {count : ℕ} (q : count ≡ count_of h.kind) wher
     pub given-all : count ≤ i → false ≡ lacks h
     given-all b = rw (left_end (rows_of h.kind) i (omega arith)) at inv
 
-pub ruleset lacks-steps = (missing, given-one, given-all)
+pub ruleset lacks_steps = (missing, given-one, given-all)

@@ -1,5 +1,7 @@
 // What reading and the checks of a record both ask of a herd: whether it lacks an input, 12, and whether its label is
 // that of an earlier herd, 8.
+#![tactic(auto)]
+
 ghost use Rattle.std.specs.Prelude.{◌≡◌, ◌≤◌, length, take};
 ghost use Rattle.farm.specs.Limits.{herds_most};
 ghost use Rattle.herd_tests.specs.Tests.{lacks, earlier_label, has_print};

@@ -52,7 +52,7 @@ module _ (s : List ℕ) (m : Bool) (em : m ≡ marked s) (f : ℕ) (ef : f ≡ t
     pub text-put : (new : List ℕ) (r : ℕ) → Wrote out 0 (text_from s f) new r → Wrote out 0 (mended_of s) new r
     text-put new r w = rw text-is at w
 
-pub ruleset text-steps = (start-passed, text-fits, text-put)
+pub ruleset text_steps = (start-passed, text-fits, text-put)
 
 -- ---- and read
 

@@ -51,4 +51,4 @@ module _ (i : Input) (s : List ℕ) (r : Reach) where
   pub read-log : i ≡ Log → r ≡ log_reach s → r ≡ read_to i s
   read-log e h = rw e h
 
-pub ruleset reach-steps = (farm-through, farm-refused, log-through, log-refused, read-farm, read-log)
+pub ruleset reach_steps = (farm-through, farm-refused, log-through, log-refused, read-farm, read-log)

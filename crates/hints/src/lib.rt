@@ -1,5 +1,7 @@
 // When mending is worth trying on a refused farm file, or a refused log: where the mended file is accepted, or refused
 // further on.
+#![tactic(auto)]
+
 ghost use Rattle.std.specs.Prelude.{◌≡◌, ◌*◌, ◌≤◌, length};
 ghost use Rattle.base.specs.Wrote.{Wrote};
 ghost use Rattle.spreadsheet.specs.Mended.{mended_of};

@@ -78,7 +78,7 @@ module _ (days hours : ℕ) (hd : days ≤ year) (hh : hours ≤ day) where
 pub is_one : (days hours : ℕ) (q : Quotient) → q ≡ undivided billionths → year * day ≤ days * hours → Grown days hours q
 is_one days hours q e h = record { is = rw (e, le-ltb (days * hours) (year * day) h) refl; most = rw e (omega arith) }
 
-pub ruleset growth-steps = (grown-fits, sum_fits, is-mean, is_one)
+pub ruleset growth_steps = (grown-fits, sum_fits, is-mean, is_one)
 
 -- on whole numbers it is the same number
 pub grown-whole : (days hours : ℕ) → worth (c_grazing dividing days hours) ≡ c_grazing cutting days hours
@@ -115,7 +115,7 @@ module _ (factor : ℕ) where
   pub at_ceiling : billionths < factor → UpTo billionths (least factor billionths) billionths
   at_ceiling h = record { is = rw (lt-ltb billionths factor h) refl; most = omega arith }
 
-pub ruleset factor-steps = (under_ceiling, at_ceiling)
+pub ruleset factor_steps = (under_ceiling, at_ceiling)
 
 pub are-none : (q : Quotient) → q ≡ undivided 0
     → ◌≡◌ {A = Factors} (record { c_grazing = q; times_er_housing = q; times_c_free_factor_housing = q })

@@ -1,5 +1,7 @@
 // The flow through the housing door, and 2.85 to 2.87: the housing of other roughage-consuming animals and its ammonia.
 // Factors are in billionths. The coefficient 0.9989 that 2.87 prints stands in no formula there, and none here.
+#![tactic(auto)]
+
 ghost use Rattle.std.specs.Prelude.{◌≡◌, ◌≤◌, ◌<◌, ◌^◌};
 ghost use Rattle.cut_division.specs.Cut.{least};
 ghost use Rattle.amounts.specs.Units.{billionths, year, day};

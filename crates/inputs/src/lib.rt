@@ -2,6 +2,8 @@
 // and the record checks go by it. An input is known by its kind and its slot, its place among the inputs of the kind. A
 // new input is an arm of its kind's function and a row in specs/Inputs.antt, at the end of its kind's, and its module's
 // stretch in crate `finding`; a new name or module is a row in crate `words`.
+#![tactic(auto)]
+
 pub mod slots; // the slots by name, and how many they are
 
 ghost use Rattle.std.specs.Prelude.{◌≡◌};

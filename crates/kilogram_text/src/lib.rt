@@ -1,4 +1,6 @@
 // Grams written as kilograms, as the listing has them.
+#![tactic(auto)]
+
 ghost use Rattle.std.specs.Prelude.{◌+◌, ◌≤◌, length};
 ghost use Rattle.base.specs.Wrote.{Wrote};
 ghost use Rattle.kilogram_text.specs.Kilograms.{sign, thousandths_of, kilograms_of};

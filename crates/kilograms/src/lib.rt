@@ -1,4 +1,6 @@
 // Kilograms for charts (02, W13): a herd's figures and a farm's totals as doubles, by the numbers that the grams have.
+#![tactic(auto)]
+
 ghost use Rattle.std.specs.Prelude.{◌≡◌, map, ◌≤◌, length, nat_abs};
 ghost use Rattle.outputs.specs.Grams.{GramsTo};
 ghost use Rattle.kilograms.specs.Kilograms.{exact_most, in_kilograms, kilograms_of, total_kilograms_of};

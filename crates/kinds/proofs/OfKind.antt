@@ -26,4 +26,4 @@ module _ (i : Inputs) (s : Sound i) where
       of : Sound (kinds.Pigs p) → SoundPigs p
       of (pigs h) = h
 
-pub ruleset of-kind = (sound-roughage, sound-cattle, sound-pigs)
+pub ruleset of_kind = (sound-roughage, sound-cattle, sound-pigs)

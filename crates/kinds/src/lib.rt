@@ -1,5 +1,6 @@
 // The inputs of each kind of herd, typed and complete, under the names of 01's list: grams a head, ten-thousandths of
 // them, percent, days of a year, tenths of an hour.
+#![tactic(auto)]
 
 pub mod choices; // the choices by their places in 01's lists
 pub mod free; // what a free factor leaves

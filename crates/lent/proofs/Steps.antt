@@ -30,4 +30,4 @@ module _ (hs : List Herd) (count len : ℕ) where
       → ◌≡◌ {A = Farm} (record { herds = hs; count = herds_most + 1 }) (farm_from hs count len)
   past-array k = rw (lt-ltb len count k)
 
-pub ruleset farm-steps = (room_so, all-blank, in_array, past-array)
+pub ruleset farm_steps = (room_so, all-blank, in_array, past-array)

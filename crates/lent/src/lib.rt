@@ -1,5 +1,7 @@
 // A farm's herds in a lent array of herd records (02, W12): stored there from a farm, and loaded from there into one.
 // Every call on such an array goes by these two; the work between them is done by value.
+#![tactic(auto)]
+
 ghost use Rattle.std.specs.Prelude.{◌≡◌, min, length};
 ghost use Rattle.farm.specs.Limits.{herds_most};
 ghost use Rattle.checks.specs.Checks.{herds_of};

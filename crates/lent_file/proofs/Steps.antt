@@ -24,4 +24,4 @@ module _ (len : ℕ) where
   unfolding read_for
   read_so s l r q e = e ∙ ap (λ (k : Limits). read_of k s) q
 
-pub ruleset reading-steps = (short-array, long-array, read_so)
+pub ruleset reading_steps = (short-array, long-array, read_so)

@@ -1,5 +1,7 @@
 // A farm file read into a lent array of herd records (02, W12): its herds go to the front of the array; or the first
 // refusal that applies is given, with its record, and the array stays as it was.
+#![tactic(auto)]
+
 ghost use Rattle.std.specs.Prelude.{◌≡◌};
 ghost use Rattle.lent_file.specs.Reading.{limits_for, read_for, told_of, ReadInto};
 

@@ -24,4 +24,4 @@ module _ (book : Book) (s : Stepped) where
       → record { decided = Refused refusal; book = book } ≡ told_of book s
   told-refused refusal e = rw e
 
-pub ruleset calling-steps = (named_so, told-done, told-refused)
+pub ruleset calling_steps = (named_so, told-done, told-refused)

@@ -1,6 +1,8 @@
 // The steps that change a farm in a lent array of herd records, beside its book (02, W11 and W12): the farm is loaded
 // from the array, the step is taken by value, and what it leaves is stored. A refused step leaves array and book as
 // they were.
+#![tactic(auto)]
+
 ghost use Rattle.std.specs.Prelude.{◌≡◌};
 ghost use Rattle.books.specs.Answers.{TakesStep, StepsTo};
 ghost use Rattle.lent_steps.specs.Named.{herd_named};

@@ -2,6 +2,8 @@
 // that says its herds among them (02, W5). What the checks refuse comes first, then 1 where the file would be too long,
 // then 13. A count beyond the slice, or beyond the herds that any farm may have, is refusal 9 with record 0, as in
 // crate `farm_calls`.
+#![tactic(auto)]
+
 ghost use Rattle.contracts.specs.Listings.{Called};
 ghost use Rattle.lent_view.specs.Views.{view_in};
 

@@ -1,5 +1,7 @@
 // How long a farm file may be, and how many herds its farm may have. A caller says where a file comes from and invents
 // no limit.
+#![tactic(auto)]
+
 ghost use Rattle.std.specs.Prelude.{◌≡◌};
 ghost use Rattle.limits.specs.Limits.{limits_of};
 

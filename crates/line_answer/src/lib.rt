@@ -1,5 +1,7 @@
 // What a farm file is answered with where a line is given (02, W8), put together as bytes: yes or no and the count, or
 // the line of the refusal.
+#![tactic(auto)]
+
 ghost use Rattle.line_answer.specs.Program.{Puts};
 
 use above_line::LineAnswer;

@@ -29,7 +29,7 @@ module _ (f : Farm) (k : Checked) (q : k ≡ check_farm f) (line : ℕ) where
   pub farm-refused : (refusal : Refusal) (n : ℕ) → k ≡ checks.Refused refusal n → FarmAnswers line f (Refused refusal n)
   farm-refused refusal n e = rw (← q, e) refused
 
-pub ruleset farm-steps = (farm-passes, farm-screened, farm-refused)
+pub ruleset farm_steps = (farm-passes, farm-screened, farm-refused)
 
 module _ (source : Source) (s : List ℕ) (a : FileAnswer) (q : a ≡ read_of (limits_of source) s) (line : ℕ) where
   pub file-passes : a.checked ≡ checks.Accepted → check_farm a.farm ≡ checks.Accepted
@@ -44,4 +44,4 @@ module _ (source : Source) (s : List ℕ) (a : FileAnswer) (q : a ≡ read_of (l
       → FileAnswers source s line (Refused refusal n)
   file-refused refusal n e = rw (← q, e) refused
 
-pub ruleset file-steps = (file-passes, file-screened, file-refused)
+pub ruleset file_steps = (file-passes, file-screened, file-refused)

@@ -1,6 +1,8 @@
 // 02, W8: whether a farm's nh3_nlivestock passes a line of so many grams: the call on a file; and the same of a farm by
 // value, for the call that has loaded one. A file of any bytes and a record of any content are answered, with exactly
 // one refusal or with yes or no and how many herds were added up.
+#![tactic(auto)]
+
 ghost use Rattle.above_line.specs.Answers.{FarmAnswers};
 ghost use Rattle.line_calls.specs.Files.{FileAnswers};
 

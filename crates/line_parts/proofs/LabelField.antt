@@ -29,7 +29,7 @@ module _ (s : List ℕ) (i : ℕ) (X : Bool) (inv : has_comma (drop i s) ≡ X) 
   unfolding has_comma
   comma-none h = simp (rest_end s i h, has_comma) at inv
 
-pub ruleset comma-steps = (comma-here, comma-on, comma-none)
+pub ruleset comma_steps = (comma-here, comma-on, comma-none)
 
 -- what `has_comma` gave is b
 module _ (s : List ℕ) (b : Bool) (e : b ≡ has_comma s) where

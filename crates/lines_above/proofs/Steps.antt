@@ -31,4 +31,4 @@ module _ {old new : List ℕ} {r : ℕ} where
       → Wrote old 0 (refusal_line (number refusal) n) new r → Wrote old 0 (answer_line x) new r
   line_refused e w = rw e w
 
-pub ruleset line-steps = (line-yes, line-no, line-screened, line_refused)
+pub ruleset line_steps = (line-yes, line-no, line-screened, line_refused)

@@ -1,4 +1,6 @@
 // What is printed for the line's answer (02, W8): yes or no and how many herds were added up, or the refusal's line.
+#![tactic(auto)]
+
 ghost use Rattle.std.specs.Prelude.{◌+◌, ◌≤◌, length};
 ghost use Rattle.base.specs.Wrote.{Wrote};
 ghost use Rattle.decimal.specs.Rooms.{digits_most};

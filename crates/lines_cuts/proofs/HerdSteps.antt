@@ -38,4 +38,4 @@ module _ (h : Herd) (accepted : check_herd h ≡ Accepted) (t : Inputs) (et : t 
       pub within : next ≤ at + longest_cuts
       within = omega (arith, put.past, cuts_fit h accepted)
 
-pub ruleset herd-steps = (sound, room, put, within)
+pub ruleset herd_steps = (sound, room, put, within)

@@ -1,5 +1,7 @@
 // 02, W7: a herd's cuts as records, byte by byte, into a lent buffer: label and module as in the listing, name, what
 // was cut off, divisor. A name under which no cut was made has no record.
+#![tactic(auto)]
+
 mod texts; // sections and names
 mod lines; // a record, and records one after the other
 

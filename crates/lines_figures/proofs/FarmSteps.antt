@@ -114,4 +114,4 @@ module _ (f : Farm) (accepted : check_farm f ≡ Accepted) (old : List ℕ) (roo
             let all = ended (gone_on left_over w) in
             (all, omega (arith, all.past, farm-fits f accepted))
 
-pub ruleset farm-steps = (starts, has_room, sound, asks, goes_on, sum-small, has-totals-room, ends)
+pub ruleset farm_steps = (starts, has_room, sound, asks, goes_on, sum-small, has-totals-room, ends)

@@ -40,4 +40,4 @@ module _ (h : Herd) (accepted : check_herd h ≡ Accepted) (t : Inputs) (et : t 
       pub put-within : next ≤ at + herd_room
       put-within = omega (arith, put.past, herd-fits h accepted)
 
-pub ruleset herd-steps = (sound, has_room, put, put-within)
+pub ruleset herd_steps = (sound, has_room, put, put-within)

@@ -1,5 +1,7 @@
 // 01, The listing: an accepted herd's figures as lines, and an accepted farm's, "each herd, then the totals", into a
 // buffer that has room for as many. Each herd's figures are worked out once, and what was checked is not checked again.
+#![tactic(auto)]
+
 ghost use Rattle.std.specs.Prelude.{◌≡◌, ◌+◌, ◌≤◌, length};
 ghost use Rattle.base.specs.Wrote.{Wrote};
 ghost use Rattle.farm.specs.declared.Checked.TheVariants.{Accepted};

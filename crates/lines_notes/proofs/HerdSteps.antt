@@ -24,4 +24,4 @@ module _ (h : Herd) (t : Inputs) (et : t ≡ typed_of h) where
       → Wrote old at (notes_record (text h.label) n) new next → Wrote old at (herd_notes h) new next
   put n en old new at next w = wrote_as (ap (notes_record (text h.label)) (en ∙ ap notes_of et)) w
 
-pub ruleset herd-steps = (sound, put)
+pub ruleset herd_steps = (sound, put)

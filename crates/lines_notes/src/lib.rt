@@ -1,5 +1,7 @@
 // A herd's notes as a record, byte by byte, into a lent buffer: its label, and yes or no for each note. No figure is
 // worked out.
+#![tactic(auto)]
+
 ghost use Rattle.std.specs.Prelude.{◌≡◌, ◌+◌, ◌*◌, ◌≤◌, length};
 ghost use Rattle.base.specs.Wrote.{Wrote};
 ghost use Rattle.farm.specs.declared.Checked.TheVariants.{Accepted};

@@ -1,4 +1,6 @@
 // What the days of a gate's log come to, as its three lines.
+#![tactic(auto)]
+
 ghost use Rattle.std.specs.Prelude.{◌+◌, ◌≤◌, length};
 ghost use Rattle.base.specs.Wrote.{Wrote};
 ghost use Rattle.decimal.specs.Rooms.{digits_most};

@@ -25,4 +25,4 @@ module _ (h : Herd) (t : Inputs) (et : t ≡ typed_of h) where
       → Wrote old at (told_text v (text h.label) w) new next → Wrote old at (herd_why v h) new next
   put v w ew old new at next p = wrote_as (ap (told_text v (text h.label)) (ew ∙ ap told_of et)) p
 
-pub ruleset herd-steps = (sound, put)
+pub ruleset herd_steps = (sound, put)

@@ -53,7 +53,7 @@ module _ (old new : List ℕ) (at r : ℕ) where
   unfolding why_sentence
   sentence_put label w a b p q x y z = wrote-append (wrote-append x y) z
 
-pub ruleset part-steps = (tenths-put, numbers-put, record_put, days-put, shares-put, sentence_put)
+pub ruleset part_steps = (tenths-put, numbers-put, record_put, days-put, shares-put, sentence_put)
 
 -- ---- by the wording, and by what is told
 
@@ -74,4 +74,4 @@ pub as-nothing : (old label : List ℕ) (at : ℕ) (v : Wording) (t : YardReason
     → Wrote old at (told_text v label t) old at × (at ≤ at + longest_line)
 as-nothing old label at v t e = rw e (wrote_nothing old at, omega arith)
 
-pub ruleset wording-steps = (as_record, as_sentence, as-told, as-nothing)
+pub ruleset wording_steps = (as_record, as_sentence, as-told, as-nothing)

@@ -45,6 +45,6 @@ module _ (old new : List ℕ) (at end : ℕ) (r : Reason) where
       → Wrote old at (bytes (because r)) new end
   lowered-because e w = rw e w
 
-pub ruleset field-steps = (no-days-field, no-yard-field, chosen-field, lowered-field)
+pub ruleset field_steps = (no-days-field, no-yard-field, chosen-field, lowered-field)
 
-pub ruleset because-steps = (no-days-because, no-yard-because, chosen-because, lowered-because)
+pub ruleset because_steps = (no-days-because, no-yard-because, chosen-because, lowered-because)

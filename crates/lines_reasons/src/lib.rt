@@ -1,5 +1,7 @@
 // 02, W2: a herd's reason, byte by byte, into a lent buffer: of a herd with a yard a record, or a sentence that can be
 // read aloud. No figure is worked out.
+#![tactic(auto)]
+
 ghost use Rattle.std.specs.Prelude.{◌≡◌, ◌+◌, ◌≤◌, length};
 ghost use Rattle.base.specs.Text.{bytes};
 ghost use Rattle.base.specs.Wrote.{Wrote};

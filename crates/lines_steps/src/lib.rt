@@ -1,4 +1,6 @@
 // What is printed for a step (02, W11): the totals' listing after it, or the line of its refusal.
+#![tactic(auto)]
+
 ghost use Rattle.std.specs.Prelude.{◌≤◌, length};
 ghost use Rattle.base.specs.Wrote.{Wrote};
 ghost use Rattle.lines_steps.specs.Lines.{step_lines};

@@ -1,5 +1,7 @@
 // 01, The listing: a herd's lines and the totals' lines, byte by byte, into a buffer that has room for them. Knows
 // nothing of files.
+#![tactic(auto)]
+
 mod texts; // the line list
 mod lists; // which lines a kind has
 

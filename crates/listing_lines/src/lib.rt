@@ -1,5 +1,7 @@
 // A line of the listing, and lines one after the other: their owner, texts from a table, and grams as kilograms. Knows
 // neither herds nor names.
+#![tactic(auto)]
+
 ghost use Rattle.std.specs.Prelude.{◌+◌, ◌≤◌, length};
 ghost use Rattle.base.specs.Wrote.{Wrote};
 ghost use Rattle.line_parts.specs.Bounds.{longest_owner};

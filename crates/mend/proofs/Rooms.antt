@@ -97,7 +97,7 @@ module _ (s : List ℕ) (m : Bool) (em : m ≡ marked s) (f : ℕ) (ef : f ≡ t
               answer = rw (e1, e2) (ap₂ Mended mended_long (change_many s m em f ef n en k ek));
             }
 
-pub ruleset mend-steps = (
+pub ruleset mend_steps = (
   start-inside,
   start-passed,
   crs_few,

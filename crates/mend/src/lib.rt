@@ -4,6 +4,8 @@
 //
 // The file is gone through twice: first the changes are counted, and only where both lent slices have room is
 // anything written.
+#![tactic(auto)]
+
 ghost use Rattle.mend.specs.Answer.{Mends};
 
 use farm::Refusal;

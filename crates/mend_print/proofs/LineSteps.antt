@@ -65,4 +65,4 @@ module _ (list old : List ℕ) where
     lines-done h =
         ended (subst (λ (l : List ℕ). ToCome old 0 (lines_of list) now l at) (lines_end list i h) inv.written)
 
-pub ruleset line-steps = (lines_start, lines_same, line-room, line-goes, lines-done)
+pub ruleset line_steps = (lines_start, lines_same, line-room, line-goes, lines-done)

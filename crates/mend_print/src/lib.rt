@@ -1,5 +1,7 @@
 // A file from standard input, and what mending makes of it on standard output: the mended file, or the list of its
 // changes. What goes wrong is a line on standard error, and then nothing more is printed.
+#![tactic(auto)]
+
 pub mod lines; // the list as text
 
 ghost use Rattle.std.specs.Prelude.{◌*◌, ◌≤◌, length};

@@ -41,7 +41,7 @@ module _ (l : List ℕ) (t : Bool) where
   pub no_mark : t ≡ false → Wrote l 0 (entries (mark_change t)) l 0
   no_mark e = rw e (none-put l 0)
 
-pub ruleset put-steps = (byte_with_cr, change_put, byte-alone, no_change, mark-put, no_mark)
+pub ruleset put_steps = (byte_with_cr, change_put, byte-alone, no_change, mark-put, no_mark)
 
 -- ---- the room that is asked for, in numbers
 

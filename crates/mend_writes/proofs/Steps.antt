@@ -61,7 +61,7 @@ module _ (s : List ℕ) (from : ℕ) (old : List ℕ) where
         (subst (λ (l : List ℕ). ToCome old 0 (mended_from (take from s) (drop from s)) now l at)
         (ap (mended_from (take i s)) (rest_end s i h)) inv.written)
 
-pub ruleset text-steps = (text-starts, text_same, text-room, text-goes, text-ends)
+pub ruleset text_steps = (text-starts, text_same, text-room, text-goes, text-ends)
 
 -- ---- the list written
 

@@ -1,4 +1,6 @@
 // The mended text and the list of changes (02, W6), written into lent slices that have room.
+#![tactic(auto)]
+
 ghost use Rattle.std.specs.Prelude.{◌≡◌, [], ◌+◌, ◌≤◌, length, take};
 ghost use Rattle.base.specs.Wrote.{Wrote};
 ghost use Rattle.spreadsheet.specs.Mended.{entries, mended_byte, change_at, mark_change};

@@ -1,1 +1,2 @@
 // Theorems only: what is promised of crate `mend`, for every file.
+#![tactic(auto)]

@@ -1,5 +1,7 @@
 // A line for standard error, put together from its parts: texts, numbers, words of the command line as they are shown,
 // a refusal in words. What has no room is left out; there is room for every line that is said.
+#![tactic(auto)]
+
 use limits::Source;
 
 // Room for a line with a name in it, however it is quoted, and the words around it.

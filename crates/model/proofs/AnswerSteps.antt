@@ -69,7 +69,7 @@ module _ (h : Herd) (k : Checked) (q : k ≡ check_herd h) where
 pub zeros-exact : (f : Figures) → f.grams ≡ zeros → GramsTo exact_most f.grams
 zeros-exact f e = rw e (zeros-to exact_most)
 
-pub ruleset herd-answers = (accepted-sound, accepted-exact, is-herd-answer, is-herd-refusal, zeros-exact)
+pub ruleset herd_answers = (accepted-sound, accepted-exact, is-herd-answer, is-herd-refusal, zeros-exact)
 
 -- ---- the figures of i herds were added up
 
@@ -118,7 +118,7 @@ module _ (f : Farm) (accepted : check_farm f ≡ Accepted) where
             };
           }
 
-pub ruleset adding-steps = (adding-starts, adding-ends, next-sound)
+pub ruleset adding_steps = (adding-starts, adding-ends, next-sound)
 
 -- ---- a farm
 
@@ -162,5 +162,5 @@ added-small f sum a = a.small
 pub zeros-small : (sum : Figures) → sum.grams ≡ zeros → GramsTo figure_most sum.grams
 zeros-small sum e = rw e (zeros-to figure_most)
 
-pub ruleset farm-answers =
+pub ruleset farm_answers =
     (accepted-farm, accepted-totals-exact, zero-totals-exact, is-farm-answer, is-farm-refusal, added-small, zeros-small)

@@ -1,5 +1,7 @@
 // What a farm's records give: a herd's figures, notes and cuts, a farm's totals; grams and kilograms. Crate `answers`
 // computes it.
+#![tactic(auto)]
+
 use cuts::Cuts;
 use farm::Checked;
 use kilograms::{Kilograms, TotalKilograms};

@@ -1,4 +1,6 @@
 // The names that a value may be (01, The farm file), list by list, and which name of its list a text is.
+#![tactic(auto)]
+
 pub mod lists; // the lists as words
 
 ghost use Rattle.std.specs.Prelude.{◌≡◌};

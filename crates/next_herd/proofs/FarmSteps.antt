@@ -15,7 +15,7 @@ module _ (count first' : ℕ) where
   unfolding herds_so_far
   one-counted n = simp (herds_so_far, ne_eqb first' 0 n)
 
-pub ruleset counted-steps = (none-counted, one-counted)
+pub ruleset counted_steps = (none-counted, one-counted)
 
 -- ---- whether there is room
 

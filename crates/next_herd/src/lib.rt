@@ -1,5 +1,7 @@
 // A herd that follows the one being read: whether there is room for it, and how many herds there are and which lacks an
 // input with the one that was being read.
+#![tactic(auto)]
+
 ghost use Rattle.std.specs.Prelude.{◌≡◌, ◌<◌, leb};
 ghost use Rattle.farm.specs.Limits.{herds_most};
 ghost use Rattle.next_herd.specs.Farms.{lacking_with, herds_so_far};

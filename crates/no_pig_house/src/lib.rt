@@ -1,4 +1,6 @@
 // What a kind of herd without a pig house has in its place: nothing is divided, emitted, kept back or handed on.
+#![tactic(auto)]
+
 ghost use Rattle.std.specs.Prelude.{◌≡◌};
 ghost use Rattle.amounts.specs.Dividing.{dividing};
 ghost use Rattle.pig_house.specs.PigHouse.{no_pig_factors, no_scrubbed, no_pig_house};

@@ -1,5 +1,7 @@
 // 01, Notes, and 02, W3 and W9: what an adviser is told beside the figures. The definitions in specs/ say when, and
 // crate `herd_notes` computes it.
+#![tactic(auto)]
+
 #[derive(Drop)]
 pub struct Notes {
     pub n_off_standard: bool,

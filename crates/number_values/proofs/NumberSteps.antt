@@ -87,7 +87,7 @@ module _ (s : List ℕ) {b : Bool} (q : b ≡ has_minus s) (most : ℕ) {r : Val
   unfolding signed_read
   signed_above h d = rw (sym q ∙ h) d
 
-pub ruleset number-steps = (
+pub ruleset number_steps = (
   number_is,
   number-unfit,
   below-fits,

@@ -1,4 +1,6 @@
 // What a number's text says as a value: one in range, or a whole number that may be below zero (02, W3).
+#![tactic(auto)]
+
 ghost use Rattle.std.specs.Prelude.{◌≡◌};
 ghost use Rattle.numbers.specs.Reading.{number_of};
 ghost use Rattle.number_values.specs.Numbers.{number_read, has_minus, below_read, above_read, signed_read};

@@ -45,7 +45,7 @@ module _ (s : List ℕ) (i d m x : ℕ) (X : Number) (inv : up_to m (whole_from 
       pub whole-stop : r ≡ Unreadable → Unreadable ≡ X
       whole-stop e = sym (lost m x (get_or s i 0) r q e _ (whole-over d m _ (drop (i + 1) s))) ∙ whole-going
 
-pub ruleset whole-steps = (taken-small, whole-end, whole-point, whole-more, whole-stop)
+pub ruleset whole_steps = (taken-small, whole-end, whole-point, whole-more, whole-stop)
 
 -- the first byte
 module _ (s : List ℕ) (d m : ℕ) where
@@ -92,4 +92,4 @@ module _ (s : List ℕ) (d m : ℕ) where
       pub number-stop : r ≡ Unreadable → Unreadable ≡ number_of s d m
       number-stop e = sym (lost m 0 (get_or s 0 0) r q e _ (whole-over d m _ (drop 1 s))) ∙ digit-first
 
-pub ruleset number-steps = (taken-small, number-none, zero-alone, zero-point, zero-other, number-whole, number-stop)
+pub ruleset number_steps = (taken-small, number-none, zero-alone, zero-point, zero-other, number-whole, number-stop)

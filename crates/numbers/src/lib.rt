@@ -1,4 +1,6 @@
 // A number read from its text, as the fields of a farm file and of a log hold it.
+#![tactic(auto)]
+
 ghost use Rattle.std.specs.Prelude.{◌≡◌, ◌≤◌, drop};
 ghost use Rattle.digits.specs.Digits.{up_to};
 ghost use Rattle.numbers.specs.Reading.{whole_from, number_of};

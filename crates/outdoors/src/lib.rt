@@ -1,4 +1,6 @@
 // What the days of a gate's log come to (02, W10).
+#![tactic(auto)]
+
 pub mod tallies; // days counted, and what comes of them
 
 use calendar::Date;

@@ -1,6 +1,8 @@
 // The output list: what a herd and a farm have figures of, by number. A herd's figures are one array of grams by the
 // number of the name, the totals another by the number of the total, and what is done with every name alike is a loop.
 // specs/Names.antt has the names, a row each; crate `figure_numbers` fills the one array, crate `sums` adds up.
+#![tactic(auto)]
+
 use excretion::Excretion;
 use housing::Housing;
 use pasture::Grazing;

@@ -1,5 +1,7 @@
 // Files one after the other on standard input, each behind its length in four bytes, the lowest first: how test
 // programs get the vectors of the second implementation.
+#![tactic(auto)]
+
 ghost use Rattle.std.specs.Prelude.{◌≤◌};
 
 use limits::Source;

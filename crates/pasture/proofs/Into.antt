@@ -131,6 +131,6 @@ module _ (t : HousingType) (n tan a b : ℕ) (qn qt : Quotient) (ea : a ≡ pigs
       → RatesOf pigs_rates r → g ≡ handed_grazing (pigs_grazing dividing t (uncut n) (uncut tan))
   is-pigs-grazing r g eg er = eg ∙ rw (er.is, en, et, ea, eb, pigs-undivided t n, pigs-undivided t tan) refl
 
-pub ruleset roughage-steps = (roughage_time_within, into_roughage, is-roughage-grazing)
+pub ruleset roughage_steps = (roughage_time_within, into_roughage, is-roughage-grazing)
 
-pub ruleset pigs-steps = (pigs-modest, is-pigs-grazing)
+pub ruleset pigs_steps = (pigs-modest, is-pigs-grazing)

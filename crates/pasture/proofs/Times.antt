@@ -56,7 +56,7 @@ module _ (o : Outdoor) (s : SoundOutdoor o) (both shared : ℕ) (eb : DaysWithBo
   unfolding outdoor_grazing_time
   is_time et = record { is = rw (et, eb.is) refl; most = time_le }
 
-pub ruleset outdoor-time-steps = (pasture-both-fits, pasture-sum-fits, time_fits, is_time)
+pub ruleset outdoor_time_steps = (pasture-both-fits, pasture-sum-fits, time_fits, is_time)
 
 module _ (o : Outdoor) (s : SoundOutdoor o) where
   here : DaysWithBoth o (days_with_grazing_and_yard o)

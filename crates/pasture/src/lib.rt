@@ -1,5 +1,7 @@
 // 2.20, 2.35, 2.61 and 2.88: what is excreted on pasture, the gases from it and what remains. The model takes every gas
 // from the TAN too, so what remains of that may be below zero, and is not lifted.
+#![tactic(auto)]
+
 ghost use Rattle.std.specs.Prelude.{◌≡◌, ◌*◌};
 ghost use Rattle.amounts.specs.Units.{tenths, year, day};
 ghost use Rattle.amounts.specs.Arithmetic.{cutting};

@@ -1,4 +1,6 @@
 // 2.62: N2, NO and N2O from the solid and the liquid fraction of a pig house.
+#![tactic(auto)]
+
 ghost use Rattle.std.specs.Prelude.{◌≡◌, ◌≤◌, ◌<◌, ◌^◌};
 ghost use Rattle.amounts.specs.Units.{ten_thousandths};
 ghost use Rattle.amounts.specs.Dividing.{dividing, uncut};

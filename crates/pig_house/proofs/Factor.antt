@@ -63,7 +63,7 @@ above-one f h = record { is = rw (lt-ltb billionths f h) refl; most = le_refl bi
 pub below_one : (f : ℕ) → f ≤ billionths → UpTo billionths (least f billionths) f
 below_one f h = record { is = rw (le-ltb billionths f h) refl; most = h }
 
-pub ruleset ceiling-steps = (above-one, below_one)
+pub ruleset ceiling_steps = (above-one, below_one)
 
 -- ---- the rates, and the shares, at most 1
 
@@ -117,7 +117,7 @@ module _ (t : HousingType) (r : HousingRow) (e : r ≡ row_of t) where
   pub is-share-indoor : UpTo tenths (share_indoor t) r.share_indoor
   is-share-indoor = rw e (record { is = refl; most = share-indoor-le t })
 
-pub ruleset row-steps = (er-fits, is-er, is-share-liquid, is-share-indoor)
+pub ruleset row_steps = (er-fits, is-er, is-share-liquid, is-share-indoor)
 
 -- no selection of floors is available
 pub floor-takes-none : (f : HousingFloor) → UpTo 1 (red_housing_floor f) 0
@@ -130,7 +130,7 @@ module _ (floor air : ℕ) where
   pub left-within : (1 - floor) * (tenths - air) ≤ tenths
   left-within = mul-to 1 tenths tt (omega arith) (omega arith)
 
-pub ruleset left-steps = (left-fits, left-within)
+pub ruleset left_steps = (left-fits, left-within)
 
 -- ---- each factor is at most 1, by the ceilings alone
 

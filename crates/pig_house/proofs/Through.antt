@@ -267,9 +267,9 @@ module _ (p : Pigs) (tan : ℕ) where
       ∙ kept_whole p.air_scrubber
       (scrubbed_of dividing p (uncut tan)).times_ef_housing_indoor_before_air_scrubber
 
-pub ruleset scrubbed-steps = (are-scrubbed, share-fits, share-of_billion_fits, share-within)
+pub ruleset scrubbed_steps = (are-scrubbed, share-fits, share-of_billion_fits, share-within)
 
-pub ruleset scrubber-steps = (acid_keeps-none, filter_keeps, none-keeps-none)
+pub ruleset scrubber_steps = (acid_keeps-none, filter_keeps, none-keeps-none)
 
 pub are-none-scrubbed : (q : Quotient) → q ≡ undivided 0
     → ◌≡◌ {A = Scrubbed} (record { times_tan_excretion = q; times_ef_housing_indoor_before_air_scrubber = q })
@@ -315,4 +315,4 @@ module _ (p : Pigs) (excreted n tan : ℕ) (nh3 : Quotient) (s : Scrubbed)
       (pig_house dividing p (uncut excreted) (uncut n) (uncut tan))
   is-pig_house q eq = eq ∙ rw (cn.cut, es) refl
 
-pub ruleset house-steps = (nh3_in_n, scrubbed_in_n, scrubbed_in_tan, is-pig-housing, is-pig_house)
+pub ruleset house_steps = (nh3_in_n, scrubbed_in_n, scrubbed_in_tan, is-pig-housing, is-pig_house)

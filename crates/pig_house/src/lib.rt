@@ -1,5 +1,7 @@
 // 2.51 to 2.60 and 2.62 (02, W1): what the housing of fattening pigs hands on. The definitions in specs/ say what each
 // is, and crates `pig_factors`, `pig_amounts` and `pig_gases` compute it. Factors are in billionths.
+#![tactic(auto)]
+
 use cut_division::Quotient;
 use housing::Housing;
 

@@ -1,4 +1,6 @@
 // The sections of a pig herd: excretion, pasture, and what remains for the pig house.
+#![tactic(auto)]
+
 ghost use Rattle.std.specs.Prelude.{◌≡◌, ◌≤◌};
 ghost use Rattle.amounts.specs.Dividing.{dividing};
 ghost use Rattle.amounts.specs.Bounds.{most_n};

@@ -33,4 +33,4 @@ module _ (s : List ℕ) (place : ReaderPlace) (h : Herd) {o : Step} (q : o ≡ s
   pub read-end : o ≡ End → record { effect = Ends; herd = h; next = place } ≡ read_at s place h
   read-end e = sym (read_is e)
 
-pub ruleset place-steps = (read_record, read-broken, read-end)
+pub ruleset place_steps = (read_record, read-broken, read-end)

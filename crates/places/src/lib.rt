@@ -1,4 +1,6 @@
 // What stands at a place of the file, and what it does to the herd being read. Refusal 2.
+#![tactic(auto)]
+
 ghost use Rattle.std.specs.Prelude.{◌≡◌};
 ghost use Rattle.places.specs.Places.{read_at};
 

@@ -32,7 +32,7 @@ module _ (s : List ℕ) (p : Place) (n j : ℕ) where
   unfolding line_from
   line-none h = simp (rest_end s j h, line_from)
 
-pub ruleset line-steps = (line-lf, line_other, line-none)
+pub ruleset line_steps = (line-lf, line_other, line-none)
 
 -- whether a byte ends an unquoted field
 module _ (b : ℕ) where
@@ -68,7 +68,7 @@ module _ (s : List ℕ) (i X : ℕ) (inv : plain_stop i (drop i s) ≡ X) where
     pub stop-above : comma < get_or s i 0 → plain_stop (i + 1) (drop (i + 1) s) ≡ X
     stop-above l = stop-text false (sym (ends_above (get_or s i 0) l)) refl
 
-pub ruleset stop-steps = (stop-end, stop-here, stop-text, stop-above)
+pub ruleset stop_steps = (stop-end, stop-here, stop-text, stop-above)
 
 -- in an unquoted field
 module _ (s : List ℕ) (from i : ℕ) (X : FieldEnd) (inv : plain_from from i (drop i s) ≡ X) where
@@ -140,4 +140,4 @@ module _ (s : List ℕ) (at r : ℕ) (q : r ≡ plain_stop at (drop at s)) where
   pub plain-ends : r < length s → ends_plain (get_or s r 0) ≡ true
   plain-ends = (stopped s at r (length s - at) at refl (sym q)).ends
 
-pub ruleset plain-steps = (plain-same, plain-ends, plain_end, plain-comma, plain-cr, plain-broken)
+pub ruleset plain_steps = (plain-same, plain-ends, plain_end, plain-comma, plain-cr, plain-broken)

@@ -1,5 +1,7 @@
 // How an unquoted field of an RFC 4180 file ends, and where it stands: the states Plain and Return of the machine that
 // crate `field_ends` lays out.
+#![tactic(auto)]
+
 ghost use Rattle.std.specs.Prelude.{◌≡◌, ◌+◌, drop};
 ghost use Rattle.plain_fields.specs.Places.{place, line_from, ends_plain, plain_stop, plain_from};
 

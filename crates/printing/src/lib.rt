@@ -1,5 +1,7 @@
 // What a command prints for a farm file, on standard output: what its view lists, or the refusal's line, in one piece.
 // Nothing is printed after a part that could not be written.
+#![tactic(auto)]
+
 pub mod input; // the farm file on standard input
 pub mod tell; // answers of other calls, a line each
 

@@ -51,7 +51,7 @@ module _ (h : Herd) (k : Kind) (i : ℕ) (g : Given) {b : Bool} (q : b ≡ same_
     unfolding adding_to with_input
     adds e = simp (adding_to, sym q, same, sym w ∙ e)
 
-pub ruleset adding-steps = (other_kind, given_already, adds)
+pub ruleset adding_steps = (other_kind, given_already, adds)
 
 -- ---- what a record does to the herd being read
 
@@ -76,4 +76,4 @@ module _ (h : Herd) (e : Entry) where
       unfolding effect_of
       effect_begins y q = simp (effect_of, t, sym w ∙ y) (ap (after Begins) q)
 
-pub ruleset effect-steps = (effect_wrong, slot-inside, effect_own, effect_begins)
+pub ruleset effect_steps = (effect_wrong, slot-inside, effect_own, effect_begins)

@@ -1,4 +1,6 @@
 // What a record does to the herd being read: it adds an input to it, begins another, or is refused with 10 or 11.
+#![tactic(auto)]
+
 ghost use Rattle.std.specs.Prelude.{◌≡◌, ◌<◌};
 ghost use Rattle.farm.specs.Limits.{slots};
 ghost use Rattle.records.specs.Entries.{HasSlot};

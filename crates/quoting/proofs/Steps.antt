@@ -109,7 +109,7 @@ module _ (s : List ℕ) where
     form-ends h n =
         sym (worse-plain f) ∙ ap (λ (l : List ℕ). worse f (form_from l)) (sym (rest_end s i h)) ∙ inv ∙ form-some n
 
-pub ruleset form-steps = (form-none, form-starts, form-goes, form-ends)
+pub ruleset form_steps = (form-none, form-starts, form-goes, form-ends)
 
 -- ---- what is shown
 
@@ -178,7 +178,7 @@ module _ (f : Form) (s old : List ℕ) (at : ℕ) where
     pub put-few : length s ≤ i → o ≤ at + byte_most * length s
     put-few h = omega (arith, inv.short)
 
-pub ruleset put-steps = (put-starts, put_same, put-room, put-goes, put-ends, put-few)
+pub ruleset put_steps = (put-starts, put_same, put-room, put-goes, put-ends, put-few)
 
 -- ---- one unit put
 
@@ -222,7 +222,7 @@ module _ (f : Form) (old : List ℕ) (at : ℕ) (new : List ℕ) (r : ℕ) where
   pub escapes_close : f ≡ Escaped → Wrote old at (bytes "'") new r → Wrote old at (closing f) new r
   escapes_close e w = rw e w
 
-pub ruleset quote-steps = (quote-opens, dollar_opens, quote-closes, escapes_close)
+pub ruleset quote_steps = (quote-opens, dollar_opens, quote-closes, escapes_close)
 
 pub all-put : (s old mid more new : List ℕ) (at a b r : ℕ) (f : Form) → f ≡ form_of s
     → Wrote old at (opening f) mid a × (a ≤ at + 2) → Wrote mid a (shown_from f s) more b × (b ≤ a + byte_most * length s)

@@ -1,5 +1,7 @@
 // A name as it is shown in a message: so that it can be pasted into a shell, and so that no control byte reaches a
 // terminal.
+#![tactic(auto)]
+
 ghost use Rattle.std.specs.Prelude.{◌≡◌, ◌+◌, ◌*◌, ◌≤◌, ◌<◌, length, drop};
 ghost use Rattle.base.specs.Wrote.{Wrote};
 ghost use Rattle.shown_bytes.specs.Shown.{worse, byte_most};

@@ -1,4 +1,6 @@
 // 2.20, 2.35, 2.61 and 2.88, Technical Parameters: what a pasture emits of what comes onto it, kind by kind.
+#![tactic(auto)]
+
 ghost use Rattle.std.specs.Prelude.{◌+◌, ◌≤◌};
 ghost use Rattle.amounts.specs.Units.{ten_thousandths};
 ghost use Rattle.rates.specs.Rates.{rates, cattle_rates, pigs_rates, roughage_rates};

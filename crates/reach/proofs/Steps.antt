@@ -46,7 +46,7 @@ module _ (b a : Reach) where
   pub from_all : b ≡ Through → false ≡ further b a
   from_all e = rw e
 
-pub ruleset further-steps = (
+pub ruleset further_steps = (
   past-none,
   past_record,
   past_end,

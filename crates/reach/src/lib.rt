@@ -1,4 +1,6 @@
 // How far reading a file came, by the refusal that it got; and whether it came further than another time.
+#![tactic(auto)]
+
 ghost use Rattle.std.specs.Prelude.{◌≡◌};
 ghost use Rattle.base.specs.Pick.{pick};
 ghost use Rattle.reach.specs.declared.Reach.TheVariants.{At, End};

@@ -266,5 +266,5 @@ module _ (most : ℕ) (s : List ℕ) (place : ReaderPlace) (hs : List Herd) (cou
           on (PlaceSays.begins e past fits) = ap (on_from most s m.next (n + 1)) is
               ∙ sym (begins_another most n (progress f c) m.herd.label _ new (so_far y)) ∙ sym e ∙ x.reads
 
-pub ruleset read-steps =
+pub ruleset read_steps =
     (at_front, read-lacking, read_whole, read-wrong, adds-less, added, read-earlier, begins-less, read-full, begun)

@@ -1,6 +1,8 @@
 // 02, W2: what is told of why a yard has its share on days with both yard and pasture: the first of four reasons whose
 // fact holds in the herd's record, the number of such days, and the shares. The definitions in specs/ say which, and
 // crate `herd_reasons` finds it.
+#![tactic(auto)]
+
 use farm::Refusal;
 
 // In 02's order.

@@ -52,7 +52,7 @@ module _ (s : List ℕ) (f : Fields) {a b : List ℕ} (qa : a ≡ held s f.secon
     unfolding input_read
     read-unfit z = simp (input_read, found_at ∙ e, value-at ∙ z)
 
-pub ruleset input-steps = (read-nowhere, read-gives, read_forbidden, read-unfit)
+pub ruleset input_steps = (read-nowhere, read-gives, read_forbidden, read-unfit)
 
 -- ---- the whole record: 3 and 4 before them
 
@@ -81,4 +81,4 @@ module _ (s : List ℕ) (f : Fields) {a : List ℕ} (qa : a ≡ held s f.first) 
     unfolding record_read input_read
     good-label n e = entry (simp (record_read, eq-eqb f.count 4 four, good-at, n) e)
 
-pub ruleset entry-steps = (not-four, bad_label, good-label)
+pub ruleset entry_steps = (not-four, bad_label, good-label)

@@ -1,4 +1,6 @@
 // The line of a refusal: "`refused,NUMBER,RECORD` and CRLF".
+#![tactic(auto)]
+
 ghost use Rattle.std.specs.Prelude.{◌≤◌, length};
 ghost use Rattle.base.specs.Wrote.{Wrote};
 ghost use Rattle.refusal_line.specs.Lines.{refusal_line};

@@ -1,4 +1,6 @@
 // 01's number of each refusal.
+#![tactic(auto)]
+
 ghost use Rattle.std.specs.Prelude.{◌≡◌};
 ghost use Rattle.farm.specs.Refusals.{number};
 

@@ -1,4 +1,6 @@
 // What is said of a refused file on standard error: the refusal in words, and what may help.
+#![tactic(auto)]
+
 use console::{Ended, messages};
 use farm::Refusal;
 use gate_days::LogRefusal;

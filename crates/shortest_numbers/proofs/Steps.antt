@@ -25,7 +25,7 @@ module _ (whole left X : ℕ) (inv : whole / 10 ^ left ≡ X) where
   pub part-is : left ≤ 0 → whole ≡ X
   part-is h = let z : left ≡ 0 = omega arith in sym (div-one whole) ∙ ap (λ (n : ℕ). whole / 10 ^ n) (sym z) ∙ inv
 
-pub ruleset part-steps = (part_cut, part-is)
+pub ruleset part_steps = (part_cut, part-is)
 
 -- X is the shortest form, and the buffer is as it was
 module _ (left m : ℕ) (X : List ℕ) (inv : shortest left m ≡ X) where
@@ -66,7 +66,7 @@ module _ (left m : ℕ) (X : List ℕ) (inv : shortest left m ≡ X) where
     pub whole-put : {new : List ℕ} {next : ℕ} → left ≤ 0 → Wrote now at (whole_of m) new next → Wrote old at X new next
     whole-put o w = rw (← same, ← (none-shown o)) w
 
-pub ruleset zero-steps = (zero-cut, pointed-room, whole_room, pointed-put, whole-put)
+pub ruleset zero_steps = (zero-cut, pointed-room, whole_room, pointed-put, whole-put)
 
 -- the parts of a number with all its decimals
 pub pointed-is : (d v w : ℕ) → w ≡ v / 10 ^ d → whole_of w ++ (46 ∷ []) ++ lowest d v ≡ pointed d v

@@ -1,4 +1,6 @@
 // A number written in its shortest form (02, W5): decimals without zeros at their end, and no point without a digit.
+#![tactic(auto)]
+
 ghost use Rattle.std.specs.Prelude.{◌≡◌, ◌+◌, ◌/◌, ◌^◌, ◌≤◌, length};
 ghost use Rattle.base.specs.Wrote.{Wrote};
 ghost use Rattle.shortest_numbers.specs.Shortest.{pointed, shortest};

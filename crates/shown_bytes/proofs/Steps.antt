@@ -56,4 +56,4 @@ module _ (old : List ℕ) (at b : ℕ) (new : List ℕ) (r : ℕ) where
     unfolding escaped
     octal-put h w = rw (sym e ∙ h) w
 
-pub ruleset byte-steps = (put-plain, put-quoted, put-escaped, quote-put, other-put, stays_put, octal-put)
+pub ruleset byte_steps = (put-plain, put-quoted, put-escaped, quote-put, other-put, stays_put, octal-put)

@@ -1,5 +1,7 @@
 // A byte of a name as it is shown in a message, in each of three forms; and which form it asks for. Crate `quoting`
 // puts names together of it.
+#![tactic(auto)]
+
 ghost use Rattle.std.specs.Prelude.{◌≡◌, ◌+◌, ◌≤◌, length};
 ghost use Rattle.base.specs.Wrote.{Wrote};
 ghost use Rattle.shown_bytes.specs.Shown.{between, harmless, letter, form_needed};

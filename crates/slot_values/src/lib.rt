@@ -1,5 +1,7 @@
 // What stands in a slot of a herd's record: a number, one that may be below zero, or one that may be left to the
 // standard. What is missing reads as 0; no record that passes the checks has that.
+#![tactic(auto)]
+
 ghost use Rattle.std.specs.Prelude.{◌≡◌, ◌<◌};
 ghost use Rattle.farm.specs.Limits.{slots};
 ghost use Rattle.typed_inputs.specs.Typed.{number_in, signed_in, entered_in, number_at, signed_at, entered_at};

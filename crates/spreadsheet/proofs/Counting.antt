@@ -46,4 +46,4 @@ module _ (s : List ℕ) (from : ℕ) where
     unfolding changes_from
     count-ends h = omega (arith, inv.to_come, ap (λ (l : List ℕ). length (changes_from (take i s) l)) (rest_end s i h))
 
-pub ruleset count-steps = (count-starts, count-goes, count-ends)
+pub ruleset count_steps = (count-starts, count-goes, count-ends)

@@ -85,4 +85,4 @@ module _ (p : Passed) (b : ℕ) where
   pub other-passed : (b ≡ quote → ⊥) → record { cr = eqb b cr; even = p.even } ≡ and_byte p b
   other-passed n = rw (ne_eqb b quote n)
 
-pub ruleset and-steps = (quote-passed, other-passed)
+pub ruleset and_steps = (quote-passed, other-passed)

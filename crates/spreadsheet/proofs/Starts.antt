@@ -59,4 +59,4 @@ module _ (s : List ℕ) (m : Bool) (em : m ≡ marked s) (f : ℕ) (ef : f ≡ t
           marks true f k e d = omega arith
           marks false f k e d = omega arith
 
-pub ruleset start-steps = (start-inside, start-passed, crs_few, change_many)
+pub ruleset start_steps = (start-inside, start-passed, crs_few, change_many)

@@ -1,5 +1,7 @@
 // What a spreadsheet does to a file (02, W6), found and counted: the mark EF BB BF at the very front, and the bare LFs,
 // each of which has no CR right before it and an even number of quote bytes before it.
+#![tactic(auto)]
+
 ghost use Rattle.std.specs.Prelude.{◌≡◌, [], ◌≤◌, length, take};
 ghost use Rattle.base.specs.Pick.{pick};
 ghost use Rattle.spreadsheet.specs.Faults.{marked};

@@ -1,5 +1,7 @@
 // A step as the program takes it (02, W11): the farm and its totals afterwards, and what is printed for the step. After
 // a refused step both are as they were.
+#![tactic(auto)]
+
 pub mod files; // a farm's file opened for steps
 
 ghost use Rattle.std.specs.Prelude.{◌≡◌};

@@ -55,4 +55,4 @@ module _ (z : ℤ) (fits : SFits w64 z) where
     pub answer-some : (e : ℤ) → (of_z w64 z ≡ 0 → ⊥) → Bytes (nat_abs (to_z w64 (of_z w64 z))) ≡ moved_of z e
     answer-some e q = rw (to_z-of_z fits) (some_of z e (rw (to_z-of_z fits) at h) q)
 
-pub ruleset sign-steps = (fault-again, fault_else, answer-below, answer-none, answer-some)
+pub ruleset sign_steps = (fault-again, fault_else, answer-below, answer-none, answer-some)

@@ -23,7 +23,7 @@ module _ (done size n : ℕ) where
   pub not_full : done ≤ size → n ≤ size - done → (done + n ≡ size → ⊥) → On (done + n) ≡ onward_of done size n
   not_full h k e = simp (le-ltb size (done + n) (omega arith), ne_eqb (done + n) size e)
 
-pub ruleset onward-steps = (past_it, too_many, just_full, not_full)
+pub ruleset onward_steps = (past_it, too_many, just_full, not_full)
 
 module _ (done size : ℕ) (none : Step) {m : Moved} where
   pub came : {n : ℕ} {r : Step} → m ≡ Bytes n → r ≡ onward_of done size n → r ≡ after_call done size none m
@@ -35,4 +35,4 @@ module _ (done size : ℕ) (none : Step) {m : Moved} where
   pub failed : m ≡ Failed → Broken ≡ after_call done size none m
   failed e = rw e
 
-pub ruleset after-steps = (came, none_came, failed)
+pub ruleset after_steps = (came, none_came, failed)

@@ -1,5 +1,7 @@
 // What a call of the system gave, of reading or writing a stream, and what to do after it: decided by functions that
 // are proved to be the definitions of specs/Steps.antt.
+#![tactic(auto)]
+
 ghost use Rattle.std.specs.Prelude.{◌≡◌};
 ghost use Rattle.stream_steps.specs.Steps.{fault_of, moved_of, onward_of, after_call, after_read, after_write};
 

@@ -106,4 +106,4 @@ module _ {done size : ℕ} {r : Step} {n : ℕ} (e : r ≡ steps.Done n) where
   pub write_ends : Going (All size) done size r → All size (Whole n)
   write_ends going = ended (rw e at going)
 
-pub ruleset turn-steps = (on-less, on-inside, read-ends, write_ends, Within.broken, All.broken)
+pub ruleset turn_steps = (on-less, on-inside, read-ends, write_ends, Within.broken, All.broken)

@@ -1,5 +1,7 @@
 // A stream read to its end, and a text written to standard output: whole, or it is said that it failed. What to do
 // after a call of the system, crate `stream_steps` decides.
+#![tactic(auto)]
+
 ghost use Rattle.std.specs.Prelude.{◌<◌, ◌≤◌, length};
 ghost use Rattle.streams.specs.Within.{Counted, Within, All, Going};
 

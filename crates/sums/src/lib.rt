@@ -1,4 +1,6 @@
 // Figures added up number by number, and the totals of 2.1 from the sums, each the sum of its addends.
+#![tactic(auto)]
+
 mod total_addends; // the addends of each total, by number
 
 ghost use Rattle.std.specs.Prelude.{◌≡◌, ◌<◌, length};

@@ -1,5 +1,7 @@
 // The two constant tables of the model: what an animal excretes by standard (2.84), and the growth of the housing's
 // emission with the hours on pasture (2.87). And the standards of a dairy cow (2.2).
+#![tactic(auto)]
+
 ghost use Rattle.std.specs.Prelude.{◌≡◌};
 ghost use Rattle.tables.specs.Standards.{standard_of};
 ghost use Rattle.tables.specs.Growth.{within_day, k_of};

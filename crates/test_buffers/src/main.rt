@@ -1,5 +1,7 @@
 // Lent buffers of all lengths: 13 below the listing's length, and nothing written; from it on the listing, and every
 // byte past it as it was. And herds past the last, whose listing is empty. The expected output is worked out from 01.
+#![tactic(auto)]
+
 ghost use Rattle.std.specs.Prelude.{◌≤◌};
 
 use farm::Farm;

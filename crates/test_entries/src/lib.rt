@@ -1,5 +1,7 @@
 // An entry of an array: the one that fills it before a file is read, whether it is that one still, and a checksum to
 // which every other adds its place, its label, its kind and its slots.
+#![tactic(auto)]
+
 ghost use Rattle.std.specs.Prelude.{◌≤◌};
 
 use farm::{Given, Herd, LABEL_MOST, Label, SLOTS, Slot};

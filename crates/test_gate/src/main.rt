@@ -1,5 +1,7 @@
 // The gate's logs of the second implementation, run through the library: each log's answer is printed as the program
 // prints it. The expected output is what the second implementation gives.
+#![tactic(auto)]
+
 use packs::Packed;
 
 // Longer than any log of the vectors.

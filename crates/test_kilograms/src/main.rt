@@ -1,5 +1,7 @@
 // The kilograms as doubles, run: of each herd of a farm file the bits of its figures' kilograms, a line each, and then
 // those of the farm's totals. The expected output is what the second implementation gives.
+#![tactic(auto)]
+
 use farm::{Farm, Herd};
 use limits::Source;
 use outputs::{names, total_names};

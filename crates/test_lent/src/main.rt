@@ -2,6 +2,8 @@
 // whose entries were all the same and no herd. For either array five lines are printed: the answer, the number of
 // herds, how many entries are as they were, a checksum of all others with their places, and the ammonia of the herds
 // as a farm's record. The expected output is what the second implementation gives.
+#![tactic(auto)]
+
 use farm::{HERDS_MOST, Herd};
 use lent_file::LentAnswer;
 use model::FarmAnswer;

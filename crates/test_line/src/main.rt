@@ -1,6 +1,8 @@
 // The farm files of the second implementation that are held against a line (02, W8), run through the library: each
 // answer is printed as the program prints it. Before a file stand the letter that says where it comes from, and the
 // line, behind the number of its digits. The expected output is what the second implementation gives.
+#![tactic(auto)]
+
 ghost use Rattle.std.specs.Prelude.{◌≤◌};
 
 use limits::Source;

@@ -1,6 +1,8 @@
 // The vectors of mending, run through the library: for each file a line with the mended file's length and the number
 // of changes, then the mended file, then the list of changes. The expected output is what the second implementation
 // gives.
+#![tactic(auto)]
+
 use mend::Answer;
 use packs::Packed;
 

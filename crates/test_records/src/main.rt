@@ -1,6 +1,8 @@
 // Records that are handed in, good and bad, which a farm file does not reach: 01's refusals in their order, always with
 // record 0, and 13 only after them. Standard input is a script with a line for each case, and each line's answers are
 // printed below it. The expected output is worked out from 01.
+#![tactic(auto)]
+
 mod script; // what a line says
 mod records; // a good record, and records changed in one place
 mod answers; // what the calls answer

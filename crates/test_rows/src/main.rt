@@ -1,4 +1,6 @@
 // 01, Herds on both sides of an edge: the rows that are run and not proved.
+#![tactic(auto)]
+
 use limits::Source;
 use printing::tell;
 use views::View;

@@ -1,6 +1,8 @@
 // Walks of steps over farms with stored totals (02, W11), run through the library: for each step what the program
 // prints for it, and a line with the number of herds afterwards and a checksum of all of them with their places. The
 // walks are the second implementation's, and the expected output is what it gives.
+#![tactic(auto)]
+
 mod walk_bytes; // a walk's bytes as records
 
 use books::Step;

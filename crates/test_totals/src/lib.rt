@@ -1,5 +1,7 @@
 // The calls on a farm's record, lent an array that is handed in by value. No function that makes a slice of herds is
 // covered by the borrow checker, so the programs that test the calls, and the one that measures them, go through these.
+#![tactic(auto)]
+
 ghost use Rattle.std.specs.Prelude.{◌≡◌};
 ghost use Rattle.contracts.specs.Listings.{Called};
 ghost use Rattle.farm_calls.specs.Totals.{totals_in, listing_in};

@@ -1,6 +1,8 @@
 // The vectors of the second implementation, run through the library: of each file its figures, its notes, its cuts, its
 // reasons, in records and in sentences, and its farm written as a file are printed, as the commands print them. A
 // letter before the file says where it comes from. The expected output is what the second implementation gives.
+#![tactic(auto)]
+
 use limits::Source;
 use packs::Packed;
 use views::View;

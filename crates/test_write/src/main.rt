@@ -1,6 +1,8 @@
 // What a farm's record is written as where that is as long as it can be (02, W5 and W12): herds of cattle with a label
 // of 16 bytes and a comma, and the longest value of each input, 759 bytes a herd. 345 of them fit in 262,144 bytes, and
 // 346 do not: that is 1 with record 0, before 13. The expected output is what `second/write.py` gives.
+#![tactic(auto)]
+
 use farm::{Given, HERDS_MOST, Herd, Label, Slot};
 use inputs::{Kind, slots};
 use printing::tell;

@@ -1,5 +1,6 @@
 // The texts that the program prints beside its answers. Made by docs/tables from docs/refusals.txt, docs/help.txt and
 // the limits of crate `limits`.
+#![tactic(auto)]
 
 // A refusal in words, by its number; there is none of the number 0. Behind the last those of a cooperative's file that
 // name another limit.

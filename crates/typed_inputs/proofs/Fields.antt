@@ -40,7 +40,7 @@ module _ {g : Given} where
   pub signed-signed : (v : ℤ) → SFits w32 v → g ≡ Signed v → wide v ≡ signed_in g
   signed-signed v f e = wide_is f ∙ rw e refl
 
-pub ruleset Signed-steps = (missing-signed, standard-signed, value-signed, wide_fits, signed-signed)
+pub ruleset Signed_steps = (missing-signed, standard-signed, value-signed, wide_fits, signed-signed)
 
 module _ (h : Herd) where
   pub is-roughage : (category animals days hours : ℕ) (free : ℤ) (n tan : Entered)

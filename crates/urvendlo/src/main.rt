@@ -3,6 +3,8 @@
 // stand in front, --farm first, NAME is given always, and the steps behind it. Standard output has what the command
 // prints, or the refusal's line. Standard error has what is to be said of it, in whole lines. How the run ended goes as
 // one digit, after all output, to the descriptor that --status-fd names.
+#![tactic(auto)]
+
 mod runs; // what each command does
 
 use crate::runs::Question;

@@ -94,7 +94,7 @@ pub signed-none : {form : Form} {most : ℕ} (v : ℕ) → form ≡ ASigned most
 unfolding number_text
 signed-none v e l at = rw e (wrote_nothing l at)
 
-pub ruleset number-steps =
+pub ruleset number_steps =
     (number-room, number_put, or_room, or_put, no_room, no-put, name-room, name-put, signed-none)
 
 -- ---- what the record has
@@ -141,5 +141,5 @@ module _ (form : Form) {given : Given} where
         → Wrote old at (value_text form given) new next
     below_put x = wrote_as below-is x
 
-pub ruleset value-steps =
+pub ruleset value_steps =
     (none-put, standard-room, standard-put, value_room, value-put, wide_fits, below-room, below_put)

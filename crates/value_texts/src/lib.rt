@@ -1,4 +1,6 @@
 // A value put into a buffer as a farm file has it (02, W5), by the form of its input.
+#![tactic(auto)]
+
 ghost use Rattle.std.specs.Prelude.{◌+◌, ◌≤◌, length};
 ghost use Rattle.base.specs.Wrote.{Wrote};
 ghost use Rattle.value_texts.specs.Values.{number_text, signed_text, value_text};

@@ -87,7 +87,7 @@ pub value-name : {form : Form} (s : List ℕ) {r : ValueRead} {names : ValueList
 unfolding value_of
 value-name s e q = simp (e, value_of) q
 
-pub ruleset value-steps = (
+pub ruleset value_steps = (
   name-is,
   name-unfit,
   value-number,

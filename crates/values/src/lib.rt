@@ -1,4 +1,6 @@
 // What a value's text says, by the form of its input.
+#![tactic(auto)]
+
 ghost use Rattle.std.specs.Prelude.{◌≡◌};
 ghost use Rattle.names.specs.Find.{find_name};
 ghost use Rattle.values.specs.Values.{is_standard, name_read, value_of};

@@ -1,5 +1,7 @@
 // A view of a farm by value into a lent buffer, for the calls that have read or loaded one: what its checks refuse
 // comes first, then 1 where the view is a file that would be too long, then 13. On a refusal nothing is written.
+#![tactic(auto)]
+
 ghost use Rattle.std.specs.Prelude.{◌≡◌};
 ghost use Rattle.farm.specs.declared.Checked.TheVariants.{Accepted};
 ghost use Rattle.checks.specs.Checks.{check_farm};

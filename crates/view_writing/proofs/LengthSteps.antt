@@ -63,4 +63,4 @@ module _ (v : View) (f : Farm) where
     pub all-within : sum ≤ f.count * herd_view_room
     all-within = omega (arith, inv.short, inv.within)
 
-pub ruleset length-steps = (passes, starts, sum_fits, goes_on, all_measured, all-within)
+pub ruleset length_steps = (passes, starts, sum_fits, goes_on, all_measured, all-within)

@@ -47,7 +47,7 @@ module _ (text scratch after p : List ℕ) (n : ℕ) (w : Wrote scratch 0 text a
       pub put-within : r ≤ at + herd_view_room
       put-within = omega (arith, v.past, w.past, ap length is-text)
 
-pub ruleset scratch-steps = (has_room, put, put-within)
+pub ruleset scratch_steps = (has_room, put, put-within)
 
 -- ---- herd after herd
 
@@ -66,7 +66,7 @@ module _ (v : View) (f : Farm) (old : List ℕ) (room : length (each (herd_text 
         length-append (herd_text v (get_or f.herds i d)) rest,
       )
 
-pub ruleset herd-steps = (passes, starts, next-room, goes_on)
+pub ruleset herd_steps = (passes, starts, next-room, goes_on)
 
 -- ---- what stands behind them
 
@@ -98,4 +98,4 @@ module _ (v : View) (f : Farm) (accepted : check_farm f ≡ Accepted) (b : Bool)
   unfolding behind
   nothing_put e old = rw (← q, e) (wrote_nothing old 0)
 
-pub ruleset behind-steps = (sum-small, totals-room, totals-put, totals-within, nothing_put)
+pub ruleset behind_steps = (sum-small, totals-room, totals-put, totals-within, nothing_put)

@@ -59,4 +59,4 @@ module _ (v : View) (f : Farm) (accepted : check_farm f ≡ Accepted) (scratch a
             let all = wrote-append put (wrote_as is-behind u) in
             written (in_parts v f) all (omega (arith, all.past, whole))
 
-pub ruleset part-steps = (whole-fits, too_short, herds-room, rest-room, in_parts-put)
+pub ruleset part_steps = (whole-fits, too_short, herds-room, rest-room, in_parts-put)

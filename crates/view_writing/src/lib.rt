@@ -1,6 +1,8 @@
 // A view of an accepted farm into a lent buffer that may be too short for it. Its length is worked out first, herd by
 // herd, and nothing is written unless all of it fits. No scratch grows with the herds: one has room for a herd, one for
 // what stands behind them.
+#![tactic(auto)]
+
 mod lengths; // how long the herds' texts are
 mod parts; // herds, and what stands behind them, put where they just fit
 

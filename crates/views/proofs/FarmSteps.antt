@@ -75,7 +75,7 @@ module _ (v : View) (f : Farm) (accepted : check_farm f ≡ Accepted) (old : Lis
       omega (arith, inv.short, inv.within),
     )
 
-pub ruleset farm-steps = (starts, has_room, passes, goes_on)
+pub ruleset farm_steps = (starts, has_room, passes, goes_on)
 
 -- ---- the view
 
@@ -104,7 +104,7 @@ module _ (v : View) (f : Farm) (b : Bool) (q : b ≡ is_figures v) (old new : Li
   pub as-herds : b ≡ false → Wrote old 0 (each (herd_text v) (herds_of f)) new r → Wrote old 0 (viewed v f) new r
   as-herds t w = wrote_as (by-herds v f (sym q ∙ t)) w
 
-pub ruleset view-steps = (as-figures, as-herds)
+pub ruleset view_steps = (as-figures, as-herds)
 
 -- ---- the limit of a view
 
@@ -126,7 +126,7 @@ module _ (v : View) (f : Farm) (b : Bool) (q : b ≡ has_limit v) where
   unfolding view_checked
   has-none t = rw (← q, t)
 
-pub ruleset limit-steps = (is-limited, has-none)
+pub ruleset limit_steps = (is-limited, has-none)
 
 module _ (v : View) (f : Farm) (k : Checked) (q : k ≡ view_checked v f) where
   pub is-put : k ≡ Accepted → (room : ℕ) (old new : List ℕ) (n : ℕ) → Wrote old 0 (viewed v f) new n → n ≤ room
@@ -137,4 +137,4 @@ module _ (v : View) (f : Farm) (k : Checked) (q : k ≡ view_checked v f) where
       → Put room (view_checked v f) (viewed v f) old old (writes.Refused refusal n)
   is-not room old refusal n e = refused (sym q ∙ e)
 
-pub ruleset put-steps = (is-put, is-not)
+pub ruleset put_steps = (is-put, is-not)

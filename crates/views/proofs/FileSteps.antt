@@ -82,4 +82,4 @@ module _ (source : Source) (s : List ℕ) (a : FileAnswer) (q : a ≡ read_of (l
       ≡ checks.Refused refusal n = rw (sym (ap (λ x. x.checked) q) ∙ e) in
       refused k
 
-pub ruleset file-steps = (passes, has_room, is-limited, is-listed, is-refused)
+pub ruleset file_steps = (passes, has_room, is-limited, is-listed, is-refused)

@@ -69,12 +69,12 @@ module _ (h : Herd) (e : check_herd h ≡ Accepted) (at : ℕ) where
   pub file-within : (old new : List ℕ) (r : ℕ) → Wrote old at (herd_file h) new r → r ≤ at + herd_view_room
   file-within old new r w = omega (arith, w.past, herd-fits h e)
 
-pub ruleset figures-steps = (figures-put, figures-within)
+pub ruleset figures_steps = (figures-put, figures-within)
 
-pub ruleset notes-steps = (notes-put, notes-within)
+pub ruleset notes_steps = (notes-put, notes-within)
 
-pub ruleset cuts-steps = (cuts-put, cuts-within)
+pub ruleset cuts_steps = (cuts-put, cuts-within)
 
-pub ruleset why-steps = (reasons-put, sentences-put, why-within)
+pub ruleset why_steps = (reasons-put, sentences-put, why-within)
 
-pub ruleset file-steps = (file-put, file-room, file-within)
+pub ruleset file_steps = (file-put, file-room, file-within)

@@ -44,4 +44,4 @@ prints-refused source v s old mid (Refused f m) (refused r) refusal n e new k w'
     let d : m ≡ n = cc in
     record { bytes = rw (r, c, d) w'; room = le_trans b (line-within source); ended = rw (r, c, d) }
 
-pub ruleset output-steps = (prints-listed, prints-refused)
+pub ruleset output_steps = (prints-listed, prints-refused)

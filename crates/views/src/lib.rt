@@ -1,6 +1,8 @@
 // What a command lists of a farm, as a value: a herd's text in each view, an accepted farm's, and what a file is
 // answered with, put together as bytes. A further view is a variant, its clause in specs/Views.antt and its arm in
 // herds.rt.
+#![tactic(auto)]
+
 pub mod herds; // an accepted herd in a view, and herd after herd
 pub mod farms; // an accepted farm in a view
 pub mod files; // a file in a view

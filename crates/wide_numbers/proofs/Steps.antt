@@ -53,7 +53,7 @@ module _ (v b : ℕ) where
           → Value (v * 10 + (b - 48)) ≡ widened (up_to wide_most (with_digit v b))
       wide_fits k h = ap widened (digit-fits wide_most v b l u (omega arith))
 
-pub ruleset digit-steps = (wide_low, wide_high, wide-beyond, wide_large, wide_fits)
+pub ruleset digit_steps = (wide_low, wide_high, wide-beyond, wide_large, wide_fits)
 
 -- ---- without decimals there is nothing behind a point, so that only digits are read
 
@@ -110,7 +110,7 @@ module _ (s : List ℕ) (i x : ℕ) (X : WideNumber) (inv : widened (up_to wide_
         (whole-over (more x (get_or s i 0)) (drop (i + 1) s))))
         ∙ going
 
-pub ruleset spelled-steps = (wide-end, wide-small, wide-more, wide-stop)
+pub ruleset spelled_steps = (wide-end, wide-small, wide-more, wide-stop)
 
 -- ---- the whole text, by its first byte
 
@@ -147,4 +147,4 @@ module _ (s : List ℕ) where
     reads-digits n r q =
         reads_as s r (q ∙ ap (λ (x : Number). widened (up_to wide_most x)) (sym (digits-first s some n)))
 
-pub ruleset number-steps = (reads_none, reads-zero, reads-no-zero, reads-digits)
+pub ruleset number_steps = (reads_none, reads-zero, reads-no-zero, reads-digits)

@@ -1,5 +1,7 @@
 // A whole number of up to 64 bits, read from its text: 01's form, digits with no sign, no point and no leading zero but
 // a single one.
+#![tactic(auto)]
+
 ghost use Rattle.std.specs.Prelude.{◌≡◌};
 ghost use Rattle.digits.specs.Digits.{with_digit, up_to};
 ghost use Rattle.numbers.specs.Reading.{whole_from};

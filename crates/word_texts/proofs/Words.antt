@@ -33,7 +33,7 @@ module _ (lengths : List ℕ) (place at i : ℕ) (within : place ≤ length leng
       let h = rw (rest_end (take place lengths) i (omega (arith, l))) at inv in
       omega (arith, h)
 
-pub ruleset start-steps = (start-next, start_is)
+pub ruleset start_steps = (start-next, start_is)
 
 -- ---- the word
 
@@ -94,7 +94,7 @@ none-put words lengths place b l at =
     wrote_as (sym (get_or-eq_default (words_of words lengths) [] (omega (arith, as_many words lengths))))
     (wrote_nothing l at)
 
-pub ruleset put-steps = (word-inside, word_room, word-put, none-put)
+pub ruleset put_steps = (word-inside, word_room, word-put, none-put)
 
 -- ---- the words of a list of names
 
@@ -111,4 +111,4 @@ module _ (names : ValueList) (place : ℕ) {list : ValueList} (words lengths : L
       → Wrote old at (name_text names place) new next
   name-put x = wrote_as name-is x
 
-pub ruleset name-steps = (name-room, name-put)
+pub ruleset name_steps = (name-room, name-put)

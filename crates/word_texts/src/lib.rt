@@ -1,5 +1,7 @@
 // A word of a list put into a buffer, by its place; and so the name of a value (02, W5). The words of a list are one
 // text, as crate `words` finds them.
+#![tactic(auto)]
+
 ghost use Rattle.std.specs.Prelude.{◌≡◌, ◌+◌, ◌*◌, ◌≤◌, length, take};
 ghost use Rattle.base.specs.Wrote.{Wrote};
 ghost use Rattle.words.specs.Find.{room_of};

@@ -26,7 +26,7 @@ module _ (words lengths : List ℕ) (at i : ℕ) (inv : at + room_of (drop i len
   pub word-inside : at + n ≤ length words
   word-inside = omega (arith, room_next)
 
-pub ruleset room-steps = (room_next, word-inside)
+pub ruleset room_steps = (room_next, word-inside)
 
 -- ---- the words from `at` on are still to be compared, X is what the whole search finds
 
@@ -53,7 +53,7 @@ module _ (t s lengths : List ℕ) (at i : ℕ) (X : Found)
   unfolding first_from words_of
   word_none b = rw (rest_end lengths i b) at inv
 
-pub ruleset word-steps = (word-found, word-other, word_none)
+pub ruleset word_steps = (word-found, word-other, word_none)
 
 -- ---- words that are a list's names find the name
 

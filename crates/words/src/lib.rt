@@ -1,5 +1,7 @@
 // The words of a record that stand before its value (01, The farm file): the modules and the input names; and which of
 // some words a text is. The words of a list are one text: the compiler then compares each by a few instructions.
+#![tactic(auto)]
+
 pub mod modules; // the modules by number, and as words
 pub mod input_names; // so the input names
 

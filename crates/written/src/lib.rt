@@ -1,5 +1,7 @@
 // What a writing call says: the length of what it wrote, or a refusal; and what was put together elsewhere handed over,
 // or refusal 13 where the lent buffer is too short for it (01, Refusal numbers).
+#![tactic(auto)]
+
 ghost use Rattle.base.specs.Part.{part};
 ghost use Rattle.written.specs.Answer.{Answered};
 

@@ -81,7 +81,7 @@ module _ (o : Outdoor) (s : SoundOutdoor o) where
     pub yard-keeps-tan : let y = on_yard cutting o n tan in y.tan_into_yard ≡ y.nh3_nyard + y.tan_outyard_liquid
     yard-keeps-tan = omega (arith, nh3-on-yard-le (into_yard cutting o tan))
 
-pub ruleset yard-rate-steps = (rate-fits, under-yard_ceiling, at-yard_ceiling)
+pub ruleset yard_rate_steps = (rate-fits, under-yard_ceiling, at-yard_ceiling)
 
 -- ---- the code's steps
 

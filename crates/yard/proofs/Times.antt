@@ -81,7 +81,7 @@ module _ (o : Outdoor) (t : Bool) (et : t ≡ share_lowered o) where
   unfolding share_excretion_with_grazing
   is-chosen h share es = record { is = rw (← et, h, es.is); most = es.most }
 
-pub ruleset share-steps = (none-lowered, some-lowered, is-lowered, is-chosen)
+pub ruleset share_steps = (none-lowered, some-lowered, is-lowered, is-chosen)
 
 -- ---- the time on the yard
 
@@ -98,7 +98,7 @@ module _ (o : Outdoor) (s : SoundOutdoor o) (both share shared : ℕ) (eb : Days
   unfolding yard_time
   is-yard_time es et = record { is = rw (es, et, eb.is) refl; most = yard-le }
 
-pub ruleset yard-time-steps = (yard-sum-fits, is-yard_time)
+pub ruleset yard_time_steps = (yard-sum-fits, is-yard_time)
 
 pub yard_time-le : (o : Outdoor) → SoundOutdoor o → yard_time o ≤ tenths * year
 unfolding yard_time

@@ -5,6 +5,8 @@
 // its own. A program that tests ranges of days which overlap one after the other, cuts the yard days at what grazing
 // leaves of the year, or lets the share of the other yard days stand on days with both, gives summer farms a figure
 // that is not theirs.
+#![tactic(auto)]
+
 ghost use Rattle.std.specs.Prelude.{◌≡◌, ◌*◌, ◌<◌, ◌^◌};
 ghost use Rattle.amounts.specs.Units.{tenths, percent, ten_thousandths, year};
 ghost use Rattle.amounts.specs.Dividing.{dividing, uncut};

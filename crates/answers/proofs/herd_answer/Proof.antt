@@ -1,7 +1,7 @@
 -- The answer is the one that the check picks; an accepted herd's inputs are sound, as its figures, notes and cuts ask.
 -- Assumes nothing.
 use borrow.Author.Rules.{rules}
-use Rattle.model.proofs.AnswerSteps.{herd-answers}
+use Rattle.model.proofs.AnswerSteps.{herd_answers}
 use Rattle.answers.proofs.herd_answer.Statement.{statement}
 use Rattle.answers.proofs.herd_answer.Tie as tie
 
@@ -15,16 +15,16 @@ typed-of-requires : tie.Need-typed-of-requires
 typed-of-requires c κs = search rules
 
 figures-requires : tie.Need-figures-requires
-figures-requires c κs = search (rules, herd-answers)
+figures-requires c κs = search (rules, herd_answers)
 
 kilograms-of-requires : tie.Need-kilograms-of-requires
-kilograms-of-requires c κs = search (rules, herd-answers)
+kilograms-of-requires c κs = search (rules, herd_answers)
 
 notes-of-requires : tie.Need-notes-of-requires
-notes-of-requires c κs = search (rules, herd-answers)
+notes-of-requires c κs = search (rules, herd_answers)
 
 cuts-of-requires : tie.Need-cuts-of-requires
-cuts-of-requires c κs = search (rules, herd-answers)
+cuts-of-requires c κs = search (rules, herd_answers)
 
 enum-known-refusal : tie.Need-enum-known-refusal
 enum-known-refusal c = search rules
@@ -33,7 +33,7 @@ no-figures-requires : tie.Need-no-figures-requires
 no-figures-requires c κs = search rules
 
 kilograms-of-requires-2 : tie.Need-kilograms-of-requires-2
-kilograms-of-requires-2 c κs = search (rules, herd-answers)
+kilograms-of-requires-2 c κs = search (rules, herd_answers)
 
 no-notes-requires : tie.Need-no-notes-requires
 no-notes-requires c κs = search rules
@@ -42,10 +42,10 @@ no-cuts-requires : tie.Need-no-cuts-requires
 no-cuts-requires c κs = search rules
 
 returns : tie.Need-returns
-returns c = search (rules, herd-answers)
+returns c = search (rules, herd_answers)
 
 returns-2 : tie.Need-returns-2
-returns-2 c = search (rules, herd-answers)
+returns-2 c = search (rules, herd_answers)
 
 pub herd-answer-spec : {M : Type 1} → statement M
 herd-answer-spec =

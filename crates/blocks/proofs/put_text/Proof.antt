@@ -1,5 +1,5 @@
 -- `blocks::put_text` meets its contract: a text is at most three blocks, which may overlap. Assumes nothing.
-use Rattle.blocks.proofs.Overlaps.{block-steps, in_three}
+use Rattle.blocks.proofs.Overlaps.{block_steps, in_three}
 use borrow.Author.Rules.{rules}
 use Rattle.blocks.proofs.put_text.Statement.{statement}
 use Rattle.blocks.proofs.put_text.Tie as tie
@@ -33,7 +33,7 @@ same-length-2 : tie.Need-same-length-2
 same-length-2 c = search rules
 
 returns-2 : tie.Need-returns-2
-returns-2 c = search (rules, block-steps)
+returns-2 c = search (rules, block_steps)
 
 add-put-block-2 : tie.Need-overflow-add-put-block-2
 add-put-block-2 c = search rules

@@ -1,7 +1,7 @@
 -- `book_herds::added` meets its contract. Assumes nothing.
 use borrow.Author.Rules.{rules}
 use Rattle.farm.proofs.Left.{length_mapped}
-use Rattle.book_herds.proofs.Steps.{edit-steps}
+use Rattle.book_herds.proofs.Steps.{edit_steps}
 use Rattle.book_herds.proofs.added.Statement.{statement}
 use Rattle.book_herds.proofs.added.Tie as tie
 
@@ -12,4 +12,4 @@ added-spec =
     (λ c. search rules)
     (λ c. search rules)
     (λ c. search rules)
-    (λ c. search (rules, edit-steps, length_mapped)))
+    (λ c. search (rules, edit_steps, length_mapped)))

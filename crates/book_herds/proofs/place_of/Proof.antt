@@ -2,7 +2,7 @@
 use Prim.Native.Nat.{◌-◌}
 use borrow.Author.Rules.{rules}
 use Rattle.farm.proofs.Left.{length_mapped}
-use Rattle.book_herds.proofs.Steps.{Looking, place-steps}
+use Rattle.book_herds.proofs.Steps.{Looking, place_steps}
 use Rattle.book_herds.proofs.place_of.Statement.{statement}
 use Rattle.book_herds.proofs.place_of.Tie as tie
 
@@ -18,12 +18,12 @@ place-of-spec =
     (tie.spec
     invariant-loop
     decreases-loop
-    (λ c. search (rules, place-steps))
+    (λ c. search (rules, place_steps))
     (λ c. search rules)
     (λ c. search rules)
     (λ c κs. search rules)
-    (λ c. search (rules, place-steps, length_mapped))
+    (λ c. search (rules, place_steps, length_mapped))
     (λ c. search rules)
     (λ c. search rules)
-    (λ c. search (rules, place-steps, length_mapped))
-    (λ c. search (rules, place-steps)))
+    (λ c. search (rules, place_steps, length_mapped))
+    (λ c. search (rules, place_steps)))

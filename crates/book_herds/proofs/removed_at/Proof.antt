@@ -2,7 +2,7 @@
 use Prim.Native.Nat.{◌-◌}
 use borrow.Author.Rules.{rules}
 use Rattle.farm.proofs.Left.{length_mapped}
-use Rattle.book_herds.proofs.Steps.{Closing, removal-steps}
+use Rattle.book_herds.proofs.Steps.{Closing, removal_steps}
 use Rattle.book_herds.proofs.removed_at.Statement.{statement}
 use Rattle.book_herds.proofs.removed_at.Tie as tie
 
@@ -19,7 +19,7 @@ removed-at-spec =
     invariant-loop
     decreases-loop
     (λ c. search rules)
-    (λ c. search (rules, removal-steps, length_mapped))
+    (λ c. search (rules, removal_steps, length_mapped))
     (λ c. search rules)
     (λ c. search rules)
     (λ c. search rules)
@@ -27,5 +27,5 @@ removed-at-spec =
     (λ c. search rules)
     (λ c. search rules)
     (λ c. search rules)
-    (λ c. search (rules, removal-steps))
-    (λ c. search (rules, removal-steps, length_mapped)))
+    (λ c. search (rules, removal_steps))
+    (λ c. search (rules, removal_steps, length_mapped)))

@@ -1,6 +1,6 @@
 -- The farm's record is checked first. Assumes nothing.
 use borrow.Author.Rules.{rules}
-use Rattle.book_rules.proofs.RuleSteps.{rule-steps}
+use Rattle.book_rules.proofs.RuleSteps.{rule_steps}
 use Rattle.book_rules.proofs.decide.Statement.{statement}
 use Rattle.book_rules.proofs.decide.Tie as tie
 
@@ -10,7 +10,7 @@ decide-spec =
     (tie.spec
     (λ c κs. search rules)
     (λ c. search rules)
-    (λ c κs. search (rules, rule-steps))
+    (λ c κs. search (rules, rule_steps))
     (λ c. search rules)
-    (λ c. search (rules, rule-steps))
-    (λ c. search (rules, rule-steps)))
+    (λ c. search (rules, rule_steps))
+    (λ c. search (rules, rule_steps)))

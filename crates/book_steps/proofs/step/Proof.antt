@@ -1,7 +1,7 @@
 -- What was decided says what is known of the step, and what it gives. Assumes nothing.
 use borrow.Author.Rules.{rules}
 use Rattle.farm.proofs.Left.{length_mapped}
-use Rattle.book_steps.proofs.Decided.{decided-steps}
+use Rattle.book_steps.proofs.Decided.{decided_steps}
 use Rattle.book_steps.proofs.step.Statement.{statement}
 use Rattle.book_steps.proofs.step.Tie as tie
 
@@ -16,14 +16,14 @@ step_spec =
     (λ c κs. search rules)
     (λ c. search rules)
     (λ c. search rules)
-    (λ c κs. search (rules, decided-steps, length_mapped))
+    (λ c κs. search (rules, decided_steps, length_mapped))
     (λ c. search rules)
-    (λ c κs. search (rules, decided-steps))
+    (λ c κs. search (rules, decided_steps))
     (λ c. search rules)
-    (λ c κs. search (rules, decided-steps))
+    (λ c κs. search (rules, decided_steps))
     (λ c. search rules)
     no-farm-requires
-    (λ c. search (rules, decided-steps))
-    (λ c. search (rules, decided-steps))
-    (λ c. search (rules, decided-steps))
-    (λ c. search (rules, decided-steps)))
+    (λ c. search (rules, decided_steps))
+    (λ c. search (rules, decided_steps))
+    (λ c. search (rules, decided_steps))
+    (λ c. search (rules, decided_steps)))

@@ -8,7 +8,7 @@ use Rattle.outputs.specs.Names.{totals}
 use Rattle.outputs.specs.Grams.{grams_at}
 use Rattle.outputs.proofs.ByNumber.{Filled, fill_none, fill_one, fill_all}
 use Rattle.book_totals.proofs.Beyond.{within-most}
-use Rattle.book_totals.proofs.Parts.{reads-small, gave}
+use Rattle.book_totals.proofs.Parts.{reads_small, gave}
 use Rattle.book_totals.proofs.moved_by.Statement.{statement}
 use Rattle.book_totals.proofs.moved_by.Tie as tie
 
@@ -42,7 +42,7 @@ element-copy-out-z : tie.Need-element-copy-out-z invariant-loop decreases-loop
 element-copy-out-z c = search rules
 
 exchanged-requires : tie.Need-exchanged-requires invariant-loop decreases-loop
-exchanged-requires c κs = (search (rules, reads-small), search (rules, reads-small), search (rules, reads-small))
+exchanged-requires c κs = (search (rules, reads_small), search (rules, reads_small), search (rules, reads_small))
 
 mul-t14 : tie.Need-overflow-mul-t14 invariant-loop decreases-loop
 mul-t14 c = search rules

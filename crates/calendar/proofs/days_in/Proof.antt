@@ -1,6 +1,6 @@
 -- `calendar::days_in` meets its contract: the code's table is the definition's list in a common year. Assumes
 -- nothing.
-use Rattle.calendar.proofs.MonthSteps.{month-steps}
+use Rattle.calendar.proofs.MonthSteps.{month_steps}
 use borrow.Author.Rules.{rules}
 use Rattle.calendar.proofs.days_in.Statement.{statement}
 use Rattle.calendar.proofs.days_in.Tie as tie
@@ -10,8 +10,8 @@ days-in-spec =
     tie.close
     (tie.spec
     (λ c κs. search rules)
-    (λ c. search (rules, month-steps))
+    (λ c. search (rules, month_steps))
     (λ c. search rules)
     (λ c. search rules)
-    (λ c. search (rules, month-steps))
-    (λ c. search (rules, month-steps)))
+    (λ c. search (rules, month_steps))
+    (λ c. search (rules, month_steps)))

@@ -1,5 +1,5 @@
 -- `calendar::due_after` meets its contract. Assumes nothing.
-use Rattle.calendar.proofs.MonthSteps.{due-steps}
+use Rattle.calendar.proofs.MonthSteps.{due_steps}
 use borrow.Author.Rules.{rules}
 use Rattle.calendar.proofs.due_after.Statement.{statement}
 use Rattle.calendar.proofs.due_after.Tie as tie
@@ -10,7 +10,7 @@ due-after-spec =
     (tie.spec
     (λ c κs. search rules)
     (λ c. search rules)
-    (λ c. search (rules, due-steps))
+    (λ c. search (rules, due_steps))
     (λ c. search rules)
-    (λ c. search (rules, due-steps))
-    (λ c. search (rules, due-steps)))
+    (λ c. search (rules, due_steps))
+    (λ c. search (rules, due_steps)))

@@ -1,6 +1,6 @@
 -- `calls::file_totals_listing` meets its contract: a farm that is read passes the record checks.
 -- Assumes nothing.
-use Rattle.contracts.proofs.FileSteps.{file-steps}
+use Rattle.contracts.proofs.FileSteps.{file_steps}
 use borrow.Author.Rules.{rules}
 use Rattle.calls.proofs.file_totals_listing.Statement.{statement}
 use Rattle.calls.proofs.file_totals_listing.Tie as tie
@@ -21,10 +21,10 @@ same_length : tie.Need-same-length
 same_length c = search rules
 
 returns : tie.Need-returns
-returns c = search (rules, file-steps)
+returns c = search (rules, file_steps)
 
 returns-2 : tie.Need-returns-2
-returns-2 c = search (rules, file-steps)
+returns-2 c = search (rules, file_steps)
 
 pub file-totals-listing-spec : {M : Type 1} → statement M
 file-totals-listing-spec =

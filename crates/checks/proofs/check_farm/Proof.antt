@@ -17,7 +17,7 @@ use Rattle.herd_tests.specs.Tests.{labels_of, earlier_label, prints_of}
 use Rattle.checks.specs.Checks.{herds_tests, herds_of, check_farm}
 use Rattle.farm.proofs.Left.{length_mapped}
 use Rattle.herd_tests.proofs.PrintsSoFar.{prints-next, new-by_print, new-by-label}
-use Rattle.checks.proofs.HerdSteps.{farm-steps}
+use Rattle.checks.proofs.HerdSteps.{farm_steps}
 use Rattle.checks.proofs.check_farm.Statement.{statement}
 use Rattle.checks.proofs.check_farm.Tie as tie
 
@@ -60,7 +60,7 @@ loop-again c =
       prints-next _ _ _ v.3 v.2 v.1 b none p.print-of.ensures,
       search (
         rules,
-        farm-steps,
+        farm_steps,
         new w,
         p.before.if2.false,
         p.before.before.label-ok.ensures,
@@ -75,17 +75,17 @@ check-farm-spec =
     (tie.spec
     invariant-loop
     decreases-loop
-    (λ c. search (rules, farm-steps))
-    (λ c. search (rules, farm-steps, length_mapped))
+    (λ c. search (rules, farm_steps))
+    (λ c. search (rules, farm_steps, length_mapped))
     (λ c. search rules)
     (λ c. search rules)
     (λ c κs. search rules)
-    (λ c. search (rules, farm-steps))
+    (λ c. search (rules, farm_steps))
     (λ c κs. search rules)
     (λ c. search rules)
     (λ c κs. search rules)
     (λ c κs. search rules)
-    (λ c. search (rules, farm-steps))
+    (λ c. search (rules, farm_steps))
     (λ c. search rules)
     (λ c. search rules)
     (λ c κs. search rules)
@@ -94,5 +94,5 @@ check-farm-spec =
     (λ c. search rules)
     loop-again
     (λ c. search rules)
-    (λ c. search (rules, farm-steps, new c.before.before.before.before))
-    (λ c. search (rules, farm-steps)))
+    (λ c. search (rules, farm_steps, new c.before.before.before.before))
+    (λ c. search (rules, farm_steps)))

@@ -1,7 +1,7 @@
 -- `cut_division::less` meets its contract: the difference is no larger than the larger of the two, so it fits. Assumes
 -- nothing.
 use borrow.Author.Rules.{rules}
-use Rattle.cut_division.proofs.Signed.{less-steps}
+use Rattle.cut_division.proofs.Signed.{less_steps}
 use Rattle.cut_division.proofs.less.Statement.{statement}
 use Rattle.cut_division.proofs.less.Tie as tie
 
@@ -12,10 +12,10 @@ cast-result-2 : tie.Need-overflow-cast-result-2
 cast-result-2 c = search rules
 
 sub-result : tie.Need-overflow-sub-result
-sub-result c = search (rules, less-steps)
+sub-result c = search (rules, less_steps)
 
 returns : tie.Need-returns
-returns c = search (rules, less-steps)
+returns c = search (rules, less_steps)
 
 pub less-spec : {M : Type 1} → statement M
 less-spec = tie.close (tie.spec cast-result cast-result-2 sub-result returns)

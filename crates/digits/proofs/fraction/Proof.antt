@@ -4,7 +4,7 @@ use Prim.Native.Nat.{◌≤◌, ◌-◌}
 use mathlib.Core.Path.{◌≡◌}
 use lib.ListN.{length, drop}
 use Rattle.digits.specs.Digits.{fraction_from, up_to}
-use Rattle.digits.proofs.Steps.{fraction-steps}
+use Rattle.digits.proofs.Steps.{fraction_steps}
 use borrow.Author.Rules.{rules}
 use Rattle.digits.proofs.fraction.Statement.{statement}
 use Rattle.digits.proofs.fraction.Tie as tie
@@ -20,7 +20,7 @@ loop-holds : tie.Need-loop-init invariant-loop decreases-loop
 loop-holds c = search rules
 
 returns : tie.Need-returns invariant-loop decreases-loop
-returns c = search (rules, fraction-steps)
+returns c = search (rules, fraction_steps)
 
 shared-slice-read-with-digit : tie.Need-shared-slice-read-with-digit invariant-loop decreases-loop
 shared-slice-read-with-digit c = search rules
@@ -35,7 +35,7 @@ enum_told : tie.Need-enum-told invariant-loop decreases-loop
 enum_told c = search rules
 
 returns-2 : tie.Need-returns-2 invariant-loop decreases-loop
-returns-2 c = search (rules, fraction-steps)
+returns-2 c = search (rules, fraction_steps)
 
 sub-k : tie.Need-overflow-sub-k invariant-loop decreases-loop
 sub-k c = search rules
@@ -47,13 +47,13 @@ loop-less : tie.Need-loop-smaller invariant-loop decreases-loop
 loop-less c = search rules
 
 loop-again : tie.Need-loop-preserved invariant-loop decreases-loop
-loop-again c = search (rules, fraction-steps)
+loop-again c = search (rules, fraction_steps)
 
 scaled-requires : tie.Need-scaled-requires invariant-loop decreases-loop
 scaled-requires c κs = search rules
 
 returns-3 : tie.Need-returns-3 invariant-loop decreases-loop
-returns-3 c = search (rules, fraction-steps)
+returns-3 c = search (rules, fraction_steps)
 
 pub fraction-spec : {M : Type 1} → statement M
 fraction-spec =

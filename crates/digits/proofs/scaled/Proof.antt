@@ -2,7 +2,7 @@
 -- Assumes nothing.
 use Prim.Native.Nat.{◌≤◌, ◌*◌, ◌^◌}
 use mathlib.Core.Path.{◌≡◌}
-use Rattle.digits.proofs.Steps.{scaled-steps}
+use Rattle.digits.proofs.Steps.{scaled_steps}
 use borrow.Author.Rules.{rules}
 use Rattle.digits.proofs.scaled.Statement.{statement}
 use Rattle.digits.proofs.scaled.Tie as tie
@@ -26,7 +26,7 @@ enum_told : tie.Need-enum-told invariant-loop decreases-loop
 enum_told c = search rules
 
 returns : tie.Need-returns invariant-loop decreases-loop
-returns c = search (rules, scaled-steps)
+returns c = search (rules, scaled_steps)
 
 sub-j : tie.Need-overflow-sub-j invariant-loop decreases-loop
 sub-j c = search rules
@@ -35,10 +35,10 @@ loop-less : tie.Need-loop-smaller invariant-loop decreases-loop
 loop-less c = search rules
 
 loop-again : tie.Need-loop-preserved invariant-loop decreases-loop
-loop-again c = search (rules, scaled-steps)
+loop-again c = search (rules, scaled_steps)
 
 returns-2 : tie.Need-returns-2 invariant-loop decreases-loop
-returns-2 c = search (rules, scaled-steps)
+returns-2 c = search (rules, scaled_steps)
 
 pub scaled-spec : {M : Type 1} → statement M
 scaled-spec =

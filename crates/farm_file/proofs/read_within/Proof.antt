@@ -1,6 +1,6 @@
 -- `farm_file::read_within` meets its contract: 1 comes before all. Assumes nothing.
 use borrow.Author.Rules.{rules}
-use Rattle.farm_file.proofs.Steps.{read-steps}
+use Rattle.farm_file.proofs.Steps.{read_steps}
 use Rattle.farm_file.proofs.read_within.Statement.{statement}
 use Rattle.farm_file.proofs.read_within.Tie as tie
 
@@ -9,7 +9,7 @@ read-within-spec =
     tie.close
     (tie.spec
     (λ c κs. search rules)
-    (λ c. search (rules, read-steps))
+    (λ c. search (rules, read_steps))
     (λ c κs. search rules)
     (λ c κs. search rules)
-    (λ c. search (rules, read-steps)))
+    (λ c. search (rules, read_steps)))

@@ -6,7 +6,7 @@ use lib.ListN.{length}
 use borrow.Author.Rules.{rules}
 use Rattle.farm.specs.Limits.{herds_most}
 use Rattle.farm.proofs.Left.{length_mapped}
-use Rattle.model.proofs.AnswerSteps.{Adding, Turned, adding-steps, turned}
+use Rattle.model.proofs.AnswerSteps.{Adding, Turned, adding_steps, turned}
 use Rattle.farm_sums.proofs.sum_of.Statement.{statement}
 use Rattle.farm_sums.proofs.sum_of.Tie as tie
 
@@ -24,7 +24,7 @@ no-figures-requires : tie.Need-no-figures-requires invariant-loop decreases-loop
 no-figures-requires c κs = search rules
 
 loop-holds : tie.Need-loop-init invariant-loop decreases-loop
-loop-holds c = search (rules, adding-steps)
+loop-holds c = search (rules, adding_steps)
 
 mul-h : tie.Need-overflow-mul-h invariant-loop decreases-loop
 mul-h c = search rules
@@ -36,7 +36,7 @@ typed-of-requires : tie.Need-typed-of-requires invariant-loop decreases-loop
 typed-of-requires c κs = search rules
 
 figures-requires : tie.Need-figures-requires invariant-loop decreases-loop
-figures-requires c κs = search (rules, adding-steps, length_mapped)
+figures-requires c κs = search (rules, adding_steps, length_mapped)
 
 -- what the figures of the herd at i come to
 turn : (c : tie.After-figures invariant-loop decreases-loop)
@@ -62,7 +62,7 @@ loop-again : tie.Need-loop-preserved invariant-loop decreases-loop
 loop-again c = (turn c.before).next c.plus.result c.plus.ensures
 
 returns : tie.Need-returns invariant-loop decreases-loop
-returns c = search (rules, adding-steps)
+returns c = search (rules, adding_steps)
 
 pub sum-of-spec : {M : Type 1} → statement M
 sum-of-spec =

@@ -1,7 +1,7 @@
 -- `field_ends::field_end` meets its contract, by the field's first byte.
 -- Assumes nothing.
 use mathlib.Core.Logic.{⊎_elim}
-use Rattle.field_ends.proofs.Scans.{field-steps}
+use Rattle.field_ends.proofs.Scans.{field_steps}
 use borrow.Author.Rules.{rules}
 use Rattle.field_ends.proofs.field_end.Statement.{statement}
 use Rattle.field_ends.proofs.field_end.Tie as tie
@@ -16,13 +16,13 @@ quoted-end-requires : tie.Need-quoted-end-requires
 quoted-end-requires c κs = search rules
 
 returns : tie.Need-returns
-returns c = search (rules, field-steps)
+returns c = search (rules, field_steps)
 
 plain-end-requires : tie.Need-plain-end-requires
 plain-end-requires c κs = search rules
 
 returns-2 : tie.Need-returns-2
-returns-2 c = ⊎_elim (λ w. search field-steps) (λ w. search field-steps) c.before.if1.branch
+returns-2 c = ⊎_elim (λ w. search field_steps) (λ w. search field_steps) c.before.if1.branch
 
 pub field-end-spec : {M : Type 1} → statement M
 field-end-spec =

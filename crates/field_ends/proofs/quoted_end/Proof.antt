@@ -4,7 +4,7 @@ use Prim.Native.Nat.{◌-◌}
 use mathlib.Core.Path.{◌≡◌}
 use lib.ListN.{length, drop}
 use Rattle.field_ends.specs.Places.{quoted_from}
-use Rattle.field_ends.proofs.Scans.{quoted-steps}
+use Rattle.field_ends.proofs.Scans.{quoted_steps}
 use borrow.Author.Rules.{rules}
 use Rattle.field_ends.proofs.quoted_end.Statement.{statement}
 use Rattle.field_ends.proofs.quoted_end.Tie as tie
@@ -28,13 +28,13 @@ loop-less : tie.Need-loop-smaller invariant-loop decreases-loop
 loop-less c = search rules
 
 loop-again : tie.Need-loop-preserved invariant-loop decreases-loop
-loop-again c = search (rules, quoted-steps)
+loop-again c = search (rules, quoted_steps)
 
 add-j : tie.Need-overflow-add-j invariant-loop decreases-loop
 add-j c = search rules
 
 returns : tie.Need-returns invariant-loop decreases-loop
-returns c = search (rules, quoted-steps)
+returns c = search (rules, quoted_steps)
 
 shared-slice-read-b : tie.Need-shared-slice-read-b invariant-loop decreases-loop
 shared-slice-read-b c = search rules
@@ -43,7 +43,7 @@ add-t13 : tie.Need-overflow-add-t13 invariant-loop decreases-loop
 add-t13 c = search rules
 
 returns-2 : tie.Need-returns-2 invariant-loop decreases-loop
-returns-2 c = search (rules, quoted-steps)
+returns-2 c = search (rules, quoted_steps)
 
 add-line-end : tie.Need-overflow-add-line-end invariant-loop decreases-loop
 add-line-end c = search rules
@@ -52,10 +52,10 @@ line-end-requires : tie.Need-line-end-requires invariant-loop decreases-loop
 line-end-requires c κs = search rules
 
 returns-3 : tie.Need-returns-3 invariant-loop decreases-loop
-returns-3 c = search (rules, quoted-steps)
+returns-3 c = search (rules, quoted_steps)
 
 returns-4 : tie.Need-returns-4 invariant-loop decreases-loop
-returns-4 c = search (rules, quoted-steps)
+returns-4 c = search (rules, quoted_steps)
 
 add-i-2 : tie.Need-overflow-add-i-2 invariant-loop decreases-loop
 add-i-2 c = search rules
@@ -64,10 +64,10 @@ loop-less-2 : tie.Need-loop-smaller-2 invariant-loop decreases-loop
 loop-less-2 c = search rules
 
 loop-again-2 : tie.Need-loop-preserved-2 invariant-loop decreases-loop
-loop-again-2 c = search (rules, quoted-steps)
+loop-again-2 c = search (rules, quoted_steps)
 
 returns-5 : tie.Need-returns-5 invariant-loop decreases-loop
-returns-5 c = search (rules, quoted-steps)
+returns-5 c = search (rules, quoted_steps)
 
 pub quoted-end-spec : {M : Type 1} → statement M
 quoted-end-spec =

@@ -9,7 +9,7 @@ use Rattle.farm.specs.Limits.{slots}
 use Rattle.farm.proofs.Slots.{count_most}
 use Rattle.farm.proofs.Left.{length_mapped}
 use Rattle.file_text.specs.Files.{herd_file}
-use Rattle.file_text.proofs.HerdSteps.{rest_of, herd-begun, herd-steps}
+use Rattle.file_text.proofs.HerdSteps.{rest_of, herd-begun, herd_steps}
 use Rattle.file_text.proofs.put_herd.Statement.{statement}
 use Rattle.file_text.proofs.put_herd.Tie as tie
 
@@ -27,7 +27,7 @@ loop-holds c =
     (search rules, omega (arith, count_most herd.kind), refl, herd-begun herd)
 
 put-record-requires : tie.Need-put-record-requires invariant-loop decreases-loop
-put-record-requires c κs = search (rules, herd-steps, length_mapped)
+put-record-requires c κs = search (rules, herd_steps, length_mapped)
 
 pub put-herd-spec : {M : Type 1} → statement M
 put-herd-spec =
@@ -42,6 +42,6 @@ put-herd-spec =
     put-record-requires
     (λ c. search rules)
     (λ c. search rules)
-    (λ c. search (rules, herd-steps, length_mapped))
+    (λ c. search (rules, herd_steps, length_mapped))
     (λ c. search rules)
-    (λ c. search (rules, herd-steps)))
+    (λ c. search (rules, herd_steps)))

@@ -2,7 +2,7 @@
 use borrow.Author.Rules.{rules}
 use Rattle.words.specs.Find.{words_of, room_of}
 use Rattle.file_text.specs.Files.{input_text}
-use Rattle.file_text.proofs.Parts.{input-steps}
+use Rattle.file_text.proofs.Parts.{input_steps}
 use Rattle.file_text.proofs.put_input.Statement.{statement}
 use Rattle.file_text.proofs.put_input.Tie as tie
 
@@ -15,25 +15,25 @@ put-input-spec =
     (λ c. search rules)
     (λ c. search rules)
     (λ c. search rules)
-    (λ c κs. search (rules, input-steps))
+    (λ c κs. search (rules, input_steps))
     (λ c. search rules)
     (λ c. search rules)
     (λ c. search rules)
-    (λ c κs. search (rules, input-steps))
+    (λ c κs. search (rules, input_steps))
     (λ c. search rules)
     (λ c. search rules)
     (λ c. search rules)
-    (λ c κs. search (rules, input-steps))
+    (λ c κs. search (rules, input_steps))
     (λ c. search rules)
     (λ c. search rules)
     (λ c. search rules)
-    (λ c κs. search (rules, input-steps))
+    (λ c κs. search (rules, input_steps))
     -- what each arm returns
     (λ c. search rules)
-    (λ c. search (rules, input-steps))
+    (λ c. search (rules, input_steps))
     (λ c. search rules)
-    (λ c. search (rules, input-steps))
+    (λ c. search (rules, input_steps))
     (λ c. search rules)
-    (λ c. search (rules, input-steps))
+    (λ c. search (rules, input_steps))
     (λ c. search rules)
-    (λ c. search (rules, input-steps)))
+    (λ c. search (rules, input_steps)))

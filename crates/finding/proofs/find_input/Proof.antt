@@ -1,6 +1,6 @@
 -- `finding::find_input` meets its contract: the search by places is the search by texts. Assumes nothing.
 use borrow.Author.Rules.{rules}
-use Rattle.finding.proofs.Searches.{input-steps}
+use Rattle.finding.proofs.Searches.{input_steps}
 use Rattle.finding.proofs.find_input.Statement.{statement}
 use Rattle.finding.proofs.find_input.Tie as tie
 
@@ -11,14 +11,14 @@ find-input-spec =
     (λ c κs. search rules)
     (λ c. search rules)
     (λ c. search rules)
-    (λ c. search (rules, input-steps))
+    (λ c. search (rules, input_steps))
     (λ c κs. search rules)
     (λ c. search rules)
     (λ c. search rules)
-    (λ c. search (rules, input-steps))
+    (λ c. search (rules, input_steps))
     (λ c κs. search rules)
     (λ c. search rules)
     (λ c κs. search rules)
     (λ c. search rules)
-    (λ c. search (rules, input-steps))
-    (λ c. search (rules, input-steps)))
+    (λ c. search (rules, input_steps))
+    (λ c. search (rules, input_steps)))

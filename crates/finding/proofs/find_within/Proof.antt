@@ -6,7 +6,7 @@ use borrow.Author.Rules.{rules}
 use Rattle.words.specs.declared.Found.TheVariants.{At}
 use Rattle.finding.specs.declared.Module.TheVariants.{Of}
 use Rattle.finding.specs.Find.{find_slots, find_within}
-use Rattle.finding.proofs.Searches.{slot-steps}
+use Rattle.finding.proofs.Searches.{slot_steps}
 use Rattle.finding.proofs.find_within.Statement.{statement}
 use Rattle.finding.proofs.find_within.Tie as tie
 
@@ -29,8 +29,8 @@ find-within-spec =
     decreases-loop
     loop-holds
     (λ c κs. search rules)
-    (λ c. search (rules, slot-steps))
+    (λ c. search (rules, slot_steps))
     (λ c. search rules)
     (λ c. search rules)
-    (λ c. search (rules, slot-steps))
-    (λ c. search (rules, slot-steps)))
+    (λ c. search (rules, slot_steps))
+    (λ c. search (rules, slot_steps)))

@@ -1,6 +1,6 @@
 -- Each case is the definition's. Assumes nothing.
 use borrow.Author.Rules.{rules}
-use Rattle.fits.proofs.SlotSteps.{fit-steps}
+use Rattle.fits.proofs.SlotSteps.{fit_steps}
 use Rattle.fits.proofs.fits_form.Statement.{statement}
 use Rattle.fits.proofs.fits_form.Tie as tie
 
@@ -15,7 +15,7 @@ fits-form-spec =
     (λ c κs. search rules)
     (λ c. search rules)
     (λ c κs. search rules)
-    (λ c. search (rules, fit-steps))
-    (λ c. search (rules, fit-steps))
-    (λ c. search (rules, fit-steps))
-    (λ c. search (rules, fit-steps)))
+    (λ c. search (rules, fit_steps))
+    (λ c. search (rules, fit_steps))
+    (λ c. search (rules, fit_steps))
+    (λ c. search (rules, fit_steps)))

@@ -9,7 +9,7 @@ use Rattle.farm.specs.Limits.{slots}
 use Rattle.farm.proofs.Slots.{count_most}
 use Rattle.fits.specs.Fits.{unfit_one, unfit}
 use Rattle.farm.proofs.Left.{length_mapped}
-use Rattle.fits.proofs.SlotSteps.{unfit-steps}
+use Rattle.fits.proofs.SlotSteps.{unfit_steps}
 use Rattle.fits.proofs.has_unfit.Statement.{statement}
 use Rattle.fits.proofs.has_unfit.Tie as tie
 
@@ -37,8 +37,8 @@ has-unfit-spec =
     (λ c. search rules)
     (λ c κs. search rules)
     (λ c κs. search rules)
-    (λ c. search (rules, unfit-steps, length_mapped))
+    (λ c. search (rules, unfit_steps, length_mapped))
     (λ c. search rules)
     (λ c. search rules)
-    (λ c. search (rules, unfit-steps, length_mapped))
-    (λ c. search (rules, unfit-steps)))
+    (λ c. search (rules, unfit_steps, length_mapped))
+    (λ c. search (rules, unfit_steps)))

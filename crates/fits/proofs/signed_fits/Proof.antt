@@ -1,6 +1,6 @@
 -- `fits::signed_fits` meets its contract: each form's test is the definition's. Assumes nothing.
 use borrow.Author.Rules.{rules}
-use Rattle.fits.proofs.SlotSteps.{fit-steps}
+use Rattle.fits.proofs.SlotSteps.{fit_steps}
 use Rattle.fits.proofs.signed_fits.Statement.{statement}
 use Rattle.fits.proofs.signed_fits.Tie as tie
 
@@ -17,7 +17,7 @@ enum-known-form : tie.Need-enum-known-form
 enum-known-form c = search rules
 
 cast-magnitude : tie.Need-overflow-cast-magnitude
-cast-magnitude c = search (rules, fit-steps)
+cast-magnitude c = search (rules, fit_steps)
 
 magnitude-requires : tie.Need-magnitude-requires
 magnitude-requires c κs = search rules
@@ -38,7 +38,7 @@ returns-3 : tie.Need-returns-3
 returns-3 c = search rules
 
 returns-4 : tie.Need-returns-4
-returns-4 c = search (rules, fit-steps)
+returns-4 c = search (rules, fit_steps)
 
 returns-5 : tie.Need-returns-5
 returns-5 c = search rules

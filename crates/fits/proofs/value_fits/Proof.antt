@@ -1,6 +1,6 @@
 -- Each form's test is the definition's. Assumes nothing.
 use borrow.Author.Rules.{rules}
-use Rattle.fits.proofs.SlotSteps.{fit-steps}
+use Rattle.fits.proofs.SlotSteps.{fit_steps}
 use Rattle.fits.proofs.value_fits.Statement.{statement}
 use Rattle.fits.proofs.value_fits.Tie as tie
 
@@ -14,8 +14,8 @@ value-fits-spec =
     (λ c. search rules)
     (λ c. search rules)
     (λ c κs. search rules)
-    (λ c. search (rules, fit-steps))
-    (λ c. search (rules, fit-steps))
-    (λ c. search (rules, fit-steps))
-    (λ c. search (rules, fit-steps))
-    (λ c. search (rules, fit-steps)))
+    (λ c. search (rules, fit_steps))
+    (λ c. search (rules, fit_steps))
+    (λ c. search (rules, fit_steps))
+    (λ c. search (rules, fit_steps))
+    (λ c. search (rules, fit_steps)))

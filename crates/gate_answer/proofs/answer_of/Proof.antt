@@ -1,5 +1,5 @@
 -- `gate_answer::answer_of` meets its contract. Assumes nothing.
-use Rattle.gate_answer.proofs.LineSteps.{line-steps}
+use Rattle.gate_answer.proofs.LineSteps.{line_steps}
 use borrow.Author.Rules.{rules}
 use Rattle.gate_answer.proofs.answer_of.Statement.{statement}
 use Rattle.gate_answer.proofs.answer_of.Tie as tie
@@ -11,4 +11,4 @@ answer-of-spec =
     (λ c κs. search rules)
     (λ c. search rules)
     (λ c κs. search rules)
-    (λ c. search (rules, line-steps)))
+    (λ c. search (rules, line_steps)))

@@ -1,5 +1,5 @@
 -- `gate_answer::put_lines` meets its contract. Assumes nothing.
-use Rattle.gate_answer.proofs.LineSteps.{line-steps}
+use Rattle.gate_answer.proofs.LineSteps.{line_steps}
 use borrow.Author.Rules.{rules}
 use Rattle.gate_answer.proofs.put_lines.Statement.{statement}
 use Rattle.gate_answer.proofs.put_lines.Tie as tie
@@ -14,6 +14,6 @@ put-lines-spec =
     (λ c κs. search rules)
     (λ c κs. search rules)
     (λ c. search rules)
-    (λ c. search (rules, line-steps))
+    (λ c. search (rules, line_steps))
     (λ c. search rules)
-    (λ c. search (rules, line-steps)))
+    (λ c. search (rules, line_steps)))

@@ -1,7 +1,7 @@
 -- `grazer_sections::outdoor_from` meets its contract, section by section: what goes onto yard and pasture is no more
 -- than what is excreted. Assumes nothing.
 use borrow.Author.Rules.{rules}
-use Rattle.herd.proofs.Herds.{outdoor-steps}
+use Rattle.herd.proofs.Herds.{outdoor_steps}
 use Rattle.grazer_sections.proofs.outdoor_from.Statement.{statement}
 use Rattle.grazer_sections.proofs.outdoor_from.Tie as tie
 
@@ -15,19 +15,19 @@ outdoor-grazing-requires : tie.Need-outdoor-grazing-requires
 outdoor-grazing-requires c κs = search rules
 
 sub-n-in : tie.Need-overflow-sub-n-in
-sub-n-in c = search (rules, outdoor-steps)
+sub-n-in c = search (rules, outdoor_steps)
 
 sub-n-in-2 : tie.Need-overflow-sub-n-in-2
-sub-n-in-2 c = search (rules, outdoor-steps)
+sub-n-in-2 c = search (rules, outdoor_steps)
 
 sub-tan-in : tie.Need-overflow-sub-tan-in
-sub-tan-in c = search (rules, outdoor-steps)
+sub-tan-in c = search (rules, outdoor_steps)
 
 sub-tan-in-2 : tie.Need-overflow-sub-tan-in-2
 sub-tan-in-2 c =
     let g = c.before.before.before.before.before.before in
     let y = g.before in
-    search (rules, outdoor-steps, y.on-yard.ensures, g.outdoor-grazing.ensures, y.before.before.requires)
+    search (rules, outdoor_steps, y.on-yard.ensures, g.outdoor-grazing.ensures, y.before.before.requires)
 
 through-door-requires : tie.Need-through-door-requires
 through-door-requires c κs = search rules
@@ -42,7 +42,7 @@ returns c =
     let y = g.before in
     search (
       rules,
-      outdoor-steps,
+      outdoor_steps,
       y.before.excreted.ensures,
       y.on-yard.ensures,
       g.outdoor-grazing.ensures,

@@ -1,7 +1,7 @@
 -- `grazer_sections::roughage_sections` meets its contract: what is entered, or the standard, is within its range.
 -- Assumes nothing.
 use borrow.Author.Rules.{rules}
-use Rattle.herd.proofs.Herds.{roughage-steps}
+use Rattle.herd.proofs.Herds.{roughage_steps}
 use Rattle.grazer_sections.proofs.roughage_sections.Statement.{statement}
 use Rattle.grazer_sections.proofs.roughage_sections.Tie as tie
 
@@ -12,13 +12,13 @@ tan-fraction-requires : tie.Need-tan-fraction-requires
 tan-fraction-requires c κs = search rules
 
 n-excretion-requires : tie.Need-n-excretion-requires
-n-excretion-requires c κs = search (rules, roughage-steps)
+n-excretion-requires c κs = search (rules, roughage_steps)
 
 roughage-from-requires : tie.Need-roughage-from-requires
-roughage-from-requires c κs = search (rules, roughage-steps)
+roughage-from-requires c κs = search (rules, roughage_steps)
 
 returns : tie.Need-returns
-returns c = search (rules, roughage-steps)
+returns c = search (rules, roughage_steps)
 
 pub roughage-sections-spec : {M : Type 1} → statement M
 roughage-sections-spec =

@@ -1,6 +1,6 @@
 -- `herd_calls::totals_by_value` meets its contract: what the record's checks refuse, then what the writer says.
 -- Assumes nothing.
-use Rattle.contracts.proofs.RecordSteps.{totals-steps}
+use Rattle.contracts.proofs.RecordSteps.{totals_steps}
 use borrow.Author.Rules.{rules}
 use Rattle.herd_calls.proofs.totals_by_value.Statement.{statement}
 use Rattle.herd_calls.proofs.totals_by_value.Tie as tie
@@ -12,7 +12,7 @@ enum_told : tie.Need-enum-told
 enum_told c = search rules
 
 write-totals-requires : tie.Need-write-totals-requires
-write-totals-requires c κs = search (rules, totals-steps)
+write-totals-requires c κs = search (rules, totals_steps)
 
 enum-known-checked : tie.Need-enum-known-checked
 enum-known-checked c = search rules
@@ -21,10 +21,10 @@ same_length : tie.Need-same-length
 same_length c = search rules
 
 returns : tie.Need-returns
-returns c = search (rules, totals-steps)
+returns c = search (rules, totals_steps)
 
 returns-2 : tie.Need-returns-2
-returns-2 c = search (rules, totals-steps)
+returns-2 c = search (rules, totals_steps)
 
 pub totals-by-value-spec : {M : Type 1} → statement M
 totals-by-value-spec =

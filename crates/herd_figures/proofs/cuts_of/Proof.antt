@@ -1,7 +1,7 @@
 -- `herd_figures::cuts_of` meets its contract, by the kind: the quotients of a herd's sections are its cuts. Assumes
 -- nothing.
 use borrow.Author.Rules.{rules}
-use Rattle.kinds.proofs.OfKind.{of-kind}
+use Rattle.kinds.proofs.OfKind.{of_kind}
 use Rattle.cuts.proofs.Agree.{cuts_are}
 use Rattle.herd_figures.proofs.cuts_of.Statement.{statement}
 use Rattle.herd_figures.proofs.cuts_of.Tie as tie
@@ -10,7 +10,7 @@ enum-known-inputs : tie.Need-enum-known-inputs
 enum-known-inputs c = search rules
 
 roughage-sections-requires : tie.Need-roughage-sections-requires
-roughage-sections-requires c κs = search (rules, of-kind)
+roughage-sections-requires c κs = search (rules, of_kind)
 
 by-number-requires : tie.Need-by-number-requires
 by-number-requires c κs = search rules
@@ -19,7 +19,7 @@ enum-known-inputs-2 : tie.Need-enum-known-inputs-2
 enum-known-inputs-2 c = search rules
 
 cattle-sections-requires : tie.Need-cattle-sections-requires
-cattle-sections-requires c κs = search (rules, of-kind)
+cattle-sections-requires c κs = search (rules, of_kind)
 
 by-number-requires-2 : tie.Need-by-number-requires-2
 by-number-requires-2 c κs = search rules
@@ -28,7 +28,7 @@ enum-known-inputs-3 : tie.Need-enum-known-inputs-3
 enum-known-inputs-3 c = search rules
 
 pigs-sections-requires : tie.Need-pigs-sections-requires
-pigs-sections-requires c κs = search (rules, of-kind)
+pigs-sections-requires c κs = search (rules, of_kind)
 
 by-number-requires-3 : tie.Need-by-number-requires-3
 by-number-requires-3 c κs = search rules

@@ -1,8 +1,8 @@
 -- `herd_figures::figures` meets its contract, by the kind: the grams of a herd's sections are its figures. Assumes
 -- nothing.
 use borrow.Author.Rules.{rules}
-use Rattle.kinds.proofs.OfKind.{of-kind}
-use Rattle.herd.proofs.Agree.{kind-steps}
+use Rattle.kinds.proofs.OfKind.{of_kind}
+use Rattle.herd.proofs.Agree.{kind_steps}
 use Rattle.herd_figures.proofs.figures.Statement.{statement}
 use Rattle.herd_figures.proofs.figures.Tie as tie
 
@@ -10,37 +10,37 @@ enum-known-inputs : tie.Need-enum-known-inputs
 enum-known-inputs c = search rules
 
 roughage-sections-requires : tie.Need-roughage-sections-requires
-roughage-sections-requires c κs = search (rules, of-kind)
+roughage-sections-requires c κs = search (rules, of_kind)
 
 by-number-requires : tie.Need-by-number-requires
-by-number-requires c κs = search (rules, kind-steps)
+by-number-requires c κs = search (rules, kind_steps)
 
 enum-known-inputs-2 : tie.Need-enum-known-inputs-2
 enum-known-inputs-2 c = search rules
 
 cattle-sections-requires : tie.Need-cattle-sections-requires
-cattle-sections-requires c κs = search (rules, of-kind)
+cattle-sections-requires c κs = search (rules, of_kind)
 
 by-number-requires-2 : tie.Need-by-number-requires-2
-by-number-requires-2 c κs = search (rules, kind-steps)
+by-number-requires-2 c κs = search (rules, kind_steps)
 
 enum-known-inputs-3 : tie.Need-enum-known-inputs-3
 enum-known-inputs-3 c = search rules
 
 pigs-sections-requires : tie.Need-pigs-sections-requires
-pigs-sections-requires c κs = search (rules, of-kind)
+pigs-sections-requires c κs = search (rules, of_kind)
 
 by-number-requires-3 : tie.Need-by-number-requires-3
-by-number-requires-3 c κs = search (rules, kind-steps)
+by-number-requires-3 c κs = search (rules, kind_steps)
 
 returns : tie.Need-returns
-returns c = search (rules, kind-steps)
+returns c = search (rules, kind_steps)
 
 returns-2 : tie.Need-returns-2
-returns-2 c = search (rules, kind-steps)
+returns-2 c = search (rules, kind_steps)
 
 returns-3 : tie.Need-returns-3
-returns-3 c = search (rules, kind-steps)
+returns-3 c = search (rules, kind_steps)
 
 pub figures-spec : {M : Type 1} → statement M
 figures-spec =

@@ -4,7 +4,7 @@ use mathlib.Core.Path.{◌≡◌}
 use lib.ListN.{take, drop}
 use borrow.Author.Rules.{rules}
 use Rattle.herd_tests.specs.Tests.{earlier_label}
-use Rattle.herd_tests.proofs.LabelSteps.{earlier-steps}
+use Rattle.herd_tests.proofs.LabelSteps.{earlier_steps}
 use Rattle.herd_tests.proofs.earlier_label.Statement.{statement}
 use Rattle.herd_tests.proofs.earlier_label.Tie as tie
 
@@ -25,8 +25,8 @@ earlier-label-spec =
     (λ c. search rules)
     (λ c. search rules)
     (λ c κs. search rules)
-    (λ c. search (rules, earlier-steps))
+    (λ c. search (rules, earlier_steps))
     (λ c. search rules)
     (λ c. search rules)
-    (λ c. search (rules, earlier-steps))
-    (λ c. search (rules, earlier-steps)))
+    (λ c. search (rules, earlier_steps))
+    (λ c. search (rules, earlier_steps)))

@@ -6,7 +6,7 @@ use mathlib.Core.Bool.{◌||◌}
 use lib.ListN.{take, drop}
 use borrow.Author.Rules.{rules}
 use Rattle.herd_tests.specs.Tests.{has_print}
-use Rattle.herd_tests.proofs.PrintSteps.{print-steps}
+use Rattle.herd_tests.proofs.PrintSteps.{print_steps}
 use Rattle.herd_tests.proofs.has_print.Statement.{statement}
 use Rattle.herd_tests.proofs.has_print.Tie as tie
 
@@ -28,5 +28,5 @@ has-print-spec =
     (λ c. search rules)
     (λ c. search rules)
     (λ c. search rules)
-    (λ c. search (rules, print-steps))
-    (λ c. search (rules, print-steps)))
+    (λ c. search (rules, print_steps))
+    (λ c. search (rules, print_steps)))

@@ -9,7 +9,7 @@ use Rattle.farm.specs.Limits.{slots}
 use Rattle.farm.proofs.Slots.{count_most}
 use Rattle.herd_tests.specs.Tests.{lacks_one, lacks}
 use Rattle.farm.proofs.Left.{length_mapped}
-use Rattle.herd_tests.proofs.SlotSteps.{lacks-steps}
+use Rattle.herd_tests.proofs.SlotSteps.{lacks_steps}
 use Rattle.herd_tests.proofs.lacks_input.Statement.{statement}
 use Rattle.herd_tests.proofs.lacks_input.Tie as tie
 
@@ -35,8 +35,8 @@ lacks-input-spec =
     (λ c. search rules)
     (λ c. search rules)
     (λ c κs. search rules)
-    (λ c. search (rules, lacks-steps, length_mapped))
+    (λ c. search (rules, lacks_steps, length_mapped))
     (λ c. search rules)
     (λ c. search rules)
-    (λ c. search (rules, lacks-steps, length_mapped))
-    (λ c. search (rules, lacks-steps)))
+    (λ c. search (rules, lacks_steps, length_mapped))
+    (λ c. search (rules, lacks_steps)))

@@ -1,5 +1,5 @@
 -- `hints::farm_reach` meets its contract: by what reading the farm said. Assumes nothing.
-use Rattle.hints.proofs.Steps.{reach-steps}
+use Rattle.hints.proofs.Steps.{reach_steps}
 use borrow.Author.Rules.{rules}
 use Rattle.hints.proofs.farm_reach.Statement.{statement}
 use Rattle.hints.proofs.farm_reach.Tie as tie
@@ -20,10 +20,10 @@ reach-of-requires : tie.Need-reach-of-requires
 reach-of-requires c κs = search rules
 
 returns : tie.Need-returns
-returns c = search (rules, reach-steps)
+returns c = search (rules, reach_steps)
 
 returns-2 : tie.Need-returns-2
-returns-2 c = search (rules, reach-steps)
+returns-2 c = search (rules, reach_steps)
 
 pub farm-reach-spec : {M : Type 1} → statement M
 farm-reach-spec =

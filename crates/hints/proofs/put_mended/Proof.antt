@@ -1,6 +1,6 @@
 -- `hints::put_mended` meets its contract: the text behind the mark, if there is one, is the mended file, and twice the
 -- file's length is room for it. Assumes nothing.
-use Rattle.hints.proofs.Rooms.{text-steps}
+use Rattle.hints.proofs.Rooms.{text_steps}
 use borrow.Author.Rules.{rules}
 use Rattle.hints.proofs.put_mended.Statement.{statement}
 use Rattle.hints.proofs.put_mended.Tie as tie
@@ -12,13 +12,13 @@ text-start-requires : tie.Need-text-start-requires
 text-start-requires c κs = search rules
 
 put-text-requires : tie.Need-put-text-requires
-put-text-requires c κs = search (rules, text-steps)
+put-text-requires c κs = search (rules, text_steps)
 
 same_length : tie.Need-same-length
 same_length c = search rules
 
 returns : tie.Need-returns
-returns c = search (rules, text-steps)
+returns c = search (rules, text_steps)
 
 pub put-mended-spec : {M : Type 1} → statement M
 put-mended-spec =

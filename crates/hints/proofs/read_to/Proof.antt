@@ -1,5 +1,5 @@
 -- `hints::read_to` meets its contract: by what the file is read as. Assumes nothing.
-use Rattle.hints.proofs.Steps.{reach-steps}
+use Rattle.hints.proofs.Steps.{reach_steps}
 use borrow.Author.Rules.{rules}
 use Rattle.hints.proofs.read_to.Statement.{statement}
 use Rattle.hints.proofs.read_to.Tie as tie
@@ -17,10 +17,10 @@ log-reach-requires : tie.Need-log-reach-requires
 log-reach-requires c κs = search rules
 
 returns : tie.Need-returns
-returns c = search (rules, reach-steps)
+returns c = search (rules, reach_steps)
 
 returns-2 : tie.Need-returns-2
-returns-2 c = search (rules, reach-steps)
+returns-2 c = search (rules, reach_steps)
 
 pub read-to-spec : {M : Type 1} → statement M
 read-to-spec =

@@ -3,7 +3,7 @@ use borrow.Author.Rules.{rules}
 use native.Mathlib.Omega.{arith}
 use Rattle.cut_division.proofs.Products.{mul-fits}
 use Rattle.amounts.specs.Units.{year, day}
-use Rattle.housing.proofs.InHousing.{growth-steps}
+use Rattle.housing.proofs.InHousing.{growth_steps}
 use Rattle.housing.proofs.c_grazing.Statement.{statement}
 use Rattle.housing.proofs.c_grazing.Tie as tie
 
@@ -29,10 +29,10 @@ k-requires : tie.Need-k-requires
 k-requires c κs = search rules
 
 mul-grazing-days-2 : tie.Need-overflow-mul-grazing-days-2
-mul-grazing-days-2 c = search (rules, growth-steps)
+mul-grazing-days-2 c = search (rules, growth_steps)
 
 add-cut : tie.Need-overflow-add-cut
-add-cut c = search (rules, growth-steps)
+add-cut c = search (rules, growth_steps)
 
 mul-cut : tie.Need-overflow-mul-cut
 mul-cut c = search rules
@@ -44,13 +44,13 @@ cut-requires : tie.Need-cut-requires
 cut-requires c κs = search rules
 
 returns : tie.Need-returns
-returns c = search (rules, growth-steps)
+returns c = search (rules, growth_steps)
 
 undivided-requires : tie.Need-undivided-requires
 undivided-requires c κs = search rules
 
 returns-2 : tie.Need-returns-2
-returns-2 c = search (rules, growth-steps)
+returns-2 c = search (rules, growth_steps)
 
 pub c-grazing-spec : {M : Type 1} → statement M
 c-grazing-spec =

@@ -1,5 +1,5 @@
 -- `lines_above::put_answer` meets its contract, by the answer. Assumes nothing.
-use Rattle.lines_above.proofs.Steps.{line-steps}
+use Rattle.lines_above.proofs.Steps.{line_steps}
 use borrow.Author.Rules.{rules}
 use Rattle.lines_above.proofs.put_answer.Statement.{statement}
 use Rattle.lines_above.proofs.put_answer.Tie as tie
@@ -20,13 +20,13 @@ same_length : tie.Need-same-length
 same_length c = search rules
 
 returns : tie.Need-returns
-returns c = search (rules, line-steps)
+returns c = search (rules, line_steps)
 
 same-length-2 : tie.Need-same-length-2
 same-length-2 c = search rules
 
 returns-2 : tie.Need-returns-2
-returns-2 c = search (rules, line-steps)
+returns-2 c = search (rules, line_steps)
 
 pub put-answer-spec : {M : Type 1} → statement M
 put-answer-spec =

@@ -5,7 +5,7 @@ use mathlib.Core.Path.{◌≡◌}
 use lib.ListN.{length}
 use Rattle.farm.specs.Limits.{herds_most}
 use Rattle.farm.proofs.Left.{length_mapped}
-use Rattle.lines_figures.proofs.FarmSteps.{Listing, has_room, asks, ends, farm-steps}
+use Rattle.lines_figures.proofs.FarmSteps.{Listing, has_room, asks, ends, farm_steps}
 use borrow.Author.Rules.{rules}
 use Rattle.lines_figures.proofs.put_farm.Statement.{statement}
 use Rattle.lines_figures.proofs.put_farm.Tie as tie
@@ -24,7 +24,7 @@ no-figures-requires : tie.Need-no-figures-requires invariant-loop decreases-loop
 no-figures-requires c κs = search rules
 
 loop-holds : tie.Need-loop-init invariant-loop decreases-loop
-loop-holds c = search (rules, farm-steps, length_mapped)
+loop-holds c = search (rules, farm_steps, length_mapped)
 
 mul-h : tie.Need-overflow-mul-h invariant-loop decreases-loop
 mul-h c = search rules
@@ -36,7 +36,7 @@ typed-of-requires : tie.Need-typed-of-requires invariant-loop decreases-loop
 typed-of-requires c κs = search rules
 
 figures-requires : tie.Need-figures-requires invariant-loop decreases-loop
-figures-requires c κs = search (rules, farm-steps, length_mapped)
+figures-requires c κs = search (rules, farm_steps, length_mapped)
 
 put-herd-lines-requires : tie.Need-put-herd-lines-requires invariant-loop decreases-loop
 put-herd-lines-requires c κs =
@@ -61,16 +61,16 @@ loop-less : tie.Need-loop-smaller invariant-loop decreases-loop
 loop-less c = search rules
 
 loop-again : tie.Need-loop-preserved invariant-loop decreases-loop
-loop-again c = search (rules, farm-steps, length_mapped)
+loop-again c = search (rules, farm_steps, length_mapped)
 
 totals-from-requires : tie.Need-totals-from-requires invariant-loop decreases-loop
-totals-from-requires c κs = search (rules, farm-steps, length_mapped)
+totals-from-requires c κs = search (rules, farm_steps, length_mapped)
 
 put-total-lines-requires : tie.Need-put-total-lines-requires invariant-loop decreases-loop
-put-total-lines-requires c κs = search (rules, farm-steps, length_mapped)
+put-total-lines-requires c κs = search (rules, farm_steps, length_mapped)
 
 same_length : tie.Need-same-length invariant-loop decreases-loop
-same_length c = search (rules, farm-steps, length_mapped)
+same_length c = search (rules, farm_steps, length_mapped)
 
 returns : tie.Need-returns invariant-loop decreases-loop
 returns c =

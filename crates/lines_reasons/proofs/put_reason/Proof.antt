@@ -1,5 +1,5 @@
 -- `lines_reasons::put_reason` meets its contract: by the reason. Assumes nothing.
-use Rattle.lines_reasons.proofs.ReasonSteps.{field-steps}
+use Rattle.lines_reasons.proofs.ReasonSteps.{field_steps}
 use borrow.Author.Rules.{rules}
 use Rattle.lines_reasons.proofs.put_reason.Statement.{statement}
 use Rattle.lines_reasons.proofs.put_reason.Tie as tie
@@ -44,25 +44,25 @@ same_length : tie.Need-same-length
 same_length c = search rules
 
 returns : tie.Need-returns
-returns c = search (rules, field-steps)
+returns c = search (rules, field_steps)
 
 same-length-2 : tie.Need-same-length-2
 same-length-2 c = search rules
 
 returns-2 : tie.Need-returns-2
-returns-2 c = search (rules, field-steps)
+returns-2 c = search (rules, field_steps)
 
 same-length-3 : tie.Need-same-length-3
 same-length-3 c = search rules
 
 returns-3 : tie.Need-returns-3
-returns-3 c = search (rules, field-steps)
+returns-3 c = search (rules, field_steps)
 
 same-length-4 : tie.Need-same-length-4
 same-length-4 c = search rules
 
 returns-4 : tie.Need-returns-4
-returns-4 c = search (rules, field-steps)
+returns-4 c = search (rules, field_steps)
 
 pub put-reason-spec : {M : Type 1} → statement M
 put-reason-spec =

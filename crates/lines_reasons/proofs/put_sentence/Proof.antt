@@ -1,5 +1,5 @@
 -- `lines_reasons::put_sentence` meets its contract: by its parts, one after the other. Assumes nothing.
-use Rattle.lines_reasons.proofs.LineSteps.{part-steps}
+use Rattle.lines_reasons.proofs.LineSteps.{part_steps}
 use borrow.Author.Rules.{rules}
 use Rattle.lines_reasons.proofs.put_sentence.Statement.{statement}
 use Rattle.lines_reasons.proofs.put_sentence.Tie as tie
@@ -17,7 +17,7 @@ same_length : tie.Need-same-length
 same_length c = search rules
 
 returns : tie.Need-returns
-returns c = search (rules, part-steps)
+returns c = search (rules, part_steps)
 
 pub put-sentence-spec : {M : Type 1} → statement M
 put-sentence-spec =

@@ -1,5 +1,5 @@
 -- `lines_reasons::put_told` meets its contract: by what is told. Assumes nothing.
-use Rattle.lines_reasons.proofs.LineSteps.{as-nothing, wording-steps}
+use Rattle.lines_reasons.proofs.LineSteps.{as-nothing, wording_steps}
 use borrow.Author.Rules.{rules}
 use Rattle.lines_reasons.proofs.put_told.Statement.{statement}
 use Rattle.lines_reasons.proofs.put_told.Tie as tie
@@ -17,7 +17,7 @@ same_length : tie.Need-same-length
 same_length c = search rules
 
 returns : tie.Need-returns
-returns c = search (rules, wording-steps)
+returns c = search (rules, wording_steps)
 
 returns-2 : tie.Need-returns-2
 returns-2 c = as-nothing _ _ _ _ _ c.enum_told.given.1

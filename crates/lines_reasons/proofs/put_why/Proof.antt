@@ -1,5 +1,5 @@
 -- `lines_reasons::put_why` meets its contract: by the wording. Assumes nothing.
-use Rattle.lines_reasons.proofs.LineSteps.{wording-steps}
+use Rattle.lines_reasons.proofs.LineSteps.{wording_steps}
 use borrow.Author.Rules.{rules}
 use Rattle.lines_reasons.proofs.put_why.Statement.{statement}
 use Rattle.lines_reasons.proofs.put_why.Tie as tie
@@ -20,13 +20,13 @@ same_length : tie.Need-same-length
 same_length c = search rules
 
 returns : tie.Need-returns
-returns c = search (rules, wording-steps)
+returns c = search (rules, wording_steps)
 
 same-length-2 : tie.Need-same-length-2
 same-length-2 c = search rules
 
 returns-2 : tie.Need-returns-2
-returns-2 c = search (rules, wording-steps)
+returns-2 c = search (rules, wording_steps)
 
 pub put-why-spec : {M : Type 1} → statement M
 put-why-spec =

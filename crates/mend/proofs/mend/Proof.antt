@@ -3,7 +3,7 @@
 use Prim.Native.Nat.{◌+◌, ◌-◌, ◌≤◌}
 use lib.ListN.{length}
 use Rattle.spreadsheet.proofs.Starts.{crs_few, changes-fit}
-use Rattle.mend.proofs.Rooms.{mark-fits, mend-steps}
+use Rattle.mend.proofs.Rooms.{mark-fits, mend_steps}
 use borrow.Author.Rules.{rules}
 use Rattle.mend.proofs.mend.Statement.{statement}
 use Rattle.mend.proofs.mend.Tie as tie
@@ -31,10 +31,10 @@ text-start-requires : tie.Need-text-start-requires
 text-start-requires c κs = search rules
 
 bare-count-requires : tie.Need-bare-count-requires
-bare-count-requires c κs = search (rules, mend-steps)
+bare-count-requires c κs = search (rules, mend_steps)
 
 sub-length : tie.Need-overflow-sub-length
-sub-length c = search (rules, mend-steps)
+sub-length c = search (rules, mend_steps)
 
 add-length : tie.Need-overflow-add-length
 add-length c = let h = few c in search rules
@@ -46,16 +46,16 @@ add-changes : tie.Need-overflow-add-changes
 add-changes c = let h = few c.before in search rules
 
 returns : tie.Need-returns
-returns c = search (rules, mend-steps)
+returns c = search (rules, mend_steps)
 
 mul-if2 : tie.Need-overflow-mul-if2
 mul-if2 c = let h = fit c.before in search rules
 
 returns-2 : tie.Need-returns-2
-returns-2 c = search (rules, mend-steps)
+returns-2 c = search (rules, mend_steps)
 
 put-text-requires : tie.Need-put-text-requires
-put-text-requires c κs = search (rules, mend-steps)
+put-text-requires c κs = search (rules, mend_steps)
 
 put-mark-requires : tie.Need-put-mark-requires
 put-mark-requires c κs =
@@ -68,7 +68,7 @@ put-mark-requires c κs =
     k.as-count.ensures.0 l.now e.if2.false
 
 put-changes-requires : tie.Need-put-changes-requires
-put-changes-requires c κs = search (rules, mend-steps)
+put-changes-requires c κs = search (rules, mend_steps)
 
 same_length : tie.Need-same-length
 same_length c = search rules
@@ -77,7 +77,7 @@ same-length-2 : tie.Need-same-length-2
 same-length-2 c = search rules
 
 returns-3 : tie.Need-returns-3
-returns-3 c = search (rules, mend-steps)
+returns-3 c = search (rules, mend_steps)
 
 pub mend-spec : {M : Type 1} → statement M
 mend-spec =

@@ -2,7 +2,7 @@
 use Prim.Native.Nat.{◌+◌, ◌≤◌}
 use native.Mathlib.Omega.{arith}
 use lib.ListN.{length, length-set}
-use Rattle.mend_writes.proofs.Puts.{change_fits, put-steps}
+use Rattle.mend_writes.proofs.Puts.{change_fits, put_steps}
 use borrow.Author.Rules.{rules}
 use Rattle.mend_writes.proofs.put_change.Statement.{statement}
 use Rattle.mend_writes.proofs.put_change.Tie as tie
@@ -34,10 +34,10 @@ same_length : tie.Need-same-length
 same_length c = search rules
 
 returns : tie.Need-returns
-returns c = search (rules, put-steps)
+returns c = search (rules, put_steps)
 
 returns-2 : tie.Need-returns-2
-returns-2 c = search (rules, put-steps)
+returns-2 c = search (rules, put_steps)
 
 pub put-change-spec : {M : Type 1} → statement M
 put-change-spec =

@@ -1,7 +1,7 @@
 -- `mend_writes::put_mark` meets its contract: the mark's change, or nothing. Assumes nothing.
 use Prim.Native.Nat.{◌≤◌}
 use lib.ListN.{length}
-use Rattle.mend_writes.proofs.Puts.{mark-fits, put-steps}
+use Rattle.mend_writes.proofs.Puts.{mark-fits, put_steps}
 use borrow.Author.Rules.{rules}
 use Rattle.mend_writes.proofs.put_mark.Statement.{statement}
 use Rattle.mend_writes.proofs.put_mark.Tie as tie
@@ -19,10 +19,10 @@ same_length : tie.Need-same-length
 same_length c = search rules
 
 returns : tie.Need-returns
-returns c = search (rules, put-steps)
+returns c = search (rules, put_steps)
 
 returns-2 : tie.Need-returns-2
-returns-2 c = search (rules, put-steps)
+returns-2 c = search (rules, put_steps)
 
 pub put-mark-spec : {M : Type 1} → statement M
 put-mark-spec =

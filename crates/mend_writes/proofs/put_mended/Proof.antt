@@ -2,7 +2,7 @@
 use Prim.Native.Nat.{◌+◌, ◌≤◌}
 use native.Mathlib.Omega.{arith}
 use lib.ListN.{length, length-set}
-use Rattle.mend_writes.proofs.Puts.{pair_fits, byte_fits, put-steps}
+use Rattle.mend_writes.proofs.Puts.{pair_fits, byte_fits, put_steps}
 use borrow.Author.Rules.{rules}
 use Rattle.mend_writes.proofs.put_mended.Statement.{statement}
 use Rattle.mend_writes.proofs.put_mended.Tie as tie
@@ -33,7 +33,7 @@ same_length : tie.Need-same-length
 same_length c = search rules
 
 returns : tie.Need-returns
-returns c = search (rules, put-steps)
+returns c = search (rules, put_steps)
 
 slice-write-out-3 : tie.Need-slice-write-out-3
 slice-write-out-3 c = let h = one_byte c in search rules
@@ -45,7 +45,7 @@ same-length-2 : tie.Need-same-length-2
 same-length-2 c = search rules
 
 returns-2 : tie.Need-returns-2
-returns-2 c = search (rules, put-steps)
+returns-2 c = search (rules, put_steps)
 
 pub put-mended-spec : {M : Type 1} → statement M
 put-mended-spec =

@@ -1,7 +1,7 @@
 -- `number_values::number_read` meets its contract: what the number's reading answers, said as a value. Assumes
 -- nothing.
 use borrow.Author.Rules.{rules}
-use Rattle.number_values.proofs.NumberSteps.{number-steps}
+use Rattle.number_values.proofs.NumberSteps.{number_steps}
 use Rattle.number_values.proofs.number_read.Statement.{statement}
 use Rattle.number_values.proofs.number_read.Tie as tie
 
@@ -12,5 +12,5 @@ number-read-spec =
     (λ c κs. search rules)
     (λ c. search rules)
     (λ c. search rules)
-    (λ c. search (rules, number-steps))
-    (λ c. search (rules, number-steps)))
+    (λ c. search (rules, number_steps))
+    (λ c. search (rules, number_steps)))

@@ -5,7 +5,7 @@ use mathlib.Core.Path.{◌≡◌}
 use lib.ListN.{length, drop}
 use Rattle.numbers.specs.Reading.{whole_from}
 use Rattle.digits.specs.Digits.{up_to}
-use Rattle.numbers.proofs.Steps.{whole-steps}
+use Rattle.numbers.proofs.Steps.{whole_steps}
 use borrow.Author.Rules.{rules}
 use Rattle.numbers.proofs.whole.Statement.{statement}
 use Rattle.numbers.proofs.whole.Tie as tie
@@ -30,7 +30,7 @@ point-requires : tie.Need-point-requires invariant-loop decreases-loop
 point-requires c κs = search rules
 
 returns : tie.Need-returns invariant-loop decreases-loop
-returns c = search (rules, whole-steps)
+returns c = search (rules, whole_steps)
 
 with-digit-requires : tie.Need-with-digit-requires invariant-loop decreases-loop
 with-digit-requires c κs = search rules
@@ -42,7 +42,7 @@ enum_told : tie.Need-enum-told invariant-loop decreases-loop
 enum_told c = search rules
 
 returns-2 : tie.Need-returns-2 invariant-loop decreases-loop
-returns-2 c = search (rules, whole-steps)
+returns-2 c = search (rules, whole_steps)
 
 add-i : tie.Need-overflow-add-i invariant-loop decreases-loop
 add-i c = search rules
@@ -51,13 +51,13 @@ loop-less : tie.Need-loop-smaller invariant-loop decreases-loop
 loop-less c = search rules
 
 loop-again : tie.Need-loop-preserved invariant-loop decreases-loop
-loop-again c = search (rules, whole-steps)
+loop-again c = search (rules, whole_steps)
 
 scaled-requires : tie.Need-scaled-requires invariant-loop decreases-loop
 scaled-requires c κs = search rules
 
 returns-3 : tie.Need-returns-3 invariant-loop decreases-loop
-returns-3 c = search (rules, whole-steps)
+returns-3 c = search (rules, whole_steps)
 
 pub whole-spec : {M : Type 1} → statement M
 whole-spec =

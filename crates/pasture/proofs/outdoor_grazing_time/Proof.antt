@@ -1,7 +1,7 @@
 -- `pasture::outdoor_grazing_time` meets its contract: the days with both are grazing days, and their share is below 1.
 -- Assumes nothing.
 use borrow.Author.Rules.{rules}
-use Rattle.pasture.proofs.Times.{outdoor-time-steps}
+use Rattle.pasture.proofs.Times.{outdoor_time_steps}
 use Rattle.pasture.proofs.outdoor_grazing_time.Statement.{statement}
 use Rattle.pasture.proofs.outdoor_grazing_time.Tie as tie
 
@@ -21,16 +21,16 @@ sub-result-2 : tie.Need-overflow-sub-result-2
 sub-result-2 c = search rules
 
 mul-result-2 : tie.Need-overflow-mul-result-2
-mul-result-2 c = search (rules, outdoor-time-steps)
+mul-result-2 c = search (rules, outdoor_time_steps)
 
 add-result : tie.Need-overflow-add-result
-add-result c = search (rules, outdoor-time-steps)
+add-result c = search (rules, outdoor_time_steps)
 
 mul-result-3 : tie.Need-overflow-mul-result-3
-mul-result-3 c = search outdoor-time-steps
+mul-result-3 c = search outdoor_time_steps
 
 returns : tie.Need-returns
-returns c = search (rules, outdoor-time-steps)
+returns c = search (rules, outdoor_time_steps)
 
 pub outdoor-grazing-time-spec : {M : Type 1} → statement M
 outdoor-grazing-time-spec =

@@ -1,6 +1,6 @@
 -- `pasture::pigs_grazing` meets its contract: outdoors all comes onto the pasture, else nothing. Assumes nothing.
 use borrow.Author.Rules.{rules}
-use Rattle.pasture.proofs.Into.{pigs-steps}
+use Rattle.pasture.proofs.Into.{pigs_steps}
 use Rattle.pasture.proofs.pigs_grazing.Statement.{statement}
 use Rattle.pasture.proofs.pigs_grazing.Tie as tie
 
@@ -20,10 +20,10 @@ pigs-rates-requires : tie.Need-pigs-rates-requires
 pigs-rates-requires c κs = search rules
 
 on-pasture-requires : tie.Need-on-pasture-requires
-on-pasture-requires c κs = search (rules, pigs-steps)
+on-pasture-requires c κs = search (rules, pigs_steps)
 
 returns : tie.Need-returns
-returns c = search (rules, pigs-steps)
+returns c = search (rules, pigs_steps)
 
 pub pigs-grazing-spec : {M : Type 1} → statement M
 pigs-grazing-spec =

@@ -1,7 +1,7 @@
 -- `pasture::roughage_grazing` meets its contract: the same part of the N and of the TAN comes onto the pasture.
 -- Assumes nothing.
 use borrow.Author.Rules.{rules}
-use Rattle.pasture.proofs.Into.{roughage-steps}
+use Rattle.pasture.proofs.Into.{roughage_steps}
 use Rattle.pasture.proofs.roughage_grazing.Statement.{statement}
 use Rattle.pasture.proofs.roughage_grazing.Tie as tie
 
@@ -15,7 +15,7 @@ on-pasture-requires : tie.Need-on-pasture-requires
 on-pasture-requires c κs = search rules
 
 returns : tie.Need-returns
-returns c = search (rules, roughage-steps)
+returns c = search (rules, roughage_steps)
 
 pub roughage-grazing-spec : {M : Type 1} → statement M
 roughage-grazing-spec =

@@ -1,7 +1,7 @@
 -- `pig_sections::pigs_from` meets its contract, section by section: all that is excreted indoors goes into the house.
 -- Assumes nothing.
 use borrow.Author.Rules.{rules}
-use Rattle.herd.proofs.Herds.{pigs-from-steps}
+use Rattle.herd.proofs.Herds.{pigs_from_steps}
 use Rattle.pig_sections.proofs.pigs_from.Statement.{statement}
 use Rattle.pig_sections.proofs.pigs_from.Tie as tie
 
@@ -12,13 +12,13 @@ pigs-grazing-requires : tie.Need-pigs-grazing-requires
 pigs-grazing-requires c κs = search rules
 
 sub-n-in : tie.Need-overflow-sub-n-in
-sub-n-in c = search (rules, pigs-from-steps)
+sub-n-in c = search (rules, pigs_from_steps)
 
 sub-tan-in : tie.Need-overflow-sub-tan-in
-sub-tan-in c = search (rules, pigs-from-steps)
+sub-tan-in c = search (rules, pigs_from_steps)
 
 in-pig-house-requires : tie.Need-in-pig-house-requires
-in-pig-house-requires c κs = search (rules, pigs-from-steps)
+in-pig-house-requires c κs = search (rules, pigs_from_steps)
 
 no-yard-requires : tie.Need-no-yard-requires
 no-yard-requires c κs = search rules
@@ -32,7 +32,7 @@ grazed c = (housed c).before.before.before.before.before
 
 nx-ox-requires : tie.Need-nx-ox-requires
 nx-ox-requires c κs =
-    let g = grazed c in search (rules, pigs-from-steps, g.before.excreted.ensures, g.pigs-grazing.ensures)
+    let g = grazed c in search (rules, pigs_from_steps, g.before.excreted.ensures, g.pigs-grazing.ensures)
 
 returns : tie.Need-returns
 returns c =
@@ -40,7 +40,7 @@ returns c =
     let g = grazed y in
     search (
       rules,
-      pigs-from-steps,
+      pigs_from_steps,
       g.before.excreted.ensures,
       g.pigs-grazing.ensures,
       (housed y).in-pig-house.ensures,

@@ -2,7 +2,7 @@
 -- may be asked. Assumes nothing.
 use borrow.Author.Rules.{rules}
 use Rattle.records.proofs.RecordReads.{entry-gives-slot}
-use Rattle.places.proofs.PlaceSteps.{place-steps}
+use Rattle.places.proofs.PlaceSteps.{place_steps}
 use Rattle.places.proofs.read_at.Statement.{statement}
 use Rattle.places.proofs.read_at.Tie as tie
 
@@ -16,6 +16,6 @@ read-at-spec =
     (λ c. search rules)
     (λ c κs. search rules)
     (λ c κs. search (rules, entry-gives-slot))
-    (λ c. search (rules, place-steps))
-    (λ c. search (rules, place-steps))
-    (λ c. search (rules, place-steps)))
+    (λ c. search (rules, place_steps))
+    (λ c. search (rules, place_steps))
+    (λ c. search (rules, place_steps)))

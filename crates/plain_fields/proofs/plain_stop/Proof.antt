@@ -5,7 +5,7 @@ use mathlib.Core.Logic.{⊎_elim}
 use mathlib.Core.Path.{◌≡◌}
 use lib.ListN.{length, drop}
 use Rattle.plain_fields.specs.Places.{plain_stop}
-use Rattle.plain_fields.proofs.Scans.{stop-steps}
+use Rattle.plain_fields.proofs.Scans.{stop_steps}
 use borrow.Author.Rules.{rules}
 use Rattle.plain_fields.proofs.plain_stop.Statement.{statement}
 use Rattle.plain_fields.proofs.plain_stop.Tie as tie
@@ -26,7 +26,7 @@ ends-plain-requires : tie.Need-ends-plain-requires invariant-loop decreases-loop
 ends-plain-requires c κs = search rules
 
 returns : tie.Need-returns invariant-loop decreases-loop
-returns c = search (rules, stop-steps)
+returns c = search (rules, stop_steps)
 
 add-i : tie.Need-overflow-add-i invariant-loop decreases-loop
 add-i c = search rules
@@ -35,10 +35,10 @@ loop-less : tie.Need-loop-smaller invariant-loop decreases-loop
 loop-less c = search rules
 
 loop-again : tie.Need-loop-preserved invariant-loop decreases-loop
-loop-again c = ⊎_elim (λ w. search stop-steps) (λ w. search stop-steps) c.if1.branch
+loop-again c = ⊎_elim (λ w. search stop_steps) (λ w. search stop_steps) c.if1.branch
 
 returns-2 : tie.Need-returns-2 invariant-loop decreases-loop
-returns-2 c = search (rules, stop-steps)
+returns-2 c = search (rules, stop_steps)
 
 pub plain-stop-spec : {M : Type 1} → statement M
 plain-stop-spec =

@@ -4,7 +4,7 @@ use mathlib.Core.Path.{◌≡◌}
 use lib.ListN.{length, drop}
 use Rattle.shown_bytes.specs.Shown.{worse}
 use Rattle.quoting.specs.Quoted.{form_from}
-use Rattle.quoting.proofs.Steps.{form-steps}
+use Rattle.quoting.proofs.Steps.{form_steps}
 use borrow.Author.Rules.{rules}
 use Rattle.quoting.proofs.form_of.Statement.{statement}
 use Rattle.quoting.proofs.form_of.Tie as tie
@@ -16,10 +16,10 @@ abbrev decreases-loop : tie.decreases-loop
 decreases-loop s form₀ i₀ form i = length s - i
 
 returns : tie.Need-returns invariant-loop decreases-loop
-returns c = search (rules, form-steps)
+returns c = search (rules, form_steps)
 
 loop-holds : tie.Need-loop-init invariant-loop decreases-loop
-loop-holds c = search (rules, form-steps)
+loop-holds c = search (rules, form_steps)
 
 form-at-requires : tie.Need-form-at-requires invariant-loop decreases-loop
 form-at-requires c κs = search rules
@@ -37,10 +37,10 @@ loop-less : tie.Need-loop-smaller invariant-loop decreases-loop
 loop-less c = search rules
 
 loop-again : tie.Need-loop-preserved invariant-loop decreases-loop
-loop-again c = search (rules, form-steps)
+loop-again c = search (rules, form_steps)
 
 returns-2 : tie.Need-returns-2 invariant-loop decreases-loop
-returns-2 c = search (rules, form-steps)
+returns-2 c = search (rules, form_steps)
 
 pub form-of-spec : {M : Type 1} → statement M
 form-of-spec =

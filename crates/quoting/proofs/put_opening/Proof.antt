@@ -1,6 +1,6 @@
 -- `quoting::put_opening` meets its contract: by the form. Assumes nothing.
 use native.Mathlib.Omega.{arith}
-use Rattle.quoting.proofs.Steps.{no-opening, quote-steps}
+use Rattle.quoting.proofs.Steps.{no-opening, quote_steps}
 use borrow.Author.Rules.{rules}
 use Rattle.quoting.proofs.put_opening.Statement.{statement}
 use Rattle.quoting.proofs.put_opening.Tie as tie
@@ -33,13 +33,13 @@ same_length : tie.Need-same-length
 same_length c = search rules
 
 returns-2 : tie.Need-returns-2
-returns-2 c = search (rules, quote-steps)
+returns-2 c = search (rules, quote_steps)
 
 same-length-2 : tie.Need-same-length-2
 same-length-2 c = search rules
 
 returns-3 : tie.Need-returns-3
-returns-3 c = search (rules, quote-steps)
+returns-3 c = search (rules, quote_steps)
 
 pub put-opening-spec : {M : Type 1} → statement M
 put-opening-spec =

@@ -1,7 +1,7 @@
 -- `quoting::put_units` meets its contract: what is still to be shown is the name from i on. Assumes nothing.
 use Prim.Native.Nat.{◌-◌}
 use lib.ListN.{length}
-use Rattle.quoting.proofs.Steps.{Putting, put-steps}
+use Rattle.quoting.proofs.Steps.{Putting, put_steps}
 use borrow.Author.Rules.{rules}
 use Rattle.quoting.proofs.put_units.Statement.{statement}
 use Rattle.quoting.proofs.put_units.Tie as tie
@@ -13,10 +13,10 @@ abbrev decreases-loop : tie.decreases-loop
 decreases-loop out₀ at form s o₀ i₀ out o i = length s - i
 
 loop-holds : tie.Need-loop-init invariant-loop decreases-loop
-loop-holds c = search (rules, put-steps)
+loop-holds c = search (rules, put_steps)
 
 put-unit-requires : tie.Need-put-unit-requires invariant-loop decreases-loop
-put-unit-requires c κs = search (rules, put-steps)
+put-unit-requires c κs = search (rules, put_steps)
 
 unit-at-requires : tie.Need-unit-at-requires invariant-loop decreases-loop
 unit-at-requires c κs = search rules
@@ -28,13 +28,13 @@ loop-less : tie.Need-loop-smaller invariant-loop decreases-loop
 loop-less c = search rules
 
 loop-again : tie.Need-loop-preserved invariant-loop decreases-loop
-loop-again c = search (rules, put-steps)
+loop-again c = search (rules, put_steps)
 
 same_length : tie.Need-same-length invariant-loop decreases-loop
-same_length c = search (rules, put-steps)
+same_length c = search (rules, put_steps)
 
 returns : tie.Need-returns invariant-loop decreases-loop
-returns c = search (rules, put-steps)
+returns c = search (rules, put_steps)
 
 pub put-units-spec : {M : Type 1} → statement M
 put-units-spec =

@@ -1,5 +1,5 @@
 -- `reach::is_further` meets its contract: by how far reading came first. Assumes nothing.
-use Rattle.reach.proofs.Steps.{further-steps}
+use Rattle.reach.proofs.Steps.{further_steps}
 use borrow.Author.Rules.{rules}
 use Rattle.reach.proofs.is_further.Statement.{statement}
 use Rattle.reach.proofs.is_further.Tie as tie
@@ -23,16 +23,16 @@ enum-told-3 : tie.Need-enum-told-3
 enum-told-3 c = search rules
 
 returns : tie.Need-returns
-returns c = search (rules, further-steps)
+returns c = search (rules, further_steps)
 
 returns-2 : tie.Need-returns-2
-returns-2 c = search (rules, further-steps)
+returns-2 c = search (rules, further_steps)
 
 returns-3 : tie.Need-returns-3
-returns-3 c = search (rules, further-steps)
+returns-3 c = search (rules, further_steps)
 
 returns-4 : tie.Need-returns-4
-returns-4 c = search (rules, further-steps)
+returns-4 c = search (rules, further_steps)
 
 pub is-further-spec : {M : Type 1} → statement M
 is-further-spec =

@@ -4,7 +4,7 @@ use Prim.Native.Nat.{◌≤◌}
 use mathlib.Core.Path.{◌≡◌}
 use borrow.Author.Rules.{rules}
 use Rattle.shortest_numbers.specs.Shortest.{shortest}
-use Rattle.shortest_numbers.proofs.Steps.{zero-steps}
+use Rattle.shortest_numbers.proofs.Steps.{zero_steps}
 use Rattle.shortest_numbers.proofs.put_shortest.Statement.{statement}
 use Rattle.shortest_numbers.proofs.put_shortest.Tie as tie
 
@@ -21,13 +21,13 @@ put-shortest-spec =
     invariant-loop
     decreases-loop
     (λ c. search rules)
-    (λ c κs. search (rules, zero-steps))
+    (λ c κs. search (rules, zero_steps))
     (λ c. search rules)
-    (λ c. search (rules, zero-steps))
+    (λ c. search (rules, zero_steps))
     (λ c. search rules)
     (λ c. search rules)
-    (λ c. search (rules, zero-steps))
+    (λ c. search (rules, zero_steps))
     (λ c. search rules)
-    (λ c κs. search (rules, zero-steps))
+    (λ c κs. search (rules, zero_steps))
     (λ c. search rules)
-    (λ c. search (rules, zero-steps)))
+    (λ c. search (rules, zero_steps)))

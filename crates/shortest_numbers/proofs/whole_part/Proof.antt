@@ -3,7 +3,7 @@
 use Prim.Native.Nat.{◌/◌, ◌^◌}
 use mathlib.Core.Path.{◌≡◌}
 use borrow.Author.Rules.{rules}
-use Rattle.shortest_numbers.proofs.Steps.{part-steps}
+use Rattle.shortest_numbers.proofs.Steps.{part_steps}
 use Rattle.shortest_numbers.proofs.whole_part.Statement.{statement}
 use Rattle.shortest_numbers.proofs.whole_part.Tie as tie
 
@@ -22,5 +22,5 @@ whole-part-spec =
     (λ c. search rules)
     (λ c. search rules)
     (λ c. search rules)
-    (λ c. search (rules, part-steps))
-    (λ c. search (rules, part-steps)))
+    (λ c. search (rules, part_steps))
+    (λ c. search (rules, part_steps)))

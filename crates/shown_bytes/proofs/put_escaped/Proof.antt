@@ -1,5 +1,5 @@
 -- `shown_bytes::put_escaped` meets its contract: as it is, or in octal digits. Assumes nothing.
-use Rattle.shown_bytes.proofs.Steps.{byte-steps}
+use Rattle.shown_bytes.proofs.Steps.{byte_steps}
 use borrow.Author.Rules.{rules}
 use Rattle.shown_bytes.proofs.put_escaped.Statement.{statement}
 use Rattle.shown_bytes.proofs.put_escaped.Tie as tie
@@ -14,7 +14,7 @@ same_length : tie.Need-same-length
 same_length c = search rules
 
 returns : tie.Need-returns
-returns c = search (rules, byte-steps)
+returns c = search (rules, byte_steps)
 
 put-octal-requires : tie.Need-put-octal-requires
 put-octal-requires c κs = search rules
@@ -23,7 +23,7 @@ same-length-2 : tie.Need-same-length-2
 same-length-2 c = search rules
 
 returns-2 : tie.Need-returns-2
-returns-2 c = search (rules, byte-steps)
+returns-2 c = search (rules, byte_steps)
 
 pub put-escaped-spec : {M : Type 1} → statement M
 put-escaped-spec =

@@ -1,5 +1,5 @@
 -- `shown_bytes::put_in_quotes` meets its contract: a quote, or any other byte. Assumes nothing.
-use Rattle.shown_bytes.proofs.Steps.{byte-steps}
+use Rattle.shown_bytes.proofs.Steps.{byte_steps}
 use borrow.Author.Rules.{rules}
 use Rattle.shown_bytes.proofs.put_in_quotes.Statement.{statement}
 use Rattle.shown_bytes.proofs.put_in_quotes.Tie as tie
@@ -14,7 +14,7 @@ same_length : tie.Need-same-length
 same_length c = search rules
 
 returns : tie.Need-returns
-returns c = search (rules, byte-steps)
+returns c = search (rules, byte_steps)
 
 put-byte-requires : tie.Need-put-byte-requires
 put-byte-requires c κs = search rules
@@ -23,7 +23,7 @@ same-length-2 : tie.Need-same-length-2
 same-length-2 c = search rules
 
 returns-2 : tie.Need-returns-2
-returns-2 c = search (rules, byte-steps)
+returns-2 c = search (rules, byte_steps)
 
 pub put-in-quotes-spec : {M : Type 1} → statement M
 put-in-quotes-spec =

@@ -1,5 +1,5 @@
 -- `shown_bytes::put_shown` meets its contract: by the form. Assumes nothing.
-use Rattle.shown_bytes.proofs.Steps.{byte-steps}
+use Rattle.shown_bytes.proofs.Steps.{byte_steps}
 use borrow.Author.Rules.{rules}
 use Rattle.shown_bytes.proofs.put_shown.Statement.{statement}
 use Rattle.shown_bytes.proofs.put_shown.Tie as tie
@@ -26,19 +26,19 @@ same_length : tie.Need-same-length
 same_length c = search rules
 
 returns : tie.Need-returns
-returns c = search (rules, byte-steps)
+returns c = search (rules, byte_steps)
 
 same-length-2 : tie.Need-same-length-2
 same-length-2 c = search rules
 
 returns-2 : tie.Need-returns-2
-returns-2 c = search (rules, byte-steps)
+returns-2 c = search (rules, byte_steps)
 
 same-length-3 : tie.Need-same-length-3
 same-length-3 c = search rules
 
 returns-3 : tie.Need-returns-3
-returns-3 c = search (rules, byte-steps)
+returns-3 c = search (rules, byte_steps)
 
 pub put-shown-spec : {M : Type 1} → statement M
 put-shown-spec =

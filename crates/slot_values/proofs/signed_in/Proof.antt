@@ -1,6 +1,6 @@
 -- `slot_values::signed_in` meets its contract, by the variants. Assumes nothing.
 use borrow.Author.Rules.{rules}
-use Rattle.typed_inputs.proofs.Fields.{Signed-steps}
+use Rattle.typed_inputs.proofs.Fields.{Signed_steps}
 use Rattle.slot_values.proofs.signed_in.Statement.{statement}
 use Rattle.slot_values.proofs.signed_in.Tie as tie
 
@@ -17,19 +17,19 @@ enum-known-given-2 : tie.Need-enum-known-given-2
 enum-known-given-2 c = search rules
 
 cast-result : tie.Need-overflow-cast-result
-cast-result c = search (rules, Signed-steps)
+cast-result c = search (rules, Signed_steps)
 
 returns : tie.Need-returns
-returns c = search (rules, Signed-steps)
+returns c = search (rules, Signed_steps)
 
 returns-2 : tie.Need-returns-2
-returns-2 c = search (rules, Signed-steps)
+returns-2 c = search (rules, Signed_steps)
 
 returns-3 : tie.Need-returns-3
-returns-3 c = search (rules, Signed-steps)
+returns-3 c = search (rules, Signed_steps)
 
 returns-4 : tie.Need-returns-4
-returns-4 c = search (rules, Signed-steps)
+returns-4 c = search (rules, Signed_steps)
 
 pub signed-in-spec : {M : Type 1} → statement M
 signed-in-spec =

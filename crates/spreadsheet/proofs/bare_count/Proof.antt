@@ -2,7 +2,7 @@
 -- Assumes nothing.
 use Prim.Native.Nat.{◌-◌}
 use lib.ListN.{length}
-use Rattle.spreadsheet.proofs.Counting.{Counting, count-steps}
+use Rattle.spreadsheet.proofs.Counting.{Counting, count_steps}
 use borrow.Author.Rules.{rules}
 use Rattle.spreadsheet.proofs.bare_count.Statement.{statement}
 use Rattle.spreadsheet.proofs.bare_count.Tie as tie
@@ -17,7 +17,7 @@ nothing-requires : tie.Need-nothing-requires invariant-loop decreases-loop
 nothing-requires c κs = search rules
 
 loop-holds : tie.Need-loop-init invariant-loop decreases-loop
-loop-holds c = search (rules, count-steps)
+loop-holds c = search (rules, count_steps)
 
 shared-slice-read-b : tie.Need-shared-slice-read-b invariant-loop decreases-loop
 shared-slice-read-b c = search rules
@@ -41,10 +41,10 @@ loop-less : tie.Need-loop-smaller invariant-loop decreases-loop
 loop-less c = search rules
 
 loop-again : tie.Need-loop-preserved invariant-loop decreases-loop
-loop-again c = search (rules, count-steps)
+loop-again c = search (rules, count_steps)
 
 returns : tie.Need-returns invariant-loop decreases-loop
-returns c = search (rules, count-steps)
+returns c = search (rules, count_steps)
 
 pub bare-count-spec : {M : Type 1} → statement M
 bare-count-spec =

@@ -1,5 +1,5 @@
 -- `spreadsheet::change_count` meets its contract. Assumes nothing.
-use Rattle.spreadsheet.proofs.Starts.{crs_few, start-steps}
+use Rattle.spreadsheet.proofs.Starts.{crs_few, start_steps}
 use borrow.Author.Rules.{rules}
 use Rattle.spreadsheet.proofs.change_count.Statement.{statement}
 use Rattle.spreadsheet.proofs.change_count.Tie as tie
@@ -14,7 +14,7 @@ text-start-requires : tie.Need-text-start-requires
 text-start-requires c κs = search rules
 
 bare-count-requires : tie.Need-bare-count-requires
-bare-count-requires c κs = search (rules, start-steps)
+bare-count-requires c κs = search (rules, start_steps)
 
 add-result : tie.Need-overflow-add-result
 add-result c =
@@ -23,7 +23,7 @@ add-result c =
     search rules
 
 returns : tie.Need-returns
-returns c = search (rules, start-steps)
+returns c = search (rules, start_steps)
 
 pub change-count-spec : {M : Type 1} → statement M
 change-count-spec =

@@ -1,7 +1,7 @@
 -- `stream_steps::after_call` meets its contract: the definition's cases are the code's.
 -- Assumes nothing.
 use borrow.Author.Rules.{rules}
-use Rattle.stream_steps.proofs.Steps.{after-steps}
+use Rattle.stream_steps.proofs.Steps.{after_steps}
 use Rattle.stream_steps.proofs.after_call.Statement.{statement}
 use Rattle.stream_steps.proofs.after_call.Tie as tie
 
@@ -21,16 +21,16 @@ enum-told-3 : tie.Need-enum-told-3
 enum-told-3 c = search rules
 
 returns : tie.Need-returns
-returns c = search (rules, after-steps)
+returns c = search (rules, after_steps)
 
 returns-2 : tie.Need-returns-2
-returns-2 c = search (rules, after-steps)
+returns-2 c = search (rules, after_steps)
 
 returns-3 : tie.Need-returns-3
-returns-3 c = search (rules, after-steps)
+returns-3 c = search (rules, after_steps)
 
 returns-4 : tie.Need-returns-4
-returns-4 c = search (rules, after-steps)
+returns-4 c = search (rules, after_steps)
 
 pub after-call-spec : {M : Type 1} → statement M
 after-call-spec =

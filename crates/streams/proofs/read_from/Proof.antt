@@ -4,7 +4,7 @@ use Prim.Native.Nat.{◌≤◌}
 use mathlib.Core.Path.{◌≡◌}
 use lib.ListN.{length}
 use borrow.Author.Rules.{rules}
-use Rattle.streams.proofs.Moves.{left, turn-steps}
+use Rattle.streams.proofs.Moves.{left, turn_steps}
 use Rattle.streams.proofs.read_from.Statement.{statement}
 use Rattle.streams.proofs.read_from.Tie as tie
 
@@ -24,10 +24,10 @@ enum-known-next : tie.Need-enum-known-next invariant-loop decreases-loop
 enum-known-next c = search rules
 
 loop-less : tie.Need-loop-smaller invariant-loop decreases-loop
-loop-less c = search (rules, turn-steps)
+loop-less c = search (rules, turn_steps)
 
 loop-again : tie.Need-loop-preserved invariant-loop decreases-loop
-loop-again c = search (rules, turn-steps)
+loop-again c = search (rules, turn_steps)
 
 enum_told : tie.Need-enum-told invariant-loop decreases-loop
 enum_told c = search rules
@@ -51,7 +51,7 @@ same_length : tie.Need-same-length invariant-loop decreases-loop
 same_length c = search rules
 
 returns : tie.Need-returns invariant-loop decreases-loop
-returns c = search (rules, turn-steps)
+returns c = search (rules, turn_steps)
 
 enum-told-2 : tie.Need-enum-told-2 invariant-loop decreases-loop
 enum-told-2 c = search rules
@@ -60,13 +60,13 @@ same-length-2 : tie.Need-same-length-2 invariant-loop decreases-loop
 same-length-2 c = search rules
 
 returns-2 : tie.Need-returns-2 invariant-loop decreases-loop
-returns-2 c = search (rules, turn-steps)
+returns-2 c = search (rules, turn_steps)
 
 same-length-3 : tie.Need-same-length-3 invariant-loop decreases-loop
 same-length-3 c = search rules
 
 returns-3 : tie.Need-returns-3 invariant-loop decreases-loop
-returns-3 c = search (rules, turn-steps)
+returns-3 c = search (rules, turn_steps)
 
 pub read-from-spec : {M : Type 1} → statement M
 read-from-spec =

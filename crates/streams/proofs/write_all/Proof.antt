@@ -4,7 +4,7 @@ use Prim.Native.Nat.{◌<◌, ◌≤◌}
 use lib.ListN.{length}
 use borrow.Author.Rules.{rules}
 use Rattle.streams.specs.Within.{All}
-use Rattle.streams.proofs.Moves.{left, turn-steps}
+use Rattle.streams.proofs.Moves.{left, turn_steps}
 use Rattle.streams.proofs.write_all.Statement.{statement}
 use Rattle.streams.proofs.write_all.Tie as tie
 
@@ -27,10 +27,10 @@ enum-known-next : tie.Need-enum-known-next invariant-loop decreases-loop
 enum-known-next c = search rules
 
 loop-less : tie.Need-loop-smaller invariant-loop decreases-loop
-loop-less c = search (rules, turn-steps)
+loop-less c = search (rules, turn_steps)
 
 loop-again : tie.Need-loop-preserved invariant-loop decreases-loop
-loop-again c = search (rules, turn-steps)
+loop-again c = search (rules, turn_steps)
 
 enum_told : tie.Need-enum-told invariant-loop decreases-loop
 enum_told c = search rules
@@ -51,16 +51,16 @@ enum-known-n : tie.Need-enum-known-n invariant-loop decreases-loop
 enum-known-n c = search rules
 
 returns-2 : tie.Need-returns-2 invariant-loop decreases-loop
-returns-2 c = search (rules, turn-steps)
+returns-2 c = search (rules, turn_steps)
 
 enum-told-2 : tie.Need-enum-told-2 invariant-loop decreases-loop
 enum-told-2 c = search rules
 
 returns-3 : tie.Need-returns-3 invariant-loop decreases-loop
-returns-3 c = search (rules, turn-steps)
+returns-3 c = search (rules, turn_steps)
 
 returns-4 : tie.Need-returns-4 invariant-loop decreases-loop
-returns-4 c = search (rules, turn-steps)
+returns-4 c = search (rules, turn_steps)
 
 pub write-all-spec : {M : Type 1} → statement M
 write-all-spec =

@@ -3,7 +3,7 @@
 use Prim.Native.Nat.{◌<◌}
 use native.Mathlib.Omega.{arith}
 use borrow.Author.Rules.{rules}
-use Rattle.values.proofs.ValueSteps.{name-small, value-steps}
+use Rattle.values.proofs.ValueSteps.{name-small, value_steps}
 use Rattle.values.proofs.name_read.Statement.{statement}
 use Rattle.values.proofs.name_read.Tie as tie
 
@@ -14,6 +14,6 @@ name-read-spec =
     (λ c κs. search rules)
     (λ c. search rules)
     (λ c. search rules)
-    (λ c. search (rules, value-steps))
+    (λ c. search (rules, value_steps))
     (λ c. let small : c.before.place.given.0.0 < 256 = search (rules, name-small) in omega arith)
-    (λ c. search (rules, value-steps)))
+    (λ c. search (rules, value_steps)))

@@ -1,5 +1,5 @@
 -- `view_calls::accepted_view` meets its contract: the view's own refusal, or what is written. Assumes nothing.
-use Rattle.contracts.proofs.RecordSteps.{accepted-steps}
+use Rattle.contracts.proofs.RecordSteps.{accepted_steps}
 use borrow.Author.Rules.{rules}
 use Rattle.view_calls.proofs.accepted_view.Statement.{statement}
 use Rattle.view_calls.proofs.accepted_view.Tie as tie
@@ -20,10 +20,10 @@ same_length : tie.Need-same-length
 same_length c = search rules
 
 returns : tie.Need-returns
-returns c = search (rules, accepted-steps)
+returns c = search (rules, accepted_steps)
 
 returns-2 : tie.Need-returns-2
-returns-2 c = search (rules, accepted-steps)
+returns-2 c = search (rules, accepted_steps)
 
 pub accepted-view-spec : {M : Type 1} → statement M
 accepted-view-spec =

@@ -1,6 +1,6 @@
 -- `view_writing::write_view` meets its contract: refusal 13 where the whole is longer than the buffer, else the herds
 -- and what stands behind them. Assumes nothing.
-use Rattle.view_writing.proofs.WriteSteps.{part-steps}
+use Rattle.view_writing.proofs.WriteSteps.{part_steps}
 use borrow.Author.Rules.{rules}
 use Rattle.view_writing.proofs.write_view.Statement.{statement}
 use Rattle.view_writing.proofs.write_view.Tie as tie
@@ -15,13 +15,13 @@ herds-length-requires : tie.Need-herds-length-requires
 herds-length-requires c κs = search rules
 
 add-whole : tie.Need-overflow-add-whole
-add-whole c = search (rules, part-steps)
+add-whole c = search (rules, part_steps)
 
 returns : tie.Need-returns
-returns c = search (rules, part-steps)
+returns c = search (rules, part_steps)
 
 put-herds-requires : tie.Need-put-herds-requires
-put-herds-requires c κs = search (rules, part-steps)
+put-herds-requires c κs = search (rules, part_steps)
 
 slice-aggregate-part-of : tie.Need-slice-aggregate-part-of
 slice-aggregate-part-of c = search rules
@@ -30,13 +30,13 @@ part-of-requires : tie.Need-part-of-requires
 part-of-requires c κs = search rules
 
 put-requires : tie.Need-put-requires
-put-requires c κs = search (rules, part-steps)
+put-requires c κs = search (rules, part_steps)
 
 same_length : tie.Need-same-length
 same_length c = search rules
 
 returns-2 : tie.Need-returns-2
-returns-2 c = search (rules, part-steps)
+returns-2 c = search (rules, part_steps)
 
 pub write-view-spec : {M : Type 1} → statement M
 write-view-spec =

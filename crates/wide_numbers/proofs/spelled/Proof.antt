@@ -6,7 +6,7 @@ use lib.ListN.{length, drop}
 use Rattle.digits.specs.Digits.{up_to}
 use Rattle.numbers.specs.Reading.{whole_from}
 use Rattle.wide_numbers.specs.Wide.{wide_most, widened}
-use Rattle.wide_numbers.proofs.Steps.{spelled-steps}
+use Rattle.wide_numbers.proofs.Steps.{spelled_steps}
 use borrow.Author.Rules.{rules}
 use Rattle.wide_numbers.proofs.spelled.Statement.{statement}
 use Rattle.wide_numbers.proofs.spelled.Tie as tie
@@ -35,7 +35,7 @@ enum_told : tie.Need-enum-told invariant-loop decreases-loop
 enum_told c = search rules
 
 returns : tie.Need-returns invariant-loop decreases-loop
-returns c = search (rules, spelled-steps)
+returns c = search (rules, spelled_steps)
 
 add-i : tie.Need-overflow-add-i invariant-loop decreases-loop
 add-i c = search rules
@@ -44,10 +44,10 @@ loop-less : tie.Need-loop-smaller invariant-loop decreases-loop
 loop-less c = search rules
 
 loop-again : tie.Need-loop-preserved invariant-loop decreases-loop
-loop-again c = search (rules, spelled-steps)
+loop-again c = search (rules, spelled_steps)
 
 returns-2 : tie.Need-returns-2 invariant-loop decreases-loop
-returns-2 c = search (rules, spelled-steps)
+returns-2 c = search (rules, spelled_steps)
 
 pub spelled-spec : {M : Type 1} → statement M
 spelled-spec =

@@ -5,7 +5,7 @@ use mathlib.Core.Path.{◌≡◌}
 use lib.ListN.{take, drop}
 use borrow.Author.Rules.{rules}
 use Rattle.words.specs.Find.{room_of}
-use Rattle.word_texts.proofs.Words.{start-steps}
+use Rattle.word_texts.proofs.Words.{start_steps}
 use Rattle.word_texts.proofs.start_of.Statement.{statement}
 use Rattle.word_texts.proofs.start_of.Tie as tie
 
@@ -29,5 +29,5 @@ start-of-spec =
     (λ c. search rules)
     (λ c. search rules)
     (λ c. search rules)
-    (λ c. search (rules, start-steps))
-    (λ c. search (rules, start-steps)))
+    (λ c. search (rules, start_steps))
+    (λ c. search (rules, start_steps)))

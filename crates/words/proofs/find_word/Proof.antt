@@ -6,7 +6,7 @@ use lib.ListN.{length, drop}
 use borrow.Author.Rules.{rules}
 use Rattle.base.specs.Part.{same_bytes}
 use Rattle.words.specs.Find.{first_from, words_of, room_of}
-use Rattle.words.proofs.Words.{room-steps, word-steps}
+use Rattle.words.proofs.Words.{room_steps, word_steps}
 use Rattle.words.proofs.find_word.Statement.{statement}
 use Rattle.words.proofs.find_word.Tie as tie
 
@@ -31,12 +31,12 @@ find-word-spec =
     (λ c κs. search rules)
     (λ c. search rules)
     (λ c. search rules)
-    (λ c. search (rules, room-steps))
-    (λ c. search (rules, room-steps))
+    (λ c. search (rules, room_steps))
+    (λ c. search (rules, room_steps))
     (λ c κs. search rules)
-    (λ c. search (rules, word-steps))
+    (λ c. search (rules, word_steps))
     (λ c. search rules)
     (λ c. search rules)
     (λ c. search rules)
-    (λ c. search (rules, room-steps, word-steps))
-    (λ c. search (rules, word-steps)))
+    (λ c. search (rules, room_steps, word_steps))
+    (λ c. search (rules, word_steps)))

@@ -2,7 +2,7 @@
 -- 200, so the products fit; the ceiling by its test. Assumes nothing.
 use borrow.Author.Rules.{rules}
 use Rattle.kinds.proofs.Leaves.{free-asked, free-found}
-use Rattle.yard.proofs.OnYard.{yard-rate-steps}
+use Rattle.yard.proofs.OnYard.{yard_rate_steps}
 use Rattle.yard.proofs.ef_nh3_nyard.Statement.{statement}
 use Rattle.yard.proofs.ef_nh3_nyard.Tie as tie
 
@@ -16,13 +16,13 @@ mul-factor : tie.Need-overflow-mul-factor
 mul-factor c = search rules
 
 mul-factor-2 : tie.Need-overflow-mul-factor-2
-mul-factor-2 c = search (rules, yard-rate-steps, free-found)
+mul-factor-2 c = search (rules, yard_rate_steps, free-found)
 
 returns : tie.Need-returns
-returns c = search (rules, yard-rate-steps, free-found)
+returns c = search (rules, yard_rate_steps, free-found)
 
 returns-2 : tie.Need-returns-2
-returns-2 c = search (rules, yard-rate-steps, free-found)
+returns-2 c = search (rules, yard_rate_steps, free-found)
 
 pub ef-nh3-nyard-spec : {M : Type 1} → statement M
 ef-nh3-nyard-spec =

@@ -1,6 +1,6 @@
 -- `yard::into_yard` meets its contract: the time on the yard is at most the year. Assumes nothing.
 use borrow.Author.Rules.{rules}
-use Rattle.amounts.proofs.Amounts.{shares-found}
+use Rattle.amounts.proofs.Amounts.{shares_found}
 use Rattle.yard.proofs.into_yard.Statement.{statement}
 use Rattle.yard.proofs.into_yard.Tie as tie
 
@@ -11,7 +11,7 @@ portions-requires : tie.Need-portions-requires
 portions-requires c κs = search rules
 
 returns : tie.Need-returns
-returns c = search (rules, shares-found)
+returns c = search (rules, shares_found)
 
 pub into-yard-spec : {M : Type 1} → statement M
 into-yard-spec = tie.close (tie.spec yard-time-requires portions-requires returns)

@@ -1,6 +1,6 @@
 -- `yard::nh3_on_yard` meets its contract: the part that is emitted is at most the whole. Assumes nothing.
 use borrow.Author.Rules.{rules}
-use Rattle.amounts.proofs.Amounts.{shares-found}
+use Rattle.amounts.proofs.Amounts.{shares_found}
 use Rattle.yard.proofs.nh3_on_yard.Statement.{statement}
 use Rattle.yard.proofs.nh3_on_yard.Tie as tie
 
@@ -11,7 +11,7 @@ portion-requires : tie.Need-portion-requires
 portion-requires c κs = search rules
 
 returns : tie.Need-returns
-returns c = search (rules, shares-found)
+returns c = search (rules, shares_found)
 
 pub nh3-on-yard-spec : {M : Type 1} → statement M
 nh3-on-yard-spec = tie.close (tie.spec ef-nh3-nyard-requires portion-requires returns)

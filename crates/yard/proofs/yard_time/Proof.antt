@@ -4,7 +4,7 @@ use native.Mathlib.Omega.{arith}
 use borrow.Author.Rules.{rules}
 use Rattle.cut_division.proofs.Products.{mul-fits}
 use Rattle.amounts.specs.Units.{tenths, year}
-use Rattle.yard.proofs.Times.{yard-time-steps}
+use Rattle.yard.proofs.Times.{yard_time_steps}
 use Rattle.yard.proofs.yard_time.Statement.{statement}
 use Rattle.yard.proofs.yard_time.Tie as tie
 
@@ -27,10 +27,10 @@ mul-result-2 : tie.Need-overflow-mul-result-2
 mul-result-2 c = mul-fits tenths year tt (omega arith) (omega arith)
 
 add-result : tie.Need-overflow-add-result
-add-result c = search (rules, yard-time-steps)
+add-result c = search (rules, yard_time_steps)
 
 returns : tie.Need-returns
-returns c = search (rules, yard-time-steps)
+returns c = search (rules, yard_time_steps)
 
 pub yard-time-spec : {M : Type 1} → statement M
 yard-time-spec =

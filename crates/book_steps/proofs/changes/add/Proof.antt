@@ -1,6 +1,6 @@
 -- The herds with the new one behind them, and the totals more by its figures. Assumes nothing.
 use borrow.Author.Rules.{rules}
-use Rattle.book_steps.proofs.ChangeSteps.{change-steps}
+use Rattle.book_steps.proofs.ChangeSteps.{change_steps}
 use Rattle.book_steps.proofs.changes.add.Statement.{statement}
 use Rattle.book_steps.proofs.changes.add.Tie as tie
 
@@ -12,4 +12,4 @@ add_spec =
     (λ c κs. search rules)
     (λ c κs. search rules)
     (λ c κs. search rules)
-    (λ c. search (rules, change-steps)))
+    (λ c. search (rules, change_steps)))

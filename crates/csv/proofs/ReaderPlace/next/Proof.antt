@@ -4,7 +4,7 @@
 use Prim.Native.Nat.{◌≤◌, ◌-◌}
 use lib.ListN.{length}
 use Rattle.csv.specs.Places.{step_of}
-use Rattle.csv.proofs.Going.{Going, row-steps}
+use Rattle.csv.proofs.Going.{Going, row_steps}
 use borrow.Author.Rules.{rules}
 use Rattle.csv.proofs.ReaderPlace.next.Statement.{statement}
 use Rattle.csv.proofs.ReaderPlace.next.Tie as tie
@@ -16,13 +16,13 @@ abbrev decreases-loop : tie.decreases-loop
 decreases-loop s at₀ f₀ at f = length s - at
 
 returns : tie.Need-returns invariant-loop decreases-loop
-returns c = search (rules, row-steps)
+returns c = search (rules, row_steps)
 
 no-fields-requires : tie.Need-no-fields-requires invariant-loop decreases-loop
 no-fields-requires c κs = search rules
 
 loop-holds : tie.Need-loop-init invariant-loop decreases-loop
-loop-holds c = search (rules, row-steps)
+loop-holds c = search (rules, row_steps)
 
 field-end-requires : tie.Need-field-end-requires invariant-loop decreases-loop
 field-end-requires c κs = search rules
@@ -34,10 +34,10 @@ with-field-requires : tie.Need-with-field-requires invariant-loop decreases-loop
 with-field-requires c κs = search rules
 
 loop-less : tie.Need-loop-smaller invariant-loop decreases-loop
-loop-less c = search (rules, row-steps)
+loop-less c = search (rules, row_steps)
 
 loop-again : tie.Need-loop-preserved invariant-loop decreases-loop
-loop-again c = search (rules, row-steps)
+loop-again c = search (rules, row_steps)
 
 enum-known-p-2 : tie.Need-enum-known-p-2 invariant-loop decreases-loop
 enum-known-p-2 c = search rules
@@ -46,7 +46,7 @@ with-field-requires-2 : tie.Need-with-field-requires-2 invariant-loop decreases-
 with-field-requires-2 c κs = search rules
 
 returns-2 : tie.Need-returns-2 invariant-loop decreases-loop
-returns-2 c = search (rules, row-steps)
+returns-2 c = search (rules, row_steps)
 
 enum-known-p-3 : tie.Need-enum-known-p-3 invariant-loop decreases-loop
 enum-known-p-3 c = search rules
@@ -55,13 +55,13 @@ with-field-requires-3 : tie.Need-with-field-requires-3 invariant-loop decreases-
 with-field-requires-3 c κs = search rules
 
 returns-3 : tie.Need-returns-3 invariant-loop decreases-loop
-returns-3 c = search (rules, row-steps)
+returns-3 c = search (rules, row_steps)
 
 enum_told : tie.Need-enum-told invariant-loop decreases-loop
 enum_told c = search rules
 
 returns-4 : tie.Need-returns-4 invariant-loop decreases-loop
-returns-4 c = search (rules, row-steps)
+returns-4 c = search (rules, row_steps)
 
 pub next-spec : {M : Type 1} → statement M
 next-spec =

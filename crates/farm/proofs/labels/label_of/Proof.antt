@@ -1,7 +1,7 @@
 -- `farm::labels::label_of` meets its contract: the bytes that fit, stored over zeros, are the text with zeros behind
 -- it, cut there. Assumes nothing.
 use borrow.Author.Rules.{rules}
-use Rattle.farm.proofs.LabelSteps.{label-of-steps}
+use Rattle.farm.proofs.LabelSteps.{label_of_steps}
 use Rattle.farm.proofs.labels.label_of.Statement.{statement}
 use Rattle.farm.proofs.labels.label_of.Tie as tie
 
@@ -11,5 +11,5 @@ label-of-spec =
     (tie.spec
     (λ c. search rules)
     (λ c κs. search rules)
-    (λ c κs. search (rules, label-of-steps))
-    (λ c. search (rules, label-of-steps)))
+    (λ c κs. search (rules, label_of_steps))
+    (λ c. search (rules, label_of_steps)))

@@ -4,7 +4,7 @@ use mathlib.Core.Path.{◌≡◌}
 use lib.ListN.{drop}
 use borrow.Author.Rules.{rules}
 use Rattle.farm.specs.Labels.{all_ok, text, label_ok}
-use Rattle.farm.proofs.LabelSteps.{label-steps}
+use Rattle.farm.proofs.LabelSteps.{label_steps}
 use Rattle.farm.proofs.labels.label_ok.Statement.{statement}
 use Rattle.farm.proofs.labels.label_ok.Tie as tie
 
@@ -20,13 +20,13 @@ label-ok-spec =
     (tie.spec
     invariant-loop
     decreases-loop
-    (λ c. search (rules, label-steps))
-    (λ c. search (rules, label-steps))
-    (λ c. search (rules, label-steps))
+    (λ c. search (rules, label_steps))
+    (λ c. search (rules, label_steps))
+    (λ c. search (rules, label_steps))
     (λ c. search rules)
     (λ c κs. search rules)
-    (λ c. search (rules, label-steps))
+    (λ c. search (rules, label_steps))
     (λ c. search rules)
     (λ c. search rules)
-    (λ c. search (rules, label-steps))
-    (λ c. search (rules, label-steps)))
+    (λ c. search (rules, label_steps))
+    (λ c. search (rules, label_steps)))

@@ -6,7 +6,7 @@ use borrow.Author.Rules.{rules}
 use Rattle.base.specs.Part.{same_bytes}
 use Rattle.farm.specs.Limits.{label_most}
 use Rattle.farm.specs.Labels.{same_label}
-use Rattle.farm.proofs.LabelSteps.{same-label-steps}
+use Rattle.farm.proofs.LabelSteps.{same_label_steps}
 use Rattle.farm.proofs.labels.same_label.Statement.{statement}
 use Rattle.farm.proofs.labels.same_label.Tie as tie
 
@@ -22,13 +22,13 @@ same-label-spec =
     (tie.spec
     invariant-loop
     decreases-loop
-    (λ c. search (rules, same-label-steps))
-    (λ c. search (rules, same-label-steps))
-    (λ c. search (rules, same-label-steps))
+    (λ c. search (rules, same_label_steps))
+    (λ c. search (rules, same_label_steps))
+    (λ c. search (rules, same_label_steps))
     (λ c. search rules)
     (λ c. search rules)
     (λ c. search rules)
-    (λ c. search (rules, same-label-steps))
+    (λ c. search (rules, same_label_steps))
     (λ c. search rules)
-    (λ c. search (rules, same-label-steps))
-    (λ c. search (rules, same-label-steps)))
+    (λ c. search (rules, same_label_steps))
+    (λ c. search (rules, same_label_steps)))

@@ -5,7 +5,7 @@ use lib.ListN.{drop}
 use borrow.Author.Rules.{rules}
 use Rattle.farm.specs.Labels.{text}
 use Rattle.farm.specs.Prints.{print_from, print_of}
-use Rattle.farm.proofs.PrintSteps.{print-steps}
+use Rattle.farm.proofs.PrintSteps.{print_steps}
 use Rattle.farm.proofs.prints.print_of.Statement.{statement}
 use Rattle.farm.proofs.prints.print_of.Tie as tie
 
@@ -21,11 +21,11 @@ print-of-spec =
     (tie.spec
     invariant-loop
     decreases-loop
-    (λ c. search (rules, print-steps))
-    (λ c. search (rules, print-steps))
+    (λ c. search (rules, print_steps))
+    (λ c. search (rules, print_steps))
     (λ c. search rules)
     (λ c κs. search rules)
     (λ c. search rules)
     (λ c. search rules)
-    (λ c. search (rules, print-steps))
-    (λ c. search (rules, print-steps)))
+    (λ c. search (rules, print_steps))
+    (λ c. search (rules, print_steps)))

@@ -1,5 +1,5 @@
 -- `gate::logs::finished` meets its contract, by what is due at the end. Assumes nothing.
-use Rattle.gate.proofs.LogSteps.{finished-steps}
+use Rattle.gate.proofs.LogSteps.{finished_steps}
 use borrow.Author.Rules.{rules}
 use Rattle.gate.proofs.logs.finished.Statement.{statement}
 use Rattle.gate.proofs.logs.finished.Tie as tie
@@ -12,6 +12,6 @@ finished-spec =
     (λ c. search rules)
     (λ c. search rules)
     (λ c κs. search rules)
-    (λ c. search (rules, finished-steps))
-    (λ c. search (rules, finished-steps))
-    (λ c. search (rules, finished-steps)))
+    (λ c. search (rules, finished_steps))
+    (λ c. search (rules, finished_steps))
+    (λ c. search (rules, finished_steps)))

@@ -3,7 +3,7 @@
 use Prim.Native.Nat.{◌-◌}
 use lib.ListN.{length}
 use borrow.Author.Rules.{rules}
-use Rattle.gate.proofs.LogSteps.{Reached, log-steps}
+use Rattle.gate.proofs.LogSteps.{Reached, log_steps}
 use Rattle.gate.proofs.logs.read_records.Statement.{statement}
 use Rattle.gate.proofs.logs.read_records.Tie as tie
 
@@ -21,19 +21,19 @@ read-records-spec =
     decreases-loop
     (λ c κs. search rules)
     (λ c κs. search rules)
-    (λ c. search (rules, log-steps))
+    (λ c. search (rules, log_steps))
     (λ c κs. search rules)
     (λ c. search rules)
     (λ c κs. search rules)
-    (λ c. search (rules, log-steps))
+    (λ c. search (rules, log_steps))
     (λ c. search rules)
-    (λ c. search (rules, log-steps))
+    (λ c. search (rules, log_steps))
     (λ c. search rules)
     (λ c κs. search rules)
-    (λ c κs. search (rules, log-steps))
+    (λ c κs. search (rules, log_steps))
     (λ c. search rules)
-    (λ c. search (rules, log-steps))
+    (λ c. search (rules, log_steps))
     (λ c. search rules)
-    (λ c. search (rules, log-steps))
-    (λ c. search (rules, log-steps))
-    (λ c. search (rules, log-steps)))
+    (λ c. search (rules, log_steps))
+    (λ c. search (rules, log_steps))
+    (λ c. search (rules, log_steps)))

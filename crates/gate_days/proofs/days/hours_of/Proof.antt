@@ -2,7 +2,7 @@
 -- nothing.
 use native.Mathlib.Omega.{arith}
 use Prim.Native.Nat.{◌≤◌}
-use Rattle.gate_days.proofs.DaySteps.{number_small, hours-steps}
+use Rattle.gate_days.proofs.DaySteps.{number_small, hours_steps}
 use borrow.Author.Rules.{rules}
 use Rattle.gate_days.proofs.days.hours_of.Statement.{statement}
 use Rattle.gate_days.proofs.days.hours_of.Tie as tie
@@ -15,18 +15,18 @@ hours-of-spec =
     (λ c κs. search rules)
     (λ c. search rules)
     (λ c. search rules)
-    (λ c. search (rules, hours-steps))
+    (λ c. search (rules, hours_steps))
     (λ c κs. search rules)
     (λ c κs. search rules)
     (λ c. search rules)
     (λ c. search rules)
-    (λ c. search (rules, hours-steps))
+    (λ c. search (rules, hours_steps))
     (λ c.
     let yard : c.before.yard.given.0.0 ≤ 240 = search (rules, number_small) in
     let pasture : c.before.before.before.before.before.before.pasture.given.0.0 ≤ 240 =
     search (rules, number_small) in
     omega arith)
-    (λ c. search (rules, hours-steps))
+    (λ c. search (rules, hours_steps))
     (λ c. search rules)
     (λ c. search rules)
-    (λ c. search (rules, hours-steps)))
+    (λ c. search (rules, hours_steps)))

@@ -1,5 +1,5 @@
 -- `herd_reasons::answers::herd_reason` meets its contract: the answer is the one that the check picks. Assumes nothing.
-use Rattle.herd_reasons.proofs.Steps.{answer-steps}
+use Rattle.herd_reasons.proofs.Steps.{answer_steps}
 use borrow.Author.Rules.{rules}
 use Rattle.herd_reasons.proofs.answers.herd_reason.Statement.{statement}
 use Rattle.herd_reasons.proofs.answers.herd_reason.Tie as tie
@@ -14,7 +14,7 @@ typed-of-requires : tie.Need-typed-of-requires
 typed-of-requires c κs = search rules
 
 told-of-requires : tie.Need-told-of-requires
-told-of-requires c κs = search (rules, answer-steps)
+told-of-requires c κs = search (rules, answer_steps)
 
 told-answer-requires : tie.Need-told-answer-requires
 told-answer-requires c κs = search rules
@@ -23,10 +23,10 @@ enum-known-refusal : tie.Need-enum-known-refusal
 enum-known-refusal c = search rules
 
 returns : tie.Need-returns
-returns c = search (rules, answer-steps)
+returns c = search (rules, answer_steps)
 
 returns-2 : tie.Need-returns-2
-returns-2 c = search (rules, answer-steps)
+returns-2 c = search (rules, answer_steps)
 
 pub herd-reason-spec : {M : Type 1} → statement M
 herd-reason-spec =

@@ -4,7 +4,7 @@ use Prim.Native.Nat.{◌≤◌, ◌-◌}
 use mathlib.Core.Path.{◌≡◌}
 use lib.ListN.{length, drop}
 use Rattle.line_parts.specs.Fields.{has_comma}
-use Rattle.line_parts.proofs.LabelField.{comma-steps}
+use Rattle.line_parts.proofs.LabelField.{comma_steps}
 use borrow.Author.Rules.{rules}
 use Rattle.line_parts.proofs.labels.has_comma.Statement.{statement}
 use Rattle.line_parts.proofs.labels.has_comma.Tie as tie
@@ -22,7 +22,7 @@ shared-slice-read-if1 : tie.Need-shared-slice-read-if1 invariant-loop decreases-
 shared-slice-read-if1 c = search rules
 
 returns : tie.Need-returns invariant-loop decreases-loop
-returns c = search (rules, comma-steps)
+returns c = search (rules, comma_steps)
 
 add-i : tie.Need-overflow-add-i invariant-loop decreases-loop
 add-i c = search rules
@@ -31,10 +31,10 @@ loop-less : tie.Need-loop-smaller invariant-loop decreases-loop
 loop-less c = search rules
 
 loop-again : tie.Need-loop-preserved invariant-loop decreases-loop
-loop-again c = search (rules, comma-steps)
+loop-again c = search (rules, comma_steps)
 
 returns-2 : tie.Need-returns-2 invariant-loop decreases-loop
-returns-2 c = search (rules, comma-steps)
+returns-2 c = search (rules, comma_steps)
 
 pub has-comma-spec : {M : Type 1} → statement M
 has-comma-spec =

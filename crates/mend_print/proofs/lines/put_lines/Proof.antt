@@ -2,7 +2,7 @@
 -- Assumes nothing.
 use Prim.Native.Nat.{◌-◌}
 use lib.ListN.{length}
-use Rattle.mend_print.proofs.LineSteps.{Putting, line-steps}
+use Rattle.mend_print.proofs.LineSteps.{Putting, line_steps}
 use borrow.Author.Rules.{rules}
 use Rattle.mend_print.proofs.lines.put_lines.Statement.{statement}
 use Rattle.mend_print.proofs.lines.put_lines.Tie as tie
@@ -14,7 +14,7 @@ abbrev decreases-loop : tie.decreases-loop
 decreases-loop out₀ list at₀ i₀ out at i = length list - i
 
 loop-holds : tie.Need-loop-init invariant-loop decreases-loop
-loop-holds c = search (rules, line-steps)
+loop-holds c = search (rules, line_steps)
 
 add-loop : tie.Need-overflow-add-loop invariant-loop decreases-loop
 add-loop c = search rules
@@ -35,7 +35,7 @@ shared-slice-read-put-pair-2 : tie.Need-shared-slice-read-put-pair-2 invariant-l
 shared-slice-read-put-pair-2 c = search rules
 
 put-pair-requires : tie.Need-put-pair-requires invariant-loop decreases-loop
-put-pair-requires c κs = search (rules, line-steps)
+put-pair-requires c κs = search (rules, line_steps)
 
 add-i : tie.Need-overflow-add-i invariant-loop decreases-loop
 add-i c = search rules
@@ -44,13 +44,13 @@ loop-less : tie.Need-loop-smaller invariant-loop decreases-loop
 loop-less c = search rules
 
 loop-again : tie.Need-loop-preserved invariant-loop decreases-loop
-loop-again c = search (rules, line-steps)
+loop-again c = search (rules, line_steps)
 
 same_length : tie.Need-same-length invariant-loop decreases-loop
-same_length c = search (rules, line-steps)
+same_length c = search (rules, line_steps)
 
 returns : tie.Need-returns invariant-loop decreases-loop
-returns c = search (rules, line-steps)
+returns c = search (rules, line_steps)
 
 pub put-lines-spec : {M : Type 1} → statement M
 put-lines-spec =

@@ -1,7 +1,7 @@
 -- `pig_amounts::house::nh3_in_pig_house` meets its contract: the factor is the definition's, and at most 1. Assumes
 -- nothing.
 use borrow.Author.Rules.{rules}
-use Rattle.amounts.proofs.Amounts.{shares-found}
+use Rattle.amounts.proofs.Amounts.{shares_found}
 use Rattle.pig_amounts.proofs.house.nh3_in_pig_house.Statement.{statement}
 use Rattle.pig_amounts.proofs.house.nh3_in_pig_house.Tie as tie
 
@@ -12,7 +12,7 @@ portion-requires : tie.Need-portion-requires
 portion-requires c κs = search rules
 
 returns : tie.Need-returns
-returns c = search (rules, shares-found)
+returns c = search (rules, shares_found)
 
 pub nh3-in-pig-house-spec : {M : Type 1} → statement M
 nh3-in-pig-house-spec = tie.close (tie.spec ef-nh3-nhousing-requires portion-requires returns)

@@ -1,6 +1,6 @@
 -- `pig_amounts::scrubber::kept_back` meets its contract: by its arms. Assumes nothing.
 use borrow.Author.Rules.{rules}
-use Rattle.pig_house.proofs.Through.{scrubber-steps}
+use Rattle.pig_house.proofs.Through.{scrubber_steps}
 use Rattle.pig_amounts.proofs.scrubber.kept_back.Statement.{statement}
 use Rattle.pig_amounts.proofs.scrubber.kept_back.Tie as tie
 
@@ -23,13 +23,13 @@ no-scrubbed-requires-2 : tie.Need-no-scrubbed-requires-2
 no-scrubbed-requires-2 c κs = search rules
 
 returns : tie.Need-returns
-returns c = search (rules, scrubber-steps)
+returns c = search (rules, scrubber_steps)
 
 returns-2 : tie.Need-returns-2
-returns-2 c = search (rules, scrubber-steps)
+returns-2 c = search (rules, scrubber_steps)
 
 returns-3 : tie.Need-returns-3
-returns-3 c = search (rules, scrubber-steps)
+returns-3 c = search (rules, scrubber_steps)
 
 pub kept-back-spec : {M : Type 1} → statement M
 kept-back-spec =

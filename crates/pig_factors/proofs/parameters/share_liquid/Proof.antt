@@ -1,6 +1,6 @@
 -- `pig_factors::parameters::share_liquid` meets its contract, by the row of the type. Assumes nothing.
 use borrow.Author.Rules.{rules}
-use Rattle.pig_house.proofs.Factor.{row-steps}
+use Rattle.pig_house.proofs.Factor.{row_steps}
 use Rattle.pig_factors.proofs.parameters.share_liquid.Statement.{statement}
 use Rattle.pig_factors.proofs.parameters.share_liquid.Tie as tie
 
@@ -8,7 +8,7 @@ row-of-requires : tie.Need-row-of-requires
 row-of-requires c κs = search rules
 
 returns : tie.Need-returns
-returns c = search (rules, row-steps)
+returns c = search (rules, row_steps)
 
 pub share-liquid-spec : {M : Type 1} → statement M
 share-liquid-spec = tie.close (tie.spec row-of-requires returns)

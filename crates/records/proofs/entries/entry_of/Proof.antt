@@ -1,7 +1,7 @@
 -- `records::entries::entry_of` meets its contract: 3 and 4 come first, and where neither applies what the record says
 -- is what 5 to 7 leave. Assumes nothing.
 use borrow.Author.Rules.{rules}
-use Rattle.records.proofs.EntrySteps.{entry-steps}
+use Rattle.records.proofs.EntrySteps.{entry_steps}
 use Rattle.records.proofs.entries.entry_of.Statement.{statement}
 use Rattle.records.proofs.entries.entry_of.Tie as tie
 
@@ -11,8 +11,8 @@ entry-of-spec =
     (tie.spec
     (λ c κs. search rules)
     (λ c κs. search rules)
-    (λ c. search (rules, entry-steps))
+    (λ c. search (rules, entry_steps))
     (λ c κs. search rules)
-    (λ c. search (rules, entry-steps))
+    (λ c. search (rules, entry_steps))
     (λ c κs. search rules)
-    (λ c. search (rules, entry-steps)))
+    (λ c. search (rules, entry_steps)))

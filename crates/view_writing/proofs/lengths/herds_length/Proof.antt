@@ -1,7 +1,7 @@
 -- `view_writing::lengths::herds_length` meets its contract, herd by herd. Assumes nothing.
 use Prim.Native.Nat.{◌-◌}
 use Rattle.farm.proofs.Left.{length_mapped}
-use Rattle.view_writing.proofs.LengthSteps.{Measuring, length-steps}
+use Rattle.view_writing.proofs.LengthSteps.{Measuring, length_steps}
 use borrow.Author.Rules.{rules}
 use Rattle.view_writing.proofs.lengths.herds_length.Statement.{statement}
 use Rattle.view_writing.proofs.lengths.herds_length.Tie as tie
@@ -13,7 +13,7 @@ abbrev decreases-loop : tie.decreases-loop
 decreases-loop view farm count sum₀ i₀ sum i = count - i
 
 loop-holds : tie.Need-loop-init invariant-loop decreases-loop
-loop-holds c = search (rules, length-steps)
+loop-holds c = search (rules, length_steps)
 
 mul-h : tie.Need-overflow-mul-h invariant-loop decreases-loop
 mul-h c = search rules
@@ -22,10 +22,10 @@ element-copy-out-h : tie.Need-element-copy-out-h invariant-loop decreases-loop
 element-copy-out-h c = search rules
 
 herd-length-requires : tie.Need-herd-length-requires invariant-loop decreases-loop
-herd-length-requires c κs = search (rules, length-steps, length_mapped)
+herd-length-requires c κs = search (rules, length_steps, length_mapped)
 
 add-sum : tie.Need-overflow-add-sum invariant-loop decreases-loop
-add-sum c = search (rules, length-steps)
+add-sum c = search (rules, length_steps)
 
 add-i : tie.Need-overflow-add-i invariant-loop decreases-loop
 add-i c = search rules
@@ -34,10 +34,10 @@ loop-less : tie.Need-loop-smaller invariant-loop decreases-loop
 loop-less c = search rules
 
 loop-again : tie.Need-loop-preserved invariant-loop decreases-loop
-loop-again c = search (rules, length-steps, length_mapped)
+loop-again c = search (rules, length_steps, length_mapped)
 
 returns : tie.Need-returns invariant-loop decreases-loop
-returns c = search (rules, length-steps)
+returns c = search (rules, length_steps)
 
 pub herds-length-spec : {M : Type 1} → statement M
 herds-length-spec =

@@ -1,5 +1,5 @@
 -- `view_writing::parts::put_herd` meets its contract: the herd's text goes through the scratch. Assumes nothing.
-use Rattle.view_writing.proofs.PartSteps.{scratch-steps}
+use Rattle.view_writing.proofs.PartSteps.{scratch_steps}
 use borrow.Author.Rules.{rules}
 use Rattle.view_writing.proofs.parts.put_herd.Statement.{statement}
 use Rattle.view_writing.proofs.parts.put_herd.Tie as tie
@@ -17,13 +17,13 @@ part-of-requires : tie.Need-part-of-requires
 part-of-requires c κs = search rules
 
 put-requires : tie.Need-put-requires
-put-requires c κs = search (rules, scratch-steps)
+put-requires c κs = search (rules, scratch_steps)
 
 same_length : tie.Need-same-length
 same_length c = search rules
 
 returns : tie.Need-returns
-returns c = search (rules, scratch-steps)
+returns c = search (rules, scratch_steps)
 
 pub put-herd-spec : {M : Type 1} → statement M
 put-herd-spec =

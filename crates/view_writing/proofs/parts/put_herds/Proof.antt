@@ -2,7 +2,7 @@
 use Prim.Native.Nat.{◌-◌}
 use Rattle.farm.proofs.Left.{length_mapped}
 use Rattle.views.proofs.FarmSteps.{Putting, ends}
-use Rattle.view_writing.proofs.PartSteps.{herd-steps}
+use Rattle.view_writing.proofs.PartSteps.{herd_steps}
 use borrow.Author.Rules.{rules}
 use Rattle.view_writing.proofs.parts.put_herds.Statement.{statement}
 use Rattle.view_writing.proofs.parts.put_herds.Tie as tie
@@ -14,7 +14,7 @@ abbrev decreases-loop : tie.decreases-loop
 decreases-loop out₀ view farm count at₀ i₀ out at i = count - i
 
 loop-holds : tie.Need-loop-init invariant-loop decreases-loop
-loop-holds c = search (rules, herd-steps, length_mapped)
+loop-holds c = search (rules, herd_steps, length_mapped)
 
 mul-h : tie.Need-overflow-mul-h invariant-loop decreases-loop
 mul-h c = search rules
@@ -23,7 +23,7 @@ element-copy-out-h : tie.Need-element-copy-out-h invariant-loop decreases-loop
 element-copy-out-h c = search rules
 
 put-herd-requires : tie.Need-put-herd-requires invariant-loop decreases-loop
-put-herd-requires c κs = search (rules, herd-steps, length_mapped)
+put-herd-requires c κs = search (rules, herd_steps, length_mapped)
 
 add-i : tie.Need-overflow-add-i invariant-loop decreases-loop
 add-i c = search rules
@@ -32,10 +32,10 @@ loop-less : tie.Need-loop-smaller invariant-loop decreases-loop
 loop-less c = search rules
 
 loop-again : tie.Need-loop-preserved invariant-loop decreases-loop
-loop-again c = search (rules, herd-steps, length_mapped)
+loop-again c = search (rules, herd_steps, length_mapped)
 
 same_length : tie.Need-same-length invariant-loop decreases-loop
-same_length c = search (rules, herd-steps, length_mapped)
+same_length c = search (rules, herd_steps, length_mapped)
 
 returns : tie.Need-returns invariant-loop decreases-loop
 returns c =

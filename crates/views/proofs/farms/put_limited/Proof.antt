@@ -1,5 +1,5 @@
 -- `views::farms::put_limited` meets its contract: the view, or its refusal. Assumes nothing.
-use Rattle.views.proofs.FarmSteps.{put-steps}
+use Rattle.views.proofs.FarmSteps.{put_steps}
 use borrow.Author.Rules.{rules}
 use Rattle.views.proofs.farms.put_limited.Statement.{statement}
 use Rattle.views.proofs.farms.put_limited.Tie as tie
@@ -20,10 +20,10 @@ same_length : tie.Need-same-length
 same_length c = search rules
 
 returns : tie.Need-returns
-returns c = search (rules, put-steps)
+returns c = search (rules, put_steps)
 
 returns-2 : tie.Need-returns-2
-returns-2 c = search (rules, put-steps)
+returns-2 c = search (rules, put_steps)
 
 pub put-limited-spec : {M : Type 1} → statement M
 put-limited-spec =

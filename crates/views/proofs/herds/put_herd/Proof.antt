@@ -1,5 +1,5 @@
 -- `views::herds::put_herd` meets its contract, view by view. Assumes nothing.
-use Rattle.views.proofs.HerdSteps.{figures-steps, notes-steps, cuts-steps, why-steps, file-steps}
+use Rattle.views.proofs.HerdSteps.{figures_steps, notes_steps, cuts_steps, why_steps, file_steps}
 use borrow.Author.Rules.{rules}
 use Rattle.views.proofs.herds.put_herd.Statement.{statement}
 use Rattle.views.proofs.herds.put_herd.Tie as tie
@@ -38,43 +38,43 @@ enum-told-6 : tie.Need-enum-told-6
 enum-told-6 c = search rules
 
 put-herd-requires-6 : tie.Need-put-herd-requires-6
-put-herd-requires-6 c κs = search (rules, file-steps)
+put-herd-requires-6 c κs = search (rules, file_steps)
 
 same_length : tie.Need-same-length
 same_length c = search rules
 
 returns : tie.Need-returns
-returns c = search (rules, figures-steps)
+returns c = search (rules, figures_steps)
 
 same-length-2 : tie.Need-same-length-2
 same-length-2 c = search rules
 
 returns-2 : tie.Need-returns-2
-returns-2 c = search (rules, notes-steps)
+returns-2 c = search (rules, notes_steps)
 
 same-length-3 : tie.Need-same-length-3
 same-length-3 c = search rules
 
 returns-3 : tie.Need-returns-3
-returns-3 c = search (rules, cuts-steps)
+returns-3 c = search (rules, cuts_steps)
 
 same-length-4 : tie.Need-same-length-4
 same-length-4 c = search rules
 
 returns-4 : tie.Need-returns-4
-returns-4 c = search (rules, why-steps)
+returns-4 c = search (rules, why_steps)
 
 same-length-5 : tie.Need-same-length-5
 same-length-5 c = search rules
 
 returns-5 : tie.Need-returns-5
-returns-5 c = search (rules, why-steps)
+returns-5 c = search (rules, why_steps)
 
 same-length-6 : tie.Need-same-length-6
 same-length-6 c = search rules
 
 returns-6 : tie.Need-returns-6
-returns-6 c = search (rules, file-steps)
+returns-6 c = search (rules, file_steps)
 
 pub put-herd-spec : {M : Type 1} → statement M
 put-herd-spec =

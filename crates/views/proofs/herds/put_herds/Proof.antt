@@ -1,7 +1,7 @@
 -- `views::herds::put_herds` meets its contract, herd by herd. Assumes nothing.
 use Prim.Native.Nat.{◌-◌}
 use Rattle.farm.proofs.Left.{length_mapped}
-use Rattle.views.proofs.FarmSteps.{Putting, ends, farm-steps}
+use Rattle.views.proofs.FarmSteps.{Putting, ends, farm_steps}
 use borrow.Author.Rules.{rules}
 use Rattle.views.proofs.herds.put_herds.Statement.{statement}
 use Rattle.views.proofs.herds.put_herds.Tie as tie
@@ -13,7 +13,7 @@ abbrev decreases-loop : tie.decreases-loop
 decreases-loop out₀ view farm count at₀ i₀ out at i = count - i
 
 loop-holds : tie.Need-loop-init invariant-loop decreases-loop
-loop-holds c = search (rules, farm-steps, length_mapped)
+loop-holds c = search (rules, farm_steps, length_mapped)
 
 mul-h : tie.Need-overflow-mul-h invariant-loop decreases-loop
 mul-h c = search rules
@@ -22,7 +22,7 @@ element-copy-out-h : tie.Need-element-copy-out-h invariant-loop decreases-loop
 element-copy-out-h c = search rules
 
 put-herd-requires : tie.Need-put-herd-requires invariant-loop decreases-loop
-put-herd-requires c κs = search (rules, farm-steps, length_mapped)
+put-herd-requires c κs = search (rules, farm_steps, length_mapped)
 
 add-i : tie.Need-overflow-add-i invariant-loop decreases-loop
 add-i c = search rules
@@ -31,10 +31,10 @@ loop-less : tie.Need-loop-smaller invariant-loop decreases-loop
 loop-less c = search rules
 
 loop-again : tie.Need-loop-preserved invariant-loop decreases-loop
-loop-again c = search (rules, farm-steps, length_mapped)
+loop-again c = search (rules, farm_steps, length_mapped)
 
 same_length : tie.Need-same-length invariant-loop decreases-loop
-same_length c = search (rules, farm-steps, length_mapped)
+same_length c = search (rules, farm_steps, length_mapped)
 
 returns : tie.Need-returns invariant-loop decreases-loop
 returns c =

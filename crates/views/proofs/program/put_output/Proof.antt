@@ -1,6 +1,6 @@
 -- `views::program::put_output` meets its contract: what was listed, or the line of the refusal. Assumes nothing.
 use native.Mathlib.Omega.{arith}
-use Rattle.views.proofs.OutputSteps.{line-within, output-steps}
+use Rattle.views.proofs.OutputSteps.{line-within, output_steps}
 use borrow.Author.Rules.{rules}
 use Rattle.views.proofs.program.put_output.Statement.{statement}
 use Rattle.views.proofs.program.put_output.Tie as tie
@@ -23,13 +23,13 @@ same_length : tie.Need-same-length
 same_length c = search rules
 
 returns : tie.Need-returns
-returns c = search (rules, output-steps)
+returns c = search (rules, output_steps)
 
 same-length-2 : tie.Need-same-length-2
 same-length-2 c = search rules
 
 returns-2 : tie.Need-returns-2
-returns-2 c = search (rules, output-steps)
+returns-2 c = search (rules, output_steps)
 
 pub put-output-spec : {M : Type 1} → statement M
 put-output-spec =
