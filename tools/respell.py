@@ -34,10 +34,12 @@ def functions():
     return found
 
 
-def respelled(text, names, kept=()):
+def respelled(text, names, kept=(), source=False):
     def one(m):
         word = m.group(0)
         before = text[max(0, m.start() - 4):m.start()]
+        if source and word in kept:
+            return word
         if before.endswith("tie.") or word.startswith("Need-"):
             return word
         if before.endswith(".") and word.replace("-", "_") in kept:
@@ -47,15 +49,15 @@ def respelled(text, names, kept=()):
     return WORD.sub(one, text)
 
 
-def outside(text, names, kept):
+def outside(text, names, kept, source=False):
     """Respelled but for strings and comments, where a name between backquotes is respelled alone."""
     parts, at = [], 0
     for m in STRING_OR_COMMENT.finditer(text):
-        parts.append(respelled(text[at:m.start()], names, kept))
+        parts.append(respelled(text[at:m.start()], names, kept, source))
         said = m.group(0)
         parts.append(said if said.startswith('"') else QUOTED.sub(lambda q: respelled(q.group(0), names), said))
         at = m.end()
-    parts.append(respelled(text[at:], names, kept))
+    parts.append(respelled(text[at:], names, kept, source))
     return "".join(parts)
 
 
@@ -82,7 +84,9 @@ def main():
         dirs[:] = [d for d in dirs if d not in (".git", "out", "target", "second", "tools")]
         for name in files:
             path = os.path.join(folder, name)
-            if name.endswith((".antt", ".rt")):
+            if name.endswith(".rt"):
+                turn = lambda text: outside(text, names, kept, source=True)
+            elif name.endswith(".antt"):
                 by_hand = kept if name == "Proof.antt" else ()
                 turn = lambda text: outside(text, names, by_hand)
             elif name.endswith(".edit"):

@@ -5,14 +5,14 @@
 use farm::Refusal;
 
 // Yes or no, each with the number of herds that were added up.
-#[derive(Drop)]
+#[derive(Clone, Copy)]
 pub enum Above {
     Yes(usize),
     No(usize),
 }
 
 // The answer of a farm's record, or of a file.
-#[derive(Drop)]
+#[derive(Clone, Copy)]
 pub enum LineAnswer {
     Screened(Above),
     Refused(Refusal, usize),

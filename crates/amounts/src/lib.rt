@@ -26,7 +26,7 @@ pub const TEN_THOUSANDTHS: u64 = 10000;
 pub const BILLIONTHS: u64 = 1000000000;
 
 // A portion of the N, and the same of the TAN in it.
-#[derive(Drop)]
+#[derive(Clone, Copy)]
 pub struct Parts {
     pub n: Quotient,
     pub tan: Quotient,

@@ -1,7 +1,7 @@
 // The commands of the program by the numbers of their pages of help. Made by docs/tables from docs/help.txt.
 
 // A command of the program, or one of those that ./urvendlo alone has.
-#[derive(Drop)]
+#[derive(Clone, Copy)]
 pub enum Command {
     Help,
     Figures,

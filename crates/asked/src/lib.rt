@@ -7,14 +7,14 @@ use digits::Number;
 use wide_numbers::WideNumber;
 
 // The command that a word asks for, by the number of its page of help.
-#[derive(Drop)]
+#[derive(Clone, Copy)]
 pub enum Asked {
     Page(usize),
     Nothing,
 }
 
 // What a word says of a descriptor.
-#[derive(Drop)]
+#[derive(Clone, Copy)]
 pub enum Descriptor {
     Of(i32),
     Nothing,
@@ -22,7 +22,7 @@ pub enum Descriptor {
 
 // What the words behind a command say of the file: is it a cooperative's, where its name stands, and where the words
 // end that say so.
-#[derive(Drop)]
+#[derive(Clone, Copy)]
 pub struct File {
     pub cooperative: bool,
     pub name: usize,

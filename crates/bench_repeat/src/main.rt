@@ -33,7 +33,7 @@ const INPUT_MOST: usize = HEAD + limits::COOPERATIVE_BYTES + 1;
 // A herd of any kind has this many slots in use.
 const SLOTS_LEAST: u64 = 4;
 
-#[derive(Drop)]
+#[derive(Clone, Copy)]
 enum Mode {
     Whole,
     Reading,

@@ -11,14 +11,14 @@ use outputs::Totals;
 use reader::FileAnswer;
 
 // What reading into an array gives: the refusal and the book of no herds, or the book of the file's.
-#[derive(Drop)]
+#[derive(Clone, Copy)]
 pub struct BookAnswer {
     pub checked: Checked,
     pub book: Book,
 }
 
 // A file read, and the totals of its herds; of a refusal those of no herds.
-#[derive(Drop)]
+#[derive(Clone, Copy)]
 struct Read {
     answer: FileAnswer,
     totals: Totals,

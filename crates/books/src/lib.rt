@@ -8,7 +8,7 @@ use outputs::Totals;
 pub mod numbers; // the refusals' numbers
 
 // How many herds the farm has, and what their figures come to.
-#[derive(Drop)]
+#[derive(Clone, Copy)]
 pub struct Book {
     pub count: usize,
     pub totals: Totals,
@@ -16,7 +16,7 @@ pub struct Book {
 
 // What is done with the herd that a step names: it is put in as the last, in the place of the one of its label, or
 // taken out.
-#[derive(Drop)]
+#[derive(Clone, Copy)]
 pub enum Step {
     Add,
     Replace,
@@ -24,7 +24,7 @@ pub enum Step {
 }
 
 // What is wrong: one of 01's refusals, a label that no herd has, or a total that is larger than any farm's.
-#[derive(Drop)]
+#[derive(Clone, Copy)]
 pub enum StepRefusal {
     Record(Refusal),
     NotPresent,
@@ -32,14 +32,14 @@ pub enum StepRefusal {
 }
 
 // What was decided of a step: it was done, or nothing was changed.
-#[derive(Drop)]
+#[derive(Clone, Copy)]
 pub enum Decided {
     Done,
     Refused(StepRefusal),
 }
 
 // What a step is answered with: what was decided, and the book afterwards.
-#[derive(Drop)]
+#[derive(Clone, Copy)]
 pub struct StepAnswer {
     pub decided: Decided,
     pub book: Book,
@@ -47,7 +47,7 @@ pub struct StepAnswer {
 
 // What a step on a farm by value comes to: the farm's herds afterwards and their totals. Of a refused step no herd, and
 // the totals as they were.
-#[derive(Drop)]
+#[derive(Clone, Copy)]
 pub struct Stepped {
     pub decided: Decided,
     pub farm: Farm,

@@ -6,7 +6,7 @@ ghost use Rattle.std.specs.Prelude.{◌≡◌};
 ghost use Rattle.calendar.specs.Calendar.{is_leap, days_in, same_day, same_date, is_leap_day};
 ghost use Rattle.calendar.specs.Following.{is_due, due_after};
 
-#[derive(Drop)]
+#[derive(Clone, Copy)]
 pub struct Date {
     pub year: u32,
     pub month: u32,
@@ -14,7 +14,7 @@ pub struct Date {
 }
 
 // Which date may come next: 1 January of any year, this one, or none any more.
-#[derive(Drop)]
+#[derive(Clone, Copy)]
 pub enum Due {
     NewYear,
     On(Date),

@@ -6,7 +6,7 @@ pub mod messages; // what is said on standard error, the pages of help, and the 
 pub mod named; // a file that is read by its name
 
 // How a run ended: the answer was printed, the file was refused, or neither.
-#[derive(Drop)]
+#[derive(Clone, Copy)]
 pub enum Ended {
     Printed,
     Refused,

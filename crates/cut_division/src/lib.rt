@@ -5,7 +5,7 @@ ghost use Rattle.std.specs.Prelude.{◌≡◌, ◌+◌, ◌<◌, ◌^◌, pos, n
 ghost use Rattle.cut_division.specs.Cut.{quotient_of, ◌cut_by◌, Divides, undivided};
 
 // What a cut division hands back: the quotient, rounded down, what was cut off, and the divisor.
-#[derive(Drop)]
+#[derive(Clone, Copy)]
 pub struct Quotient {
     pub whole: u64,
     pub cut_off: u64,

@@ -6,7 +6,7 @@
 pub mod names; // the names by number
 
 // What was cut off, and by what was divided, by the number of the name.
-#[derive(Drop)]
+#[derive(Clone, Copy)]
 pub struct Cuts {
     pub cut_off: [u64; names::COUNT],
     pub divisor: [u64; names::COUNT],

@@ -7,14 +7,14 @@ ghost use Rattle.dates.specs.Reading.{pair_of, date_of};
 use calendar::Date;
 
 // What a text says as a date.
-#[derive(Drop)]
+#[derive(Clone, Copy)]
 pub enum DateRead {
     Is(Date),
     Unreadable,
 }
 
 // What two bytes spell as digits.
-#[derive(Drop)]
+#[derive(Clone, Copy)]
 enum Spelled {
     Value(u8),
     NoDigits,

@@ -5,7 +5,7 @@ ghost use Rattle.std.specs.Prelude.{◌≡◌, ◌≤◌, drop};
 ghost use Rattle.digits.specs.Digits.{up_to, with_digit, scaled_by, fraction_from, point_from};
 
 // What a text says as a number. A value counts units of ten to the minus the number of decimals that was asked for.
-#[derive(Drop)]
+#[derive(Clone, Copy)]
 pub enum Number {
     Value(u32),
     Unreadable,

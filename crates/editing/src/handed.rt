@@ -6,7 +6,7 @@ use farm::{Checked, Farm, Herd, LABEL_MOST, Refusal, herds, labels};
 use streams::Outcome;
 
 // A herd; or, where the run ended otherwise than printed, none.
-#[derive(Drop)]
+#[derive(Clone, Copy)]
 pub struct Handed {
     pub herd: Herd,
     pub ended: Ended,

@@ -15,14 +15,14 @@ use outputs::Totals;
 use streams::Outcome;
 
 // By which limits the files of a run are read, and whether only the farm's file is printed, after the last step.
-#[derive(Drop)]
+#[derive(Clone, Copy)]
 pub struct Manner {
     pub source: Source,
     pub only_farm: bool,
 }
 
 // A farm with its totals, and how the run has ended so far.
-#[derive(Drop)]
+#[derive(Clone, Copy)]
 pub struct Edited {
     pub farm: Farm,
     pub totals: Totals,

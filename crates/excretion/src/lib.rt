@@ -12,7 +12,7 @@ use amounts::TEN_THOUSANDTHS;
 use cut_division::Quotient;
 use kinds::Entered;
 
-#[derive(Drop)]
+#[derive(Clone, Copy)]
 pub struct Excretion {
     pub n_excretion: u64,
     pub tan_excretion: Quotient,

@@ -16,7 +16,7 @@ pub const SLOTS: usize = 9;
 pub const HERDS_MOST: usize = 512;
 
 // The bytes in use are the first `len`.
-#[derive(Drop)]
+#[derive(Clone, Copy)]
 pub struct Label {
     pub bytes: [u8; LABEL_MOST],
     pub len: usize,
@@ -24,7 +24,7 @@ pub struct Label {
 
 // What a record says of an input: nothing, `standard`, a number in units of its last decimal or the place of a name in
 // its list, or a whole number that may be below zero.
-#[derive(Drop)]
+#[derive(Clone, Copy)]
 pub enum Given {
     Missing,
     Standard,
@@ -32,13 +32,13 @@ pub enum Given {
     Signed(i32),
 }
 
-#[derive(Drop)]
+#[derive(Clone, Copy)]
 pub struct Slot {
     pub given: Given,
 }
 
 // A slot for each input of the kind, in the order of 01's list; slots behind them say nothing.
-#[derive(Drop)]
+#[derive(Clone, Copy)]
 pub struct Herd {
     pub label: Label,
     pub kind: Kind,
@@ -46,14 +46,14 @@ pub struct Herd {
 }
 
 // The herds are the first `count`.
-#[derive(Drop)]
+#[derive(Clone, Copy)]
 pub struct Farm {
     pub herds: [Herd; HERDS_MOST],
     pub count: usize,
 }
 
 // What is wrong: 01's refusals, in its order.
-#[derive(Drop)]
+#[derive(Clone, Copy)]
 pub enum Refusal {
     FileTooLong,
     RecordBroken,
@@ -71,7 +71,7 @@ pub enum Refusal {
 }
 
 // What a check finds: nothing, or a fault and the record that has it.
-#[derive(Drop)]
+#[derive(Clone, Copy)]
 pub enum Checked {
     Accepted,
     Refused(Refusal, usize),

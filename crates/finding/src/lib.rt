@@ -12,14 +12,14 @@ use inputs::{Form, Kind};
 use words::{Found, modules};
 
 // An input of the list, by its kind and slot, and its form; if there is one.
-#[derive(Drop)]
+#[derive(Clone, Copy)]
 pub enum FoundInput {
     At(Kind, usize, Form),
     Nowhere,
 }
 
 // A module: its kind, and the slots of its inputs, from the first to before the last.
-#[derive(Drop)]
+#[derive(Clone, Copy)]
 enum Module {
     Of(Kind, usize, usize),
     Nowhere,

@@ -9,14 +9,14 @@ use lib.ListN.{length, drop}
 use borrow.Author.Tests.{not-true, not-false}
 use Rattle.base.specs.Pick.{pick}
 use Rattle.base.proofs.Clash.{clash}
-use Rattle.csv.specs.declared.Fields.{Fields}
-use Rattle.csv.specs.declared.ReaderPlace.{ReaderPlace}
-use Rattle.csv.specs.declared.Step.{Step}
-use Rattle.csv.specs.declared.Step.TheVariants.{Record, Broken, End}
+use Rattle.csv_reader.specs.declared.Fields.{Fields}
+use Rattle.csv_reader.specs.declared.ReaderPlace.{ReaderPlace}
+use Rattle.csv_reader.specs.declared.Step.{Step}
+use Rattle.csv_reader.specs.declared.Step.TheVariants.{Record, Broken, End}
 use Rattle.grammar.specs.Reading.{reading_of, parts_of}
-use Rattle.csv.specs.Places.{parts_at, step_of}
-use Rattle.csv.specs.Outcome.{ReadAs}
-use Rattle.csv.proofs.Steps.{Says, says, next-reads, end_read}
+use Rattle.csv_reader.specs.Places.{parts_at, step_of}
+use Rattle.csv_reader.specs.Outcome.{ReadAs}
+use Rattle.csv_reader.proofs.Steps.{Says, says, next-reads, end_read}
 use Rattle.calendar.specs.declared.Date.{Date}
 use Rattle.calendar.specs.declared.Due.{Due}
 use Rattle.calendar.specs.declared.Due.TheVariants.{NewYear, On, Nothing}

@@ -12,14 +12,14 @@ use outdoors::{Outdoors, Tally};
 pub const LOG_MOST: usize = 65536;
 
 // How far a log is read: which date is due, and what the days so far come to.
-#[derive(Drop)]
+#[derive(Clone, Copy)]
 pub struct Progress {
     pub due: Due,
     pub tally: Tally,
 }
 
 // What a log is answered with.
-#[derive(Drop)]
+#[derive(Clone, Copy)]
 pub enum LogAnswer {
     Gives(Outdoors),
     Refused(LogRefusal, usize),

@@ -6,13 +6,13 @@ ghost use Rattle.gate.specs.Logs.{taken_by, nothing_read, finished, read_from, l
 
 use crate::{LOG_MOST, LogAnswer, Progress};
 use calendar::Due;
-use csv::{ReaderPlace, Step};
+use csv_reader::{ReaderPlace, Step};
 use gate_days::days::DayRead;
 use gate_days::{LogRefusal, days};
 use outdoors::{Tally, tallies};
 
 // What a record does: it takes reading further, or something is wrong with it.
-#[derive(Drop)]
+#[derive(Clone, Copy)]
 pub enum Taken {
     Further(Progress),
     Wrong(LogRefusal),

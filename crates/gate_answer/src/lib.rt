@@ -13,7 +13,7 @@ use gate_days::faults;
 pub const ANSWER_ROOM: usize = lines_outdoors::LINES_ROOM;
 
 // An answer, and its bytes from the front on; those behind them are zeros.
-#[derive(Drop)]
+#[derive(Clone, Copy)]
 pub struct PutAnswer {
     pub answer: LogAnswer,
     pub bytes: [u8; ANSWER_ROOM],

@@ -11,8 +11,8 @@ use Rattle.base.specs.Pick.{pick}
 use Rattle.base.proofs.Clash.{clash}
 use Rattle.grammar.specs.Reading.{Parts}
 use Rattle.plain_fields.specs.Places.{held}
-use Rattle.csv.specs.Places.{parts_at}
-use Rattle.csv.specs.declared.Fields.{Fields}
+use Rattle.csv_reader.specs.Places.{parts_at}
+use Rattle.csv_reader.specs.declared.Fields.{Fields}
 use Rattle.digits.specs.declared.Number.{Number}
 use Rattle.digits.specs.declared.Number.TheVariants.{Value, Unreadable}
 use Rattle.numbers.specs.Reading.{number_of}

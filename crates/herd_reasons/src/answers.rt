@@ -20,7 +20,7 @@ pub fn herd_reason(h: Herd) -> ReasonAnswer
     ensures { result ≡ reason_answer h }
 {
     match checks::check_herd(h) {
-        Checked::Accepted => told_answer(crate::told_of_lem(herd_inputs::typed_of(h))),
+        Checked::Accepted => told_answer(crate::told_of(herd_inputs::typed_of(h))),
         Checked::Refused(refusal, record) => ReasonAnswer::Refused(refusal, record),
     }
 }

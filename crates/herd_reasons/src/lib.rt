@@ -67,7 +67,7 @@ pub fn why_of(o: Outdoor) -> Why
 }
 
 // A kind with the module `Outdoor` is told the reason; the others have no yard.
-pub fn told_of_lem(inputs: Inputs) -> YardReason
+pub fn told_of(inputs: Inputs) -> YardReason
     requires { Sound inputs }
     ensures { result ≡ told_of inputs }
 {

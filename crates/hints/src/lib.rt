@@ -13,7 +13,7 @@ use limits::Source;
 use reach::Reach;
 
 // What a file is read as: a farm, by the limits of where it comes from, or a gate's log.
-#[derive(Drop)]
+#[derive(Clone, Copy)]
 pub enum Input {
     Farm(Source),
     Log,

@@ -17,14 +17,14 @@ use cut_division::Quotient;
 use kinds::Roughage;
 
 // What the emission factor is made of: c_grazing, multiplied by er_housing, and then by c_free_factor_housing.
-#[derive(Drop)]
+#[derive(Clone, Copy)]
 pub struct Factors {
     pub c_grazing: Quotient,
     pub times_er_housing: Quotient,
     pub times_c_free_factor_housing: Quotient,
 }
 
-#[derive(Drop)]
+#[derive(Clone, Copy)]
 pub struct Housing {
     pub n_into_housing: u64,
     pub tan_into_housing: u64,

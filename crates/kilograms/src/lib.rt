@@ -8,13 +8,13 @@ ghost use Rattle.kilograms.specs.Kilograms.{exact_most, in_kilograms, kilograms_
 use outputs::{Figures, Totals, names, total_names};
 
 // A herd's figures in kilograms of nitrogen a year.
-#[derive(Drop)]
+#[derive(Clone, Copy)]
 pub struct Kilograms {
     pub kilograms: [f64; names::COUNT],
 }
 
 // A farm's totals in kilograms of nitrogen a year.
-#[derive(Drop)]
+#[derive(Clone, Copy)]
 pub struct TotalKilograms {
     pub kilograms: [f64; total_names::COUNT],
 }

@@ -10,7 +10,7 @@ use limits::{COOPERATIVE_BYTES, COOPERATIVE_HERDS, Limits};
 use reader::FileAnswer;
 
 // What reading into an array gives: how many herds the file has, or the refusal and 0.
-#[derive(Drop)]
+#[derive(Clone, Copy)]
 pub struct LentAnswer {
     pub checked: Checked,
     pub count: usize,

@@ -6,14 +6,14 @@ ghost use Rattle.std.specs.Prelude.{◌≡◌};
 ghost use Rattle.limits.specs.Limits.{limits_of};
 
 // At most so many bytes, and at most so many herds.
-#[derive(Drop)]
+#[derive(Clone, Copy)]
 pub struct Limits {
     pub bytes: usize,
     pub herds: usize,
 }
 
 // Where a file comes from: the program's standard input, or a cooperative (02, W12).
-#[derive(Drop)]
+#[derive(Clone, Copy)]
 pub enum Source {
     StandardInput,
     Cooperative,

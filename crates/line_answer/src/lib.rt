@@ -8,7 +8,7 @@ use above_line::LineAnswer;
 use limits::Source;
 
 // An answer, and its bytes from the front on; those behind them are zeros.
-#[derive(Drop)]
+#[derive(Clone, Copy)]
 pub struct PutLine {
     pub answer: LineAnswer,
     pub bytes: [u8; lines_above::ANSWER_ROOM],

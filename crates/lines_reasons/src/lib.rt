@@ -21,7 +21,7 @@ use line_parts::labels;
 use reasons::{Reason, Why, YardReason};
 
 // A reason's record, or its sentence.
-#[derive(Drop)]
+#[derive(Clone, Copy)]
 pub enum Wording {
     Record,
     Sentence,
@@ -167,7 +167,7 @@ pub fn put_herd(out: &mut [u8], at: usize, h: Herd, wording: Wording) -> usize
         out,
         at,
         h.label,
-        herd_reasons::told_of_lem(herd_inputs::typed_of(h)),
+        herd_reasons::told_of(herd_inputs::typed_of(h)),
         wording,
     )
 }

@@ -17,7 +17,7 @@ pub use spreadsheet::change_count;
 pub const ENTRY: usize = 2;
 
 // What the call says: the mended file's length and the number of changes, or the refusal and its record.
-#[derive(Drop)]
+#[derive(Clone, Copy)]
 pub enum Answer {
     Mended(usize, usize),
     Refused(Refusal, usize),

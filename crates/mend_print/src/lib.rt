@@ -27,7 +27,7 @@ const ROUND: usize = 2048;
 
 const ROUND_ROOM: usize = ROUND * lines::NUMBER_ROOM;
 
-#[derive(Drop)]
+#[derive(Clone, Copy)]
 pub enum Input {
     File(usize),
     Failed,

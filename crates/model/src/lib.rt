@@ -9,7 +9,7 @@ use notes::Notes;
 use outputs::{Figures, Totals};
 
 // What a herd's record gives: its figures in grams and in kilograms, notes and cuts, or the refusal and zeros.
-#[derive(Drop)]
+#[derive(Clone, Copy)]
 pub struct HerdAnswer {
     pub checked: Checked,
     pub figures: Figures,
@@ -19,7 +19,7 @@ pub struct HerdAnswer {
 }
 
 // What a farm's record gives: its totals in grams and in kilograms, or the refusal and zeros.
-#[derive(Drop)]
+#[derive(Clone, Copy)]
 pub struct FarmAnswer {
     pub checked: Checked,
     pub totals: Totals,

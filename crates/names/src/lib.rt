@@ -11,7 +11,7 @@ use words::Found;
 
 // The lists. A new one is a list in specs/Names.antt, a variant here and its two arms: how many names it has, and its
 // names as words. A name of another length is passed by in one step.
-#[derive(Drop)]
+#[derive(Clone, Copy)]
 pub enum ValueList {
     Categories,
     Yards,

@@ -2,7 +2,7 @@
 // crate `herd_notes` computes it.
 #![tactic(auto)]
 
-#[derive(Drop)]
+#[derive(Clone, Copy)]
 pub struct Notes {
     pub n_off_standard: bool,
     pub tan_off_standard: bool,

@@ -9,7 +9,7 @@ use digits::Number;
 use farm::Given;
 
 // What a value's text says: a value, a `standard` that 6 forbids, or nothing that its input may be.
-#[derive(Drop)]
+#[derive(Clone, Copy)]
 pub enum ValueRead {
     Is(Given),
     Forbidden,

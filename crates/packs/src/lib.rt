@@ -10,7 +10,7 @@ use streams::Outcome;
 const LENGTH_BYTES: usize = 4;
 
 // The next file's length; or there is none, or not all of it, or it is longer than the buffer.
-#[derive(Drop)]
+#[derive(Clone, Copy)]
 pub enum Packed {
     File(usize),
     End,

@@ -19,7 +19,7 @@ use kinds::{HousingType, Outdoor, Roughage};
 use rates::Rates;
 
 // What a pasture emits.
-#[derive(Drop)]
+#[derive(Clone, Copy)]
 pub struct Gases {
     pub nh3: Quotient,
     pub n2: Quotient,
@@ -27,7 +27,7 @@ pub struct Gases {
     pub n2o: Quotient,
 }
 
-#[derive(Drop)]
+#[derive(Clone, Copy)]
 pub struct Grazing {
     pub into: Parts,
     pub gases: Gases,

@@ -3,11 +3,11 @@
 use Prim.Native.Nat.{ℕ}
 use mathlib.Core.Path.{◌≡◌, sym, ap, ◌∙◌}
 use mathlib.Core.List.{List}
-use Rattle.csv.specs.declared.Fields.{Fields}
-use Rattle.csv.specs.declared.ReaderPlace.{ReaderPlace}
-use Rattle.csv.specs.declared.Step.{Step}
-use Rattle.csv.specs.declared.Step.TheVariants.{Record, Broken, End}
-use Rattle.csv.specs.Places.{parts_at, step_of}
+use Rattle.csv_reader.specs.declared.Fields.{Fields}
+use Rattle.csv_reader.specs.declared.ReaderPlace.{ReaderPlace}
+use Rattle.csv_reader.specs.declared.Step.{Step}
+use Rattle.csv_reader.specs.declared.Step.TheVariants.{Record, Broken, End}
+use Rattle.csv_reader.specs.Places.{parts_at, step_of}
 use Rattle.farm.specs.declared.Herd.{Herd}
 use Rattle.farm.specs.declared.Refusal.TheVariants.{RecordBroken}
 use Rattle.records.specs.declared.Entry.{Entry}

@@ -1,10 +1,10 @@
 -- What stands at a place of a file does to the herd being read. It mirrors the code for its contracts; that this gives
 -- the first that applies of 2 to 11 is shown in `reader/proofs/Effects`.
 use Rattle.std.specs.Prelude.{ℕ, List}
-use Rattle.csv.specs.declared.ReaderPlace.{ReaderPlace}
-use Rattle.csv.specs.declared.Step.{Step}
-use Rattle.csv.specs.declared.Step.TheVariants.{Record, Broken, End}
-use Rattle.csv.specs.Places.{parts_at, step_of}
+use Rattle.csv_reader.specs.declared.ReaderPlace.{ReaderPlace}
+use Rattle.csv_reader.specs.declared.Step.{Step}
+use Rattle.csv_reader.specs.declared.Step.TheVariants.{Record, Broken, End}
+use Rattle.csv_reader.specs.Places.{parts_at, step_of}
 use Rattle.farm.specs.declared.Herd.{Herd}
 use Rattle.farm.specs.declared.Refusal.TheVariants.{RecordBroken}
 use Rattle.records.specs.Entries.{entry_of}

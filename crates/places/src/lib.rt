@@ -4,13 +4,13 @@
 ghost use Rattle.std.specs.Prelude.{◌≡◌};
 ghost use Rattle.places.specs.Places.{read_at};
 
-use csv::{ReaderPlace, Step};
+use csv_reader::{ReaderPlace, Step};
 use farm::{Herd, Refusal};
 use progress::Effect;
 use records::entries;
 
 // What stands at a place of the file: its effect, the herd that is being read then, and the place past it.
-#[derive(Drop)]
+#[derive(Clone, Copy)]
 pub struct PlaceRead {
     pub effect: Effect,
     pub herd: Herd,

@@ -6,14 +6,14 @@ ghost use Rattle.std.specs.Prelude.{◌≡◌, ◌+◌, drop};
 ghost use Rattle.plain_fields.specs.Places.{place, line_from, ends_plain, plain_stop, plain_from};
 
 // Where a field's content stands in the file: from its first byte to before `to`.
-#[derive(Drop)]
+#[derive(Clone, Copy)]
 pub struct Place {
     pub from: usize,
     pub to: usize,
 }
 
 // How a field ends: where it stands, and where reading goes on.
-#[derive(Drop)]
+#[derive(Clone, Copy)]
 pub enum FieldEnd {
     Comma(Place, usize),
     Crlf(Place, usize),

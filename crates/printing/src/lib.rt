@@ -12,7 +12,7 @@ use views::{Output, View, program};
 use written::Written;
 
 // What was printed: what the view lists of the farm, the refusal's line, or not all of either.
-#[derive(Drop)]
+#[derive(Clone, Copy)]
 pub enum Printed {
     Listed,
     Refused(Refusal, usize),

@@ -12,7 +12,7 @@ use records::{Entry, RecordRead};
 
 // What comes next does to the herd being read: it is a record that adds to it, that begins another, or that is wrong;
 // or the file ends.
-#[derive(Drop)]
+#[derive(Clone, Copy)]
 pub enum Effect {
     Adds,
     Begins,
@@ -21,7 +21,7 @@ pub enum Effect {
 }
 
 // The effect, and the herd that is being read then.
-#[derive(Drop)]
+#[derive(Clone, Copy)]
 pub struct HerdAfter {
     pub effect: Effect,
     pub herd: Herd,

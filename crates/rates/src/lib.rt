@@ -9,7 +9,7 @@ ghost use Rattle.rates.specs.Bounds.{RatesOf};
 use kinds::CattleKind;
 
 // Emission rates in ten-thousandths, of NH3 from the TAN, of the others from the N.
-#[derive(Drop)]
+#[derive(Clone, Copy)]
 pub struct Rates {
     pub nh3: u64,
     pub n2: u64,

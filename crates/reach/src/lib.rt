@@ -8,7 +8,7 @@ ghost use Rattle.reach.specs.Reach.{reach_of, further};
 
 // How far reading a file came: not into it, since it is too long; to a record that is refused; to the end, where
 // something is missing; or through it.
-#[derive(Drop)]
+#[derive(Clone, Copy)]
 pub enum Reach {
     TooLong,
     At(usize),

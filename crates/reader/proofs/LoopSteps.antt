@@ -9,11 +9,11 @@ use lib.Dec.{leb, lit<}
 use lib.ListN.{length, take, drop, set, replicate, length-set, length-replicate}
 use borrow.Author.Tests.{leb-false}
 use Rattle.base.specs.First.{first}
-use Rattle.csv.specs.declared.ReaderPlace.{ReaderPlace}
-use Rattle.csv.specs.declared.Step.{Step}
+use Rattle.csv_reader.specs.declared.ReaderPlace.{ReaderPlace}
+use Rattle.csv_reader.specs.declared.Step.{Step}
 use Rattle.grammar.specs.Reading.{Parts, reading_of}
-use Rattle.csv.specs.Places.{parts_at}
-use Rattle.csv.proofs.Steps.{Says, says, end_read}
+use Rattle.csv_reader.specs.Places.{parts_at}
+use Rattle.csv_reader.proofs.Steps.{Says, says, end_read}
 use Rattle.farm.specs.declared.Herd.{Herd}
 use Rattle.farm.specs.declared.Farm.{Farm}
 use Rattle.farm.specs.declared.Refusal.{Refusal}

@@ -5,13 +5,13 @@ ghost use Rattle.farm.specs.Limits.{herds_most};
 ghost use Rattle.reader.specs.Files.{refused, nothing_read, read_from};
 
 use crate::FileAnswer;
-use csv::ReaderPlace;
+use csv_reader::ReaderPlace;
 use farm::{Checked, Farm, HERDS_MOST, Herd, Refusal, herds, prints};
 use progress::Effect;
 
 // The herd being read, and the number of its first record, 0 where there is none yet; and of the herds before it, the
 // first record of the first that lacks an input, 0 where none does.
-#[derive(Drop)]
+#[derive(Clone, Copy)]
 struct Current {
     herd: Herd,
     first: usize,

@@ -8,7 +8,7 @@ pub mod files; // the records from the front, each by crates `places` and `next_
 use farm::{Checked, Farm};
 
 // What a file gives: its farm, or the refusal and a farm of no herds.
-#[derive(Drop)]
+#[derive(Clone, Copy)]
 pub struct FileAnswer {
     pub checked: Checked,
     pub farm: Farm,

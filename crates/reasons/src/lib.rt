@@ -6,7 +6,7 @@
 use farm::Refusal;
 
 // In 02's order.
-#[derive(Drop)]
+#[derive(Clone, Copy)]
 pub enum Reason {
     NoSuchDays,
     NotAvailable,
@@ -15,7 +15,7 @@ pub enum Reason {
 }
 
 // The reason, the number of days with both, and the yard's shares in tenths: as chosen, and on those days.
-#[derive(Drop)]
+#[derive(Clone, Copy)]
 pub struct Why {
     pub reason: Reason,
     pub days: u64,
@@ -24,14 +24,14 @@ pub struct Why {
 }
 
 // What a kind of herd is told: the reason, or that it has no yard.
-#[derive(Drop)]
+#[derive(Clone, Copy)]
 pub enum YardReason {
     Because(Why),
     NoYard,
 }
 
 // The answer of a herd's record; `NoHerd` is that of a file that has no such herd.
-#[derive(Drop)]
+#[derive(Clone, Copy)]
 pub enum ReasonAnswer {
     Given(Why),
     NoHerd,

@@ -6,8 +6,8 @@ use mathlib.Core.Bool.{Bool, true, false, not}
 use mathlib.Core.List.{List}
 use borrow.Author.Tests.{eq-eqb, ne_eqb}
 use Rattle.plain_fields.specs.Places.{held}
-use Rattle.csv.specs.Places.{parts_at}
-use Rattle.csv.specs.declared.Fields.{Fields}
+use Rattle.csv_reader.specs.Places.{parts_at}
+use Rattle.csv_reader.specs.declared.Fields.{Fields}
 use Rattle.inputs.specs.declared.Form.{Form}
 use Rattle.inputs.specs.declared.Kind.{Kind}
 use Rattle.finding.specs.declared.FoundInput.{FoundInput}

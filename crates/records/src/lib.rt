@@ -8,14 +8,14 @@ use farm::{Given, Label, Refusal};
 use inputs::Kind;
 
 // What a record says by itself: a value for the input of this kind and slot, or what is wrong with it.
-#[derive(Drop)]
+#[derive(Clone, Copy)]
 pub enum RecordRead {
     Gives(Kind, usize, Given),
     Wrong(Refusal),
 }
 
 // A record's label and what it says.
-#[derive(Drop)]
+#[derive(Clone, Copy)]
 pub struct Entry {
     pub label: Label,
     pub read: RecordRead,

@@ -11,7 +11,7 @@ use Rattle.base.specs.Each.{Each, more}
 use Rattle.base.specs.Reordered.{Reordered, next, swap, chain}
 use Rattle.base.proofs.Reordered.{reordered_back, reordered_length, each_reordered}
 use Rattle.grammar.specs.Grammar.{FileOf}
-use Rattle.csv.proofs.Promises.{one-reading}
+use Rattle.csv_reader.proofs.Promises.{one-reading}
 use Rattle.inputs.specs.declared.Kind.{Kind}
 use Rattle.farm.specs.declared.Given.{Given}
 use Rattle.farm.specs.declared.Herd.{Herd}

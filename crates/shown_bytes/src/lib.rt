@@ -8,7 +8,7 @@ ghost use Rattle.shown_bytes.specs.Shown.{between, harmless, letter, form_needed
 ghost use Rattle.shown_bytes.specs.Shown.{octal, in_quotes, stays, escaped, shown, byte_most};
 
 // How a name is shown: as it is, in single quotes, or between $' and ' with what stands behind backslashes.
-#[derive(Drop)]
+#[derive(Clone, Copy)]
 pub enum Form {
     Plain,
     Quoted,

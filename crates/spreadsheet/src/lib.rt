@@ -11,7 +11,7 @@ ghost use Rattle.spreadsheet.specs.Passed.{passed_of, and_byte, bare_after, crs_
 const MARK: [u8; 3] = [0xEF, 0xBB, 0xBF];
 
 // The bytes that were passed: is the last of them a CR, and are their quotes even in number?
-#[derive(Drop)]
+#[derive(Clone, Copy)]
 pub struct Passed {
     pub cr: bool,
     pub even: bool,

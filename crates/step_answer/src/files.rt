@@ -6,7 +6,7 @@ use limits::Source;
 use outputs::Totals;
 
 // Whether the file is accepted, its farm and the totals; of a refused file no herds.
-#[derive(Drop)]
+#[derive(Clone, Copy)]
 pub struct Opened {
     pub checked: Checked,
     pub farm: Farm,

@@ -16,7 +16,7 @@ pub const ANSWER_ROOM: usize = 784;
 
 // What was decided of a step, the farm and its totals afterwards, and what is printed for the step: its bytes stand
 // from the front on, before zeros.
-#[derive(Drop)]
+#[derive(Clone, Copy)]
 pub struct Taken {
     pub decided: Decided,
     pub farm: Farm,

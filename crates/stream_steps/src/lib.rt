@@ -7,7 +7,7 @@ ghost use Rattle.stream_steps.specs.Steps.{fault_of, moved_of, onward_of, after_
 
 // What one read or write gave: so many bytes; none, which is the end of an input; a signal or a stream that was not
 // ready; or an error.
-#[derive(Drop)]
+#[derive(Clone, Copy)]
 pub enum Moved {
     Bytes(usize),
     Nothing,
@@ -16,7 +16,7 @@ pub enum Moved {
 }
 
 // What to do next: go on from a place, try once more, or stop, after so many bytes or with an error.
-#[derive(Drop)]
+#[derive(Clone, Copy)]
 pub enum Step {
     On(usize),
     Wait,

@@ -9,7 +9,7 @@ use libc::{STDIN_FILENO, STDOUT_FILENO};
 use stream_steps::{Moved, Step};
 
 // How a whole reading or writing ends: after so many bytes, or with an error.
-#[derive(Drop)]
+#[derive(Clone, Copy)]
 pub enum Outcome {
     Whole(usize),
     Broken,

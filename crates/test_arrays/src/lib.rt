@@ -14,13 +14,13 @@ use lent_file::LentAnswer;
 pub const SHORT: usize = 3;
 
 // What a call answered, and all that the array holds then.
-#[derive(Drop)]
+#[derive(Clone, Copy)]
 pub struct Through {
     pub answer: LentAnswer,
     pub herds: [Herd; HERDS_MOST],
 }
 
-#[derive(Drop)]
+#[derive(Clone, Copy)]
 pub struct ThroughShort {
     pub answer: LentAnswer,
     pub herds: [Herd; SHORT],

@@ -10,13 +10,13 @@ use farm::{HERDS_MOST, Herd};
 use test_arrays::SHORT;
 
 // What a step was answered with, and all that the array holds then.
-#[derive(Drop)]
+#[derive(Clone, Copy)]
 pub struct Through {
     pub answer: StepAnswer,
     pub herds: [Herd; HERDS_MOST],
 }
 
-#[derive(Drop)]
+#[derive(Clone, Copy)]
 pub struct ThroughShort {
     pub answer: StepAnswer,
     pub herds: [Herd; SHORT],

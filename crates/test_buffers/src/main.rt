@@ -39,7 +39,7 @@ const NOTES_LENGTH: usize = 19;
 const NUMBER_13: u64 = 13;
 
 // A writing call: of a record, of a file, or of a file's herd.
-#[derive(Drop)]
+#[derive(Clone, Copy)]
 enum Call {
     Herd(View),
     Totals,

@@ -17,7 +17,7 @@ pub const NUMBER: usize = 26;
 
 // A change of a record: of the label L the length or B a byte, of a slot V to a value, S to `standard` or M to nothing;
 // - is none.
-#[derive(Drop)]
+#[derive(Clone, Copy)]
 pub struct Change {
     pub what: u8,
     pub place: usize,

@@ -15,7 +15,7 @@ use packs::Packed;
 const WALK_MOST: usize = 65536;
 
 // A farm with its totals.
-#[derive(Drop)]
+#[derive(Clone, Copy)]
 struct Kept {
     farm: Farm,
     totals: Totals,

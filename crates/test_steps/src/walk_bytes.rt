@@ -25,7 +25,7 @@ const TOTALS_AT: usize = 3 * COUNT_BYTES;
 const HERDS_AT: usize = TOTALS_AT + total_names::COUNT * TOTAL_BYTES;
 
 // What the first numbers say.
-#[derive(Drop)]
+#[derive(Clone, Copy)]
 pub struct Head {
     pub room: usize,
     pub count: usize,

@@ -15,7 +15,7 @@ use views::View;
 use wide_numbers::WideNumber;
 
 // What is done with a file.
-#[derive(Drop)]
+#[derive(Clone, Copy)]
 enum Job {
     Farm(Question),
     Log,

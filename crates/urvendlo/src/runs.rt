@@ -14,7 +14,7 @@ use streams::Outcome;
 use views::View;
 
 // What is asked of a farm file: a view of it; or whether it is above a line of so many grams, in words too or not.
-#[derive(Drop)]
+#[derive(Clone, Copy)]
 pub enum Question {
     View(View),
     Line(u64, bool),

@@ -8,7 +8,7 @@ ghost use Rattle.numbers.specs.Reading.{whole_from};
 ghost use Rattle.wide_numbers.specs.Wide.{wide_most, Reads, widened};
 
 // What a text says as such a number.
-#[derive(Drop)]
+#[derive(Clone, Copy)]
 pub enum WideNumber {
     Value(u64),
     Unreadable,

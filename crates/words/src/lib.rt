@@ -10,7 +10,7 @@ ghost use Rattle.base.specs.Part.{same_bytes};
 ghost use Rattle.words.specs.Find.{first_from, find_text, modules, input_names, words_of, room_of};
 
 // A place in a list, if there is one.
-#[derive(Drop)]
+#[derive(Clone, Copy)]
 pub enum Found {
     At(usize),
     Nowhere,

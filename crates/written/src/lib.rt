@@ -8,7 +8,7 @@ ghost use Rattle.written.specs.Answer.{Answered};
 use farm::Refusal;
 
 // The length of what was written, or a fault and a record's number.
-#[derive(Drop)]
+#[derive(Clone, Copy)]
 pub enum Written {
     Length(usize),
     Refused(Refusal, usize),

@@ -21,7 +21,7 @@ use amounts::{PERCENT, Parts, TEN_THOUSANDTHS, TENTHS, YEAR};
 use cut_division::Quotient;
 use kinds::{ExerciseYard, Floor, Outdoor};
 
-#[derive(Drop)]
+#[derive(Clone, Copy)]
 pub struct Yard {
     pub into: Parts,
     pub nh3_nyard: Quotient,

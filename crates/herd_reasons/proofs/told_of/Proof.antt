@@ -1,4 +1,4 @@
--- `herd_reasons::told_of_lem` meets its contract, by the kind. Assumes nothing.
+-- `herd_reasons::told_of` meets its contract, by the kind. Assumes nothing.
 use Rattle.herd_reasons.proofs.Steps.{kind_steps}
 use borrow.Author.Rules.{rules}
 use Rattle.herd_reasons.proofs.told_of.Statement.{statement}

@@ -1,9 +1,9 @@
--- `csv::placed` meets its contract, by its test.
+-- `csv_reader::placed` meets its contract, by its test.
 -- Assumes nothing.
 use Rattle.base.proofs.Picks.{picks}
 use borrow.Author.Rules.{rules}
-use Rattle.csv.proofs.placed.Statement.{statement}
-use Rattle.csv.proofs.placed.Tie as tie
+use Rattle.csv_reader.proofs.placed.Statement.{statement}
+use Rattle.csv_reader.proofs.placed.Tie as tie
 
 returns : tie.Need-returns
 returns c = search (rules, picks)

@@ -1,12 +1,12 @@
 -- What the reader's outcome says of the file: the words in which the promises of `proofs/Promises.antt` are stated.
 use Rattle.std.specs.Prelude.{ℕ, ◌<◌, ◌≤◌, List, ◌≡◌, length, drop}
 use Rattle.plain_fields.specs.declared.Place.{Place}
-use Rattle.csv.specs.declared.Fields.{Fields}
-use Rattle.csv.specs.declared.ReaderPlace.{ReaderPlace}
-use Rattle.csv.specs.declared.Step.TheVariants.{Record}
+use Rattle.csv_reader.specs.declared.Fields.{Fields}
+use Rattle.csv_reader.specs.declared.ReaderPlace.{ReaderPlace}
+use Rattle.csv_reader.specs.declared.Step.TheVariants.{Record}
 use Rattle.grammar.specs.Grammar.{Front}
 use Rattle.grammar.specs.Reading.{◌then◌, reading_of, parts_of}
-use Rattle.csv.specs.Places.{parts_at, step_of}
+use Rattle.csv_reader.specs.Places.{parts_at, step_of}
 
 -- a place lies in the file
 pub record InFile (s : List ℕ) (p : Place) : Type 0 where

@@ -1,13 +1,13 @@
--- `csv::ReaderPlace::next` meets its contract. The invariant: the fields from `at` on, after those in f, give what is
+-- `csv_reader::ReaderPlace::next` meets its contract. The invariant: the fields from `at` on, after those in f, give what is
 -- sought, and there are no more fields than bytes were passed; the measure is what is left of the file. Assumes
 -- nothing.
 use Prim.Native.Nat.{◌≤◌, ◌-◌}
 use lib.ListN.{length}
-use Rattle.csv.specs.Places.{step_of}
-use Rattle.csv.proofs.Going.{Going, row_steps}
+use Rattle.csv_reader.specs.Places.{step_of}
+use Rattle.csv_reader.proofs.Going.{Going, row_steps}
 use borrow.Author.Rules.{rules}
-use Rattle.csv.proofs.ReaderPlace.next.Statement.{statement}
-use Rattle.csv.proofs.ReaderPlace.next.Tie as tie
+use Rattle.csv_reader.proofs.ReaderPlace.next.Statement.{statement}
+use Rattle.csv_reader.proofs.ReaderPlace.next.Tie as tie
 
 abbrev invariant-loop : tie.invariant-loop
 invariant-loop s at₀ f₀ at f = (at ≤ length s) × (f.count ≤ at) × Going s at f (step_of s at₀)

@@ -1,8 +1,8 @@
--- `csv::Fields::with_field` meets its contract: each of the four places is what `placed` gives.
+-- `csv_reader::Fields::with_field` meets its contract: each of the four places is what `placed` gives.
 -- Assumes nothing.
 use borrow.Author.Rules.{rules}
-use Rattle.csv.proofs.Fields.with_field.Statement.{statement}
-use Rattle.csv.proofs.Fields.with_field.Tie as tie
+use Rattle.csv_reader.proofs.Fields.with_field.Statement.{statement}
+use Rattle.csv_reader.proofs.Fields.with_field.Tie as tie
 
 add-t4 : tie.Need-overflow-add-t4
 add-t4 c = search rules

@@ -14,19 +14,19 @@ use Rattle.base.specs.Pick.{pick}
 use Rattle.base.specs.Part.{part}
 use Rattle.base.proofs.Rest.{rest_at, rest_end}
 use Rattle.plain_fields.specs.declared.Place.{Place}
-use Rattle.csv.specs.declared.Fields.{Fields}
-use Rattle.csv.specs.declared.ReaderPlace.{ReaderPlace}
+use Rattle.csv_reader.specs.declared.Fields.{Fields}
+use Rattle.csv_reader.specs.declared.ReaderPlace.{ReaderPlace}
 use Rattle.plain_fields.specs.declared.FieldEnd.{FieldEnd}
 use Rattle.plain_fields.specs.declared.FieldEnd.TheVariants as ends
-use Rattle.csv.specs.declared.Step.{Step}
-use Rattle.csv.specs.declared.Step.TheVariants.{Record, Broken, End}
+use Rattle.csv_reader.specs.declared.Step.{Step}
+use Rattle.csv_reader.specs.declared.Step.TheVariants.{Record, Broken, End}
 use Rattle.grammar.specs.Reading.{Row, row, with_field, at_start, Reading, end, reading_of, parts_of}
 use Rattle.plain_fields.specs.Places.{held}
 use Rattle.field_ends.specs.Places.{field_from}
-use Rattle.csv.specs.Places.{parts_at, reader, no_fields, and_field, row_from, step_of}
-use Rattle.csv.specs.Outcome.{InFile, Placed, ReadAs}
+use Rattle.csv_reader.specs.Places.{parts_at, reader, no_fields, and_field, row_from, step_of}
+use Rattle.csv_reader.specs.Outcome.{InFile, Placed, ReadAs}
 use Rattle.grammar.proofs.Cases.{by_test}
-use Rattle.csv.proofs.Contents.{FieldAt, field_at}
+use Rattle.csv_reader.proofs.Contents.{FieldAt, field_at}
 use Rattle.grammar.proofs.Agrees.{read-stands}
 use Rattle.grammar.proofs.Files.{reading-row, reading-broken, reading-none}
 

@@ -10,12 +10,12 @@
 ghost use Rattle.std.specs.Prelude.{◌≡◌, ◌^◌, ◌<◌};
 ghost use Rattle.base.specs.Pick.{if◌is◌then◌else◌};
 ghost use Rattle.plain_fields.specs.Places.{held};
-ghost use Rattle.csv.specs.Places.{no_fields, and_field, step_of};
+ghost use Rattle.csv_reader.specs.Places.{no_fields, and_field, step_of};
 
 use plain_fields::{FieldEnd, Place};
 
 // A record's fields: how many there are, and where the first four stand. A field that is not there has an empty place.
-#[derive(Drop)]
+#[derive(Clone, Copy)]
 pub struct Fields {
     pub count: usize,
     pub first: Place,
@@ -25,13 +25,13 @@ pub struct Fields {
 }
 
 // A reader's place in the file.
-#[derive(Drop)]
+#[derive(Clone, Copy)]
 pub struct ReaderPlace {
     pub at: usize,
 }
 
 // What reading at a place finds: a record, and the place past it; a broken record; or the end of the file.
-#[derive(Drop)]
+#[derive(Clone, Copy)]
 pub enum Step {
     Record(Fields, ReaderPlace),
     Broken,

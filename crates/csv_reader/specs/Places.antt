@@ -8,10 +8,10 @@ use Rattle.plain_fields.specs.declared.Place.{Place}
 use Rattle.plain_fields.specs.declared.FieldEnd.TheVariants as ends
 use Rattle.plain_fields.specs.Places.{place, held}
 use Rattle.field_ends.specs.Places.{field_from}
-use Rattle.csv.specs.declared.Fields.{Fields}
-use Rattle.csv.specs.declared.ReaderPlace.{ReaderPlace}
-use Rattle.csv.specs.declared.Step.{Step}
-use Rattle.csv.specs.declared.Step.TheVariants.{Record, Broken, End}
+use Rattle.csv_reader.specs.declared.Fields.{Fields}
+use Rattle.csv_reader.specs.declared.ReaderPlace.{ReaderPlace}
+use Rattle.csv_reader.specs.declared.Step.{Step}
+use Rattle.csv_reader.specs.declared.Step.TheVariants.{Record, Broken, End}
 
 abbrev pub reader : ℕ → ReaderPlace
 reader n = record { at = n }

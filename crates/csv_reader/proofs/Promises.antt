@@ -8,17 +8,17 @@ use lib.ListN.{length, drop}
 use native.Mathlib.Omega.{arith}
 use Rattle.base.proofs.Rest.{rest_end}
 use Rattle.base.proofs.Clash.{clash}
-use Rattle.csv.specs.declared.Fields.{Fields}
-use Rattle.csv.specs.declared.ReaderPlace.{ReaderPlace}
-use Rattle.csv.specs.declared.Step.{Step}
-use Rattle.csv.specs.declared.Step.TheVariants.{Record, Broken, End}
+use Rattle.csv_reader.specs.declared.Fields.{Fields}
+use Rattle.csv_reader.specs.declared.ReaderPlace.{ReaderPlace}
+use Rattle.csv_reader.specs.declared.Step.{Step}
+use Rattle.csv_reader.specs.declared.Step.TheVariants.{Record, Broken, End}
 use Rattle.grammar.specs.Grammar.{FileOf, Front, Breaks, Fate}
 use Rattle.grammar.specs.Reading.{Row, at_start, Reading, ◌then◌, end, whole, broken_after, reading_of, parts_of}
-use Rattle.csv.specs.Places.{step_of}
-use Rattle.csv.specs.Outcome.{ReadAs, Finds}
+use Rattle.csv_reader.specs.Places.{step_of}
+use Rattle.csv_reader.specs.Outcome.{ReadAs, Finds}
 use Rattle.grammar.proofs.Agrees.{Read, as_row, stands_read, left-shorter}
 use Rattle.grammar.proofs.Files.{file-read, read-file, whole-one, read-breaks, breaks-read}
-use Rattle.csv.proofs.Steps.{Says, says, next-reads}
+use Rattle.csv_reader.proofs.Steps.{Says, says, next-reads}
 
 -- one record alone can stand at the front of some bytes
 record Same (cs ds : List (List ℕ)) (v w : List ℕ) : Type 0 where

@@ -7,14 +7,14 @@ use lib.ListN.{length, drop}
 use native.Mathlib.Omega.{arith}
 use borrow.Author.Tests.{lt-leb, le-leb}
 use Rattle.plain_fields.specs.declared.Place.{Place}
-use Rattle.csv.specs.declared.Fields.{Fields}
+use Rattle.csv_reader.specs.declared.Fields.{Fields}
 use Rattle.plain_fields.specs.declared.FieldEnd.{FieldEnd}
 use Rattle.plain_fields.specs.declared.FieldEnd.TheVariants as ends
-use Rattle.csv.specs.declared.Step.{Step}
-use Rattle.csv.specs.declared.Step.TheVariants.{Record, Broken, End}
+use Rattle.csv_reader.specs.declared.Step.{Step}
+use Rattle.csv_reader.specs.declared.Step.TheVariants.{Record, Broken, End}
 use Rattle.field_ends.specs.Places.{field_from}
-use Rattle.csv.specs.Places.{reader, no_fields, and_field, row_from, step_of}
-use Rattle.csv.proofs.Contents.{In, FieldAt, field_at}
+use Rattle.csv_reader.specs.Places.{reader, no_fields, and_field, row_from, step_of}
+use Rattle.csv_reader.proofs.Contents.{In, FieldAt, field_at}
 
 -- `turns` is more than the fields that there is room for
 pub record Going (s : List ℕ) (at : ℕ) (f : Fields) (X : Step) : Type 0 where
