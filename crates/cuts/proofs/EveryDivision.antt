@@ -154,11 +154,14 @@ module _ (f : String → Division) where
 
   all_named : (d : Division) (ts us : List String) → T (all (is_name us) ts) → d is_one_of map f ts → d is_one_of map f us
   all_named d [] us h m = elim m [ ]
-  all_named d (t ∷ ts) us h m = go t d h m
+  all_named d (t ∷ ts) us h m =
+      go t d (both_left (is_name us t) (all (is_name us) ts) h)
+      (all_named d ts us (both_right (is_name us t) (all (is_name us) ts) h)) m
     where
-      go : (t : String) (d : Division) → T (all (is_name us) (t ∷ ts)) → d is_one_of map f (t ∷ ts) → d is_one_of map f us
-      go t d h first = named us t (both_left (is_name us t) (all (is_name us) ts) h)
-      go t d h (later m) = all_named d ts us (both_right (is_name us t) (all (is_name us) ts) h) m
+      go : (t : String) (d : Division) → T (is_name us t) → (d is_one_of map f ts → d is_one_of map f us)
+          → d is_one_of map f (t ∷ ts) → d is_one_of map f us
+      go t d h further first = named us t h
+      go t d h further (later m) = further m
 
 -- ---- the divisions are those under these names, and these names are the herd's
 
