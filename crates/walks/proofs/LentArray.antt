@@ -10,13 +10,14 @@ use Prim.Native.Nat.{ℕ}
 use mathlib.Core.List.{List, [], ◌∷◌, map}
 use lib.ListN.{length}
 use seplogic.Ra.Ura.{Ura}
-use seplogic.Ra.TreeShare.{full_share}
+use base.Fraction.{full_share}
 use mir.Syntax.{Ty, Lifetime, ty_array}
 use mir.Val.{Val}
 use base.Logic.{SProp, ent, sep, ex}
-use base.Fml.{Lft, GName, fsep, fat, fdead, flft, flent}
-use types.Logic.{Logic, sem}
-use types.Kit.{‵, raw, ◌⊛◌, some, later, ◌$◌, ◌∵◌, !, qed, move, use1, use3, drop, split, pick, rewrite, fsplit}
+use base.Fml.{Lft, GName, fsep, fat, fdead, flft, flent, Incl}
+use ghost.Rules.{Toks, span}
+use types.Logic.{Logic, sem, lfts}
+use types.Kit.{‵, raw, ◌⊛◌, some, later, ◌$◌, ◌∵◌, !, qed, move, use1, use2, use3, drop, split, pick, rewrite, fsplit}
 use types.Kit.{fjoin, fpick, fpack, feq_l, feq_i, await, updating, now as at_once, show, done}
 use types.Kit.{Item, Goal, Soaks, Seq}
 use types.Tokens.{lft_new, lft_end, lent_back}
@@ -24,7 +25,8 @@ use types.SemTy.{cells, Arr}
 use types.Share.{arr_parts}
 use denote.RattleType.{RattleType}
 use denote.Laws.{Is, Tells, Makes, shows}
-use denote.Memory.{cell_at, part_at, lone, mem, shares, part_of}
+use denote.Memory.{cell_at, part_at, lone, mem, shares, part_of, shared_of}
+use denote.Shares.{SharesAsFrom}
 use denote.Array.{Array, array_val, Array-Tells, Array-Makes}
 use denote.ArrayMemory.{Single, Array-apart, Array-whole}
 use denote.Slice.{slice_val, MutSlice, Room, finally}
@@ -61,17 +63,19 @@ module _ {M : Type 1} {𝓤 : Ura M} (𝓛 : Logic 𝓤) (R : RattleType) (one :
       (lends_slice 𝓛 R ℓ κ' xs l 0 room) $ await ! tt $ pick ! (λ δ.
       at_once ! $ show ! (Lent 𝓛 R ℓ κ' xs l 0) δ $ done !)
 
+  -- with tokens at which the type is shared, which come back
   pub lends_shared-array : (ℓ : Lifetime) (κ' : Lft) (xs : List R.Denot) (v : Val) → Is (Array R n) xs (v ∷ [])
-      → Room R (length xs)
-      → ent 𝓤 (H.at full_share array_ty l 0 v) (H.⇛ (ex 𝓤 (LentShrs 𝓛 R ℓ κ' full_share xs l 0)))
-  lends_shared-array ℓ κ' xs v is room =
-      qed 𝓛 (‵ (fat full_share array_ty l 0 v) ∷ []) ∵ updating ! $
+      → Room R (length xs) → (κ : Lft) → SharesAsFrom 𝓛 full_share R (shared_of R) κ → (ts : Toks)
+      → Incl (span ts) κ → Incl (span ts) κ'
+      → ent 𝓤 (sep 𝓤 (H.at full_share array_ty l 0 v) (lfts 𝓛 ts))
+      (H.⇛ (sep 𝓤 (LentShrs 𝓛 R ℓ κ' full_share xs l 0) (lfts 𝓛 ts)))
+  lends_shared-array ℓ κ' xs v is room κ s ts inc sp =
+      qed 𝓛 (‵ (fat full_share array_ty l 0 v) ∷ raw (lfts 𝓛 ts) ∷ []) ∵ updating ! $
       use1 𝓛 (‵ (part_at (Array R n) full_share xs l 0)) (lies xs v is) $
       use1 𝓛 (‵ ((arr_parts (shares R) n).part full_share xs l 0)) (Array-apart 𝓛 R full_share one n xs l 0) $
       fsplit ! $ drop ! $ feq_i ! ℕ (length xs) (length xs) refl $ fjoin ! $
-      use1 𝓛 (later (some (λ (δ : GName). raw (LentShrs 𝓛 R ℓ κ' full_share xs l 0 δ))))
-      (lends_shr_slice 𝓛 R ℓ κ' full_share xs l 0 room) $ await ! tt $ pick ! (λ δ.
-      at_once ! $ show ! (LentShrs 𝓛 R ℓ κ' full_share xs l 0) δ $ done !)
+      use2 𝓛 (later (raw (LentShrs 𝓛 R ℓ κ' full_share xs l 0) ⊛ raw (lfts 𝓛 ts)))
+      (lends_shr_slice 𝓛 R ℓ κ' full_share xs l 0 room κ s ts inc sp) $ await ! tt $ at_once ! $ done !
 
   module _ (val : R.Denot → Val) (tl : Tells R (Is R) (λ x. val x ∷ [])) where
     abbrev value : List R.Denot → Val
