@@ -1,17 +1,16 @@
-use Prim.Native.Nat.{◌-◌}
 use mathlib.Core.Path.{◌≡◌}
 use lib.ListN.{length}
 use borrow.Author.Rules.{rules}
 use Rattle.farm.specs.Limits.{herds_most}
 use Rattle.farm.proofs.Left.{length_mapped}
-use Rattle.model.proofs.AnswerSteps.{Adding, Turned, adding_steps, turned}
+use Rattle.model.proofs.AnswerSteps.{adding_steps, turned}
 use Rattle.farm_sums.proofs.sum_of.Goals as goal
 
 pub loop-i-init : goal.loop-i-init
 loop-i-init c = search (rules, adding_steps)
 
 pub figures-requires : goal.figures-requires
-figures-requires c = search (rules, adding_steps, length_mapped)
+figures-requires c = search (rules, adding_steps)
 
 pub plus-sum-requires : goal.plus-sum-requires
 plus-sum-requires c =
