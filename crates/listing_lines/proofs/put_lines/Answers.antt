@@ -1,13 +1,16 @@
 -- The middle of the line's number stands in the table. Assumes nothing.
+use lib.IntN.{pos}
+use mathlib.Core.Path.{◌≡◌}
 use native.Mathlib.Omega.{arith}
-use lib.ListN.{length-take, length-drop}
+use lib.ListN.{get_or, length-take, length-drop}
 use mir.Syntax.{w64}
+use mir.Val.{to_z, of_z}
 use mir.Facts.{to_z-of_z}
 use Rattle.base.specs.Part.{part}
 use Rattle.base.proofs.ToCome.{begun}
 use Rattle.line_parts.proofs.Middles.{stands}
 use Rattle.listing_lines.proofs.LineByLine.{line-room, line-put, all-put}
-use borrow.Author.Rules.{rules, sfits_of}
+use borrow.Author.Rules.{rules}
 use Rattle.listing_lines.proofs.put_lines.Goals as goal
 
 pub loop-k-init : goal.loop-k-init
@@ -47,7 +50,8 @@ pub put_line-next-requires : goal.put_line-next-requires
 unfolding part
 put_line-next-requires c =
     let s = stands c.requires.0 c.loop-k.k c.loop-k-test.true in
-    let g = to_z-of_z {w = w64} (sfits_of c.put_line-arg-in-loop-k-2-1.given) in (
+    let x = get_or c.args.grams.now (get_or c.args.lines.now c.loop-k.k 0) (pos 0) in
+    let g : to_z w64 (of_z w64 x) ≡ x = to_z-of_z {w = w64} (search rules) in (
       c.requires.1,
       simp (length-take, length-drop) (omega arith),
       line-room _ _ _ _ _ _ c.loop-k-test.true _ g c.loop-k.invariant.1 c.requires.2,
@@ -56,7 +60,8 @@ put_line-next-requires c =
 pub loop-k-preserved : goal.loop-k-preserved
 unfolding part
 loop-k-preserved c =
-    let e = to_z-of_z {w = w64} (sfits_of c.put_line-arg-in-loop-k-2-1.given) in (
+    let x = get_or c.args.grams.now (get_or c.args.lines.now c.loop-k.k 0) (pos 0) in
+    let e : to_z w64 (of_z w64 x) ≡ x = to_z-of_z {w = w64} (search rules) in (
       search rules,
       line-put _ _ _ _ _ _ c.loop-k-test.true _ e c.loop-k.invariant.1 c.put_line-next.ensures,
     )
