@@ -150,17 +150,17 @@ def modules():
 
 
 def input_names():
-    names = texts(WORDS, "inputNames")
+    names = texts(WORDS, "input_names")
     return source(
         "The input names (01, The farm file): their numbers, and the words as one text, with the length of each. Made"
-        " by docs/tables from the inputNames of specs/Find.antt.",
+        " by docs/tables from the input_names of specs/Find.antt.",
         numbered(names),
         word_table("WORDS", "LENGTHS", names),
     )
 
 
 def value_names():
-    lists = {body: texts(VALUES, body) for head, body in definitions(VALUES).items() if head.startswith("namesOf ")}
+    lists = {body: texts(VALUES, body) for head, body in definitions(VALUES).items() if head.startswith("names_of ")}
     return source(
         "The names that a value may be, list by list: how many there are, and the names as one text, with the length of"
         " each. Made by docs/tables from the lists of specs/Names.antt.",
@@ -181,12 +181,12 @@ INPUTS = "inputs/specs/Inputs.antt"
 def slots():
     kinds = {}  # those whose inputs have the same names, by the names
     for head in definitions(INPUTS):
-        if head.startswith("rowsOf "):
+        if head.startswith("rows_of "):
             names = rows(INPUTS, head, r'"[\w:]+" has "(\w+)" reads [\w ]+')
             kinds.setdefault(tuple(names), []).append(head.split()[1])
     return source(
         "The slots of a kind's inputs by name, `slots::CATTLE_YARD_DAYS`, and how many they are. Kinds whose inputs"
-        " have the same names, in the same order, have one set. Made by docs/tables from rowsOf of specs/Inputs.antt.",
+        " have the same names, in the same order, have one set. Made by docs/tables from rows_of of specs/Inputs.antt.",
         *(
             comment(" and ".join(of))
             + numbered(f"{of[0]}_{name}" for name in names)
@@ -201,11 +201,11 @@ def record_heads():
     kinds = {
         head.split()[1]: rows(INPUTS, head, r'"([\w:]+)" has "(\w+)" reads [\w ]+')
         for head in definitions(INPUTS)
-        if head.startswith("rowsOf ")
+        if head.startswith("rows_of ")
     }
     return source(
         "What stands in a record between its label and its value, module and input name, kind by kind in the order of"
-        " the slots: as one text, with the length of each. Made by docs/tables from rowsOf of"
+        " the slots: as one text, with the length of each. Made by docs/tables from rows_of of"
         " inputs/specs/Inputs.antt.",
         *(
             word_table(constant(kind), f"{constant(kind)}_LENGTHS", [f"{path},{name}" for path, name in inputs])
@@ -272,10 +272,10 @@ LISTING = "listing/specs/Listing.antt"
 def lists_of_lines():
     """The lists of lines, each with the kinds that have it."""
     page = definitions(LISTS)
-    kinds = {head.split()[1]: int(number) for head, number in page.items() if head.startswith("listNumber ")}
+    kinds = {head.split()[1]: int(number) for head, number in page.items() if head.startswith("list_number ")}
     firsts = re.findall(r"(\w+) ∷", page["listed"])
     alike = [[kind for kind in kinds if kinds[kind] == place] for place in range(len(firsts))]
-    return [(of, texts(LINES, f"linesOf {first}")) for of, first in zip(alike, firsts)]
+    return [(of, texts(LINES, f"lines_of {first}")) for of, first in zip(alike, firsts)]
 
 
 def lines(kinds, names):
@@ -291,7 +291,7 @@ def middles(names):
 
 def listing_texts():
     lists = lists_of_lines()
-    [path] = texts(LISTING, "totalPath")
+    [path] = texts(LISTING, "total_path")
     return source(
         "The lines of 01, The listing: the texts of a line and the lines of each listing, by number. Texts and lists"
         " stand one after the other in a table, with where each starts. A constant table is built anew at each use: a"

@@ -5,7 +5,7 @@ use Prim.Native.String.{String}
 use mathlib.Core.Path.{◌≡◌, refl, sym, ◌∙◌}
 use mathlib.Core.List.{List, [], ◌∷◌, map}
 use native.Mathlib.Omega.{arith}
-use borrow.Author.Rules.{zero≤}
+use Rattle.std.proofs.Common.{zero-le}
 use lib.Dec.{le→leb, lt→ltb, ltb→lt}
 use lib.IntN.{ℤ, pos, negsuc, nat_abs, ◌+ℤ◌}
 use lib.Signed.{◌≤ℤ◌, ◌<ℤ◌, le_z_yes, lt_z_yes}
@@ -33,7 +33,7 @@ abbrev pub ammonia : List String
 ammonia = "nh3_nhousing" ∷ "nh3_nyard" ∷ "nh3_ngrazing" ∷ []
 
 from_zero : (x : ℕ) → pos 0 ≤ℤ pos x
-from_zero x = le_z_yes (le→leb 0 x zero≤)
+from_zero x = le_z_yes (le→leb 0 x zero-le)
 
 not_below : (f : FiguresIn cutting) → NotBelowZero ammonia (record { grams = grams_of f })
 not_below f =

@@ -219,7 +219,7 @@ pub after-at : {y n : ℕ} {d : Date} (k : ℕ) → At y n d → n + k ≤ year_
 after-at {y} {n} {d} zero x h = subst (λ (i : ℕ). At y i d) (omega arith) x
 after-at {y} {n} {d} (suc k) x h =
     subst (λ (i : ℕ). At y i (after k (next_date d))) (omega arith)
-    (after-at k (next-at x (omega arith)).next (omega arith))
+    (after-at {n = n + 1} k (next-at x (omega arith)).next (omega arith))
 
 pub after_plus : (a b : ℕ) (d : Date) → after (a + b) d ≡ after b (after a d)
 after_plus zero b d = let s : 0 + b ≡ b = omega arith in ap (λ (i : ℕ). after i d) s

@@ -103,7 +103,7 @@ back z h = to_z-of_z (fits_abs z h)
 
 -- so is what a call handed back: `kept c.less.result c.less.ok`
 pub back-mag : (z : ℤ) → mag z < 2 ^ 63 → to_z w64 (of_z w64 z) ≡ z
-back-mag z h = to_z-of_z (record { sfits = h })
+back-mag z h = to_z-of_z {w = w64} (record { sfits = h })
 
 -- a u64 below 2 ^ 63, cast to an i64
 pub cast_pos : (n : ℕ) → n < 2 ^ 63 → to_z w64 n ≡ pos n

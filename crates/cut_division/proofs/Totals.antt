@@ -129,7 +129,8 @@ module _ {A : Type 0} (lo hi : A → ℕ) (x : A → ℤ) (q : A → Frac) where
       → Each (λ a. Near (lo a) (hi a) (x a) (q a)) l
       → Near (add_up ◌+◌ lo l₀ l) (add_up ◌+◌ hi h₀ l) (add_up ◌+ℤ◌ x t l) (add_up ◌⊕◌ q T l)
   near-from n none = n
-  near-from n (more p ps) = near-from (near_add n p) ps
+  near-from {l₀ = l₀} {h₀ = h₀} {t = t} {T = T} n (more {a = a} {l = l} p ps) =
+      near-from {l₀ = l₀ + lo a} {h₀ = h₀ + hi a} {t = t +ℤ x a} {T = T ⊕ q a} (near_add n p) ps
 
   -- of figures that may be below zero
   pub near-signed-total : {l : List A} → Each (λ a. Near (lo a) (hi a) (x a) (q a)) l

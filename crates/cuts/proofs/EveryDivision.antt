@@ -153,8 +153,15 @@ module _ (f : String → Division) where
   named (u ∷ us) t h = at_first (eqt t u) t u us refl h (named us t)
 
   all_named : (d : Division) (ts us : List String) → T (all (is_name us) ts) → d is_one_of map f ts → d is_one_of map f us
-  all_named d (t ∷ ts) us h first = named us t (both_left (is_name us t) (all (is_name us) ts) h)
-  all_named d (t ∷ ts) us h (later m) = all_named d ts us (both_right (is_name us t) (all (is_name us) ts) h) m
+  all_named d [] us h m = elim m [ ]
+  all_named d (t ∷ ts) us h m =
+      go t d (both_left (is_name us t) (all (is_name us) ts) h)
+      (all_named d ts us (both_right (is_name us t) (all (is_name us) ts) h)) m
+    where
+      go : (t : String) (d : Division) → T (is_name us t) → (d is_one_of map f ts → d is_one_of map f us)
+          → d is_one_of map f (t ∷ ts) → d is_one_of map f us
+      go t d h further first = named us t h
+      go t d h further (later m) = further m
 
 -- ---- the divisions are those under these names, and these names are the herd's
 
@@ -170,8 +177,8 @@ Found i =
 roughage-found : (r : Roughage) (b : Bool) → ltb (r.grazing_days * r.grazing_hours) (year * day) ≡ b
     → Found (kinds.Roughage r)
 unfolding cuts_of
-roughage-found r true e = (rw (e, e) refl, rw e tt, rw e tt)
-roughage-found r false e = (rw (e, e) refl, rw e tt, rw e tt)
+roughage-found r true e = (rw (e, e) refl, rw (e, e) tt, rw e tt)
+roughage-found r false e = (rw (e, e) refl, rw (e, e) tt, rw e tt)
 
 pigs-found : (t : HousingType) (s : AirScrubber) (p : Pigs) → Found (kinds.Pigs (housed_in t s p))
 unfolding cuts_of

@@ -85,7 +85,7 @@ module _ (m v b : ℕ) (r : Number) (q : r ≡ up_to m (with_digit v b)) where
   taken-small y e = (taken y e).small
 
   -- no digit, or too large a number with it; then so is z, which comes of that number
-  pub lost : r ≡ Unreadable → (z : Number) → (m < more v b → Over m z) → up_to m (if-digit b then z) ≡ Unreadable
+  pub lost : r ≡ Unreadable → (z : Number) → (m < more v b → Over m z) → up_to m (if_digit b then z) ≡ Unreadable
   lost e z big = go (ltb b 48) (ltb 57 b) (sym q ∙ e)
     where
       fit : (w : Bool) → leb (more v b) m ≡ w → pick w (Value (more v b)) Unreadable ≡ Unreadable
@@ -156,7 +156,7 @@ module _ (s : List ℕ) (i k m x : ℕ) (X : Number) (inv : up_to m (fraction_fr
     fraction-full e = simp (rest_at s i h, fraction_from, eq-eqb k 0 e) at inv
 
     module _ (n : k ≡ 0 → ⊥) (r : Number) (q : r ≡ up_to m (with_digit x (get_or s i 0))) where
-      fraction-going : up_to m (if-digit (get_or s i 0) then fraction_from (k - 1) (more x (get_or s i 0)) (drop (i + 1) s))
+      fraction-going : up_to m (if_digit (get_or s i 0) then fraction_from (k - 1) (more x (get_or s i 0)) (drop (i + 1) s))
           ≡ X
       unfolding fraction_from
       fraction-going = simp (rest_at s i h, fraction_from, ne_eqb k 0 n) at inv

@@ -8,14 +8,14 @@ use Rattle.digits.specs.declared.Number.TheVariants.{Value, Unreadable}
 -- x where b is one of `0` to `9`, else unreadable
 infixr 5 if_digit◌then◌
 abbrev pub if_digit◌then◌ : ℕ → Number → Number
-if-digit b then x = pick (ltb b 48) Unreadable (pick (ltb 57 b) Unreadable x)
+if_digit b then x = pick (ltb b 48) Unreadable (pick (ltb 57 b) Unreadable x)
 
 -- v with the digit b behind it
 abbrev pub more : ℕ → ℕ → ℕ
 more v b = v * 10 + (b - 48)
 
 abbrev pub with_digit : ℕ → ℕ → Number
-with_digit v b = if-digit b then Value (more v b)
+with_digit v b = if_digit b then Value (more v b)
 
 -- v with k zeros behind it
 abbrev pub scaled_by : ℕ → ℕ → Number
@@ -26,7 +26,7 @@ unfoldable pub fraction_from : ℕ → ℕ → List ℕ → Number
 fraction_from left v [] = scaled_by v left
 fraction_from left v (b ∷ rest) =
     if left is 0 then Unreadable else
-    if-digit b then fraction_from (left - 1) (more v b) rest
+    if_digit b then fraction_from (left - 1) (more v b) rest
 
 -- past the point: a digit must follow
 unfoldable pub point_from : ℕ → ℕ → List ℕ → Number

@@ -30,12 +30,18 @@ pub enum DayRead {
 fn hours_of(s: &[u8], f: Fields) -> Hours
     ensures { result ≡ hours_of (parts_at s.now f) }
 {
-    let Number::Value(pasture) = numbers::read_number(csv_reader::field(s, f.second), DECIMALS, HOURS_MOST)
-    else {
+    let Number::Value(pasture) = numbers::read_number(
+        csv_reader::field(s, f.second),
+        DECIMALS,
+        HOURS_MOST,
+    ) else {
         return Hours::Unfit;
     };
-    let Number::Value(yard) = numbers::read_number(csv_reader::field(s, f.third), DECIMALS, HOURS_MOST)
-    else {
+    let Number::Value(yard) = numbers::read_number(
+        csv_reader::field(s, f.third),
+        DECIMALS,
+        HOURS_MOST,
+    ) else {
         return Hours::Unfit;
     };
     if HOURS_MOST < pasture + yard {

@@ -6,7 +6,7 @@ use mathlib.Core.Path.{◌≡◌, refl, sym, ap, subst, ◌∙◌}
 use mathlib.Core.List.{map}
 use native.Mathlib.Nat.{le_refl, mul-le-mul_left, div-mul-le_self}
 use native.Mathlib.Omega.{arith}
-use borrow.Author.Rules.{zero≤}
+use Rattle.std.proofs.Common.{zero-le}
 use lib.Dec.{le→leb}
 use lib.IntN.{pos}
 use lib.Signed.{◌≤ℤ◌, le_z_yes}
@@ -157,7 +157,7 @@ made_emits : {f : FiguresIn cutting} → Made f → EmitsNoMore (herd_of f)
 made_emits (of-roughage r e s m) =
     let tan = e.tan_excretion in
     nh3_in_housing-le r (tan - roughage_into_grazing cutting r tan)
-made_emits (of-outdoor r o e hr s m) = zero≤
+made_emits (of-outdoor r o e hr s m) = zero-le
 made_emits (of-pigs p e s m) =
     let tan = e.tan_excretion in
     part-le (tan - pigs_into_grazing cutting p.housing_type tan) (pigs.ef_nh3_nhousing cutting p) billionths
@@ -314,7 +314,7 @@ module _ (h : Herd) (k : h.kind ≡ kinds.Pigs) where
 -- ---- no figure of a house is below zero
 
 from_zero : (x : ℕ) → pos 0 ≤ℤ pos x
-from_zero x = le_z_yes (le→leb 0 x zero≤)
+from_zero x = le_z_yes (le→leb 0 x zero-le)
 
 not_below : (f : FiguresIn cutting) → NotBelowZero house_names (herd_of f)
 not_below f =

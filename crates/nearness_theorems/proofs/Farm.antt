@@ -62,7 +62,11 @@ module _ (l : List Inputs) (s : Each Sound l) where
       (λ i. add_up ◌+◌ (λ n. (errors_at i n).above) (hi i) ns)
       l (add_up ◌+ℤ◌ (sum (map figures_of l)) x ns) (add_up ◌⊕◌ (exact_sum l) q ns)
   near-from near [] = near
-  near-from near (n ∷ ns) = near-from (near-total-add near (near-sum n)) ns
+  near-from {lo = lo} {hi = hi} {x = x} {q = q} near (n ∷ ns) =
+      near-from
+      {lo = λ i. lo i + (errors_at i n).below} {hi = λ i. hi i + (errors_at i n).above}
+      {x = x +ℤ sum (map figures_of l) n} {q = q ⊕ exact_sum l n}
+      (near-total-add near (near-sum n)) ns
 
   pub near-farm : (t : ℕ) → TotalNearBy (λ i. total_errors i t) l (farm_total (map figures_of l) t) (exact_of_total l t)
   unfolding total_errors farm_total exact_of_total

@@ -24,7 +24,7 @@ pub value-append : (v : ℕ) (a b : List ℕ) → value_from v (a ++ b) ≡ valu
 value-append v [] b = refl
 value-append v (x ∷ a) b = value-append (more v x) a b
 
-digit-taken : {b : ℕ} → Digit b → (x : Number) → (if-digit b then x) ≡ x
+digit-taken : {b : ℕ} → Digit b → (x : Number) → (if_digit b then x) ≡ x
 digit-taken {b} g x = simp (le-ltb b 48 g.low, le-ltb 57 b g.high)
 
 no-point : {b : ℕ} → Digit b → eqb b 46 ≡ false
@@ -66,7 +66,7 @@ read_all (IsNumber.pointed {f = f} {d = d} (Whole.some {b} {ds} g n gs) fs o h) 
     (digit-taken g _ ∙ whole-pointed d (more 0 b) f gs ∙ point-digits d (value_from (more 0 b) ds) fs o h)
 
 -- and back: what was read is a number
-digit-of : (b : ℕ) (x : Number) (w : ℕ) → (if-digit b then x) ≡ Value w → Digit b × (x ≡ Value w)
+digit-of : (b : ℕ) (x : Number) (w : ℕ) → (if_digit b then x) ≡ Value w → Digit b × (x ≡ Value w)
 digit-of b x w e = go (ltb b 48) (ltb 57 b) refl refl e
   where
     go : (t u : Bool) → ltb b 48 ≡ t → ltb 57 b ≡ u → pick t Unreadable (pick u Unreadable x) ≡ Value w
@@ -120,7 +120,7 @@ unfolding whole_from
 whole-read d v [] w e = let p : w ≡ v * 10 ^ d = cc in Rest.whole Digits.none p
 whole-read d v (b ∷ s) w e = go (eqb b 46) refl e (λ p. whole-read d (more v b) s w p)
   where
-    go : (t : Bool) → eqb b 46 ≡ t → pick t (point_from d v s) (if-digit b then whole_from d (more v b) s) ≡ Value w
+    go : (t : Bool) → eqb b 46 ≡ t → pick t (point_from d v s) (if_digit b then whole_from d (more v b) s) ≡ Value w
         → (whole_from d (more v b) s ≡ Value w → Rest d (more v b) w s) → Rest d v w (b ∷ s)
     go true t p ih =
         let (o, fs) = point-read d v s w p in
@@ -155,7 +155,7 @@ unfolding any_number_of
 read_only [] d v e = absurd (unequal v e)
 read_only (b ∷ s) d v e = go (eqb b 48) refl e
   where
-    go : (t : Bool) → eqb b 48 ≡ t → pick t (zero_from d s) (if-digit b then whole_from d (more 0 b) s) ≡ Value v
+    go : (t : Bool) → eqb b 48 ≡ t → pick t (zero_from d s) (if_digit b then whole_from d (more 0 b) s) ≡ Value v
         → IsNumber (b ∷ s) d v
     go true t p = subst (λ (x : ℕ). IsNumber (x ∷ s) d v) (sym (eqb-true b 48 t)) (zero-read d s v p)
     go false t p = let (g, q) = digit-of b _ v p in digits-read g (eqb-false b 48 t) (whole-read d (more 0 b) s v q)

@@ -33,7 +33,7 @@ module _ (s : List ℕ) (i d m x : ℕ) (X : Number) (inv : up_to m (whole_from 
     whole-point e r q = q ∙ (simp (rest_at s i h, whole_from, e) at inv)
 
     module _ (n : get_or s i 0 ≡ 46 → ⊥) (r : Number) (q : r ≡ up_to m (with_digit x (get_or s i 0))) where
-      whole-going : up_to m (if-digit (get_or s i 0) then whole_from d (more x (get_or s i 0)) (drop (i + 1) s)) ≡ X
+      whole-going : up_to m (if_digit (get_or s i 0) then whole_from d (more x (get_or s i 0)) (drop (i + 1) s)) ≡ X
       unfolding whole_from
       whole-going = simp (rest_at s i h, whole_from, ne_eqb _ _ n) at inv
 
@@ -79,7 +79,7 @@ module _ (s : List ℕ) (d m : ℕ) where
         zero-other n = sym (zero-first ∙ simp (second, zero_from, ne_eqb _ _ n))
 
     module _ (n : get_or s 0 0 ≡ 48 → ⊥) (r : Number) (q : r ≡ up_to m (with_digit 0 (get_or s 0 0))) where
-      digit-first : up_to m (if-digit (get_or s 0 0) then whole_from d (more 0 (get_or s 0 0)) (drop 1 s)) ≡ number_of s d m
+      digit-first : up_to m (if_digit (get_or s 0 0) then whole_from d (more 0 (get_or s 0 0)) (drop 1 s)) ≡ number_of s d m
       unfolding number_of any_number_of
       digit-first = sym (rw (first, any_number_of, ne_eqb _ _ n))
 

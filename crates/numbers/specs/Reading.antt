@@ -19,7 +19,7 @@ unfoldable pub whole_from : ℕ → ℕ → List ℕ → Number
 whole_from d v [] = scaled_by v d
 whole_from d v (b ∷ rest) =
     if b is point then point_from d v rest else
-    if-digit b then whole_from d (more v b) rest
+    if_digit b then whole_from d (more v b) rest
 
 -- behind a zero that the text begins with
 unfoldable pub zero_from : ℕ → List ℕ → Number
@@ -31,7 +31,7 @@ unfoldable pub any_number_of : List ℕ → ℕ → Number
 any_number_of [] d = Unreadable
 any_number_of (b ∷ rest) d =
     if b is zero_digit then zero_from d rest else
-    if-digit b then whole_from d (more 0 b) rest
+    if_digit b then whole_from d (more 0 b) rest
 
 unfoldable pub number_of : List ℕ → ℕ → ℕ → Number
 number_of s d most = up_to most (any_number_of s d)

@@ -5,7 +5,7 @@ use mathlib.Core.Path.{◌≡◌, refl, ◌∙◌}
 use Prim.Native.Nat.{ℕ, ◌+◌, ◌-◌, ◌*◌, ◌≤◌}
 use native.Mathlib.Nat.{le_refl}
 use native.Mathlib.Omega.{arith}
-use borrow.Author.Rules.{zero≤}
+use Rattle.std.proofs.Common.{zero-le}
 use Rattle.cut_division.specs.declared.Quotient.{Quotient}
 use Rattle.cut_division.specs.Cut.{undivided}
 use Rattle.cut_division.proofs.Products.{mul-to}
@@ -85,10 +85,10 @@ pigs-pasture-modest housed.DeepLitter n tan m = nothing
 
 pub pigs_into_le : (t : HousingType) (n : ℕ) → pigs_into_grazing cutting t n ≤ n
 pigs_into_le housed.Outdoor n = le_refl n
-pigs_into_le housed.SlurryConventional n = zero≤
-pigs_into_le housed.SlurryLabel n = zero≤
-pigs_into_le housed.SlurryLabelOpen n = zero≤
-pigs_into_le housed.DeepLitter n = zero≤
+pigs_into_le housed.SlurryConventional n = zero-le
+pigs_into_le housed.SlurryLabel n = zero-le
+pigs_into_le housed.SlurryLabelOpen n = zero-le
+pigs_into_le housed.DeepLitter n = zero-le
 
 -- ---- the code's steps
 

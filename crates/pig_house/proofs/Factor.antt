@@ -3,7 +3,7 @@ use mathlib.Core.Path.{◌≡◌, refl, ap, ◌∙◌}
 use Prim.Native.Nat.{ℕ, ◌+◌, ◌-◌, ◌*◌, ◌≤◌, ◌<◌}
 use native.Mathlib.Nat.{le_trans, le_refl}
 use native.Mathlib.Omega.{arith}
-use borrow.Author.Rules.{zero≤}
+use Rattle.std.proofs.Common.{zero-le}
 use borrow.Author.Tests.{lt-ltb, le-ltb}
 use mir.Syntax.{w64}
 use mir.Val.{Fits}
@@ -121,7 +121,7 @@ pub ruleset row_steps = (er-fits, is-er, is-share-liquid, is-share-indoor)
 
 -- no selection of floors is available
 pub floor-takes-none : (f : HousingFloor) → UpTo 1 (red_housing_floor f) 0
-floor-takes-none floor.None = record { is = refl; most = zero≤ }
+floor-takes-none floor.None = record { is = refl; most = zero-le }
 
 module _ (floor air : ℕ) where
   pub left-fits : Fits w64 ((1 - floor) * (tenths - air))

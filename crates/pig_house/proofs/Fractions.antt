@@ -4,7 +4,7 @@ use mathlib.Core.Path.{◌≡◌, refl, ◌∙◌}
 use Prim.Native.Nat.{ℕ, zero, suc, ◌-◌, ◌≤◌, ◌<◌}
 use native.Mathlib.Nat.{le_trans, le_refl}
 use native.Mathlib.Omega.{arith}
-use borrow.Author.Rules.{zero≤}
+use Rattle.std.proofs.Common.{zero-le}
 use Rattle.cut_division.specs.declared.Quotient.{Quotient}
 use Rattle.cut_division.specs.Cut.{undivided}
 use Rattle.cut_division.proofs.Shares.{part-le}
@@ -48,7 +48,7 @@ use Rattle.pig_house.specs.Bounds.{NxOxRatesTo, NxOxRatesOf, Emitted}
 -- ---- an amount times 1 or 0
 
 pub all_or_nothing-le : (share amount : ℕ) → all_or_nothing cutting share amount ≤ amount
-all_or_nothing-le zero amount = zero≤
+all_or_nothing-le zero amount = zero-le
 all_or_nothing-le (suc share) amount = le_refl amount
 
 -- the code's step, and its worth where amounts tell their division

@@ -13,7 +13,7 @@ use native.Mathlib.Nat.{
   zero-mul,
 }
 use native.Mathlib.Omega.{arith}
-use borrow.Author.Rules.{zero≤}
+use Rattle.std.proofs.Common.{zero-le}
 use mir.Syntax.{w64}
 use mir.Val.{Fits}
 use Rattle.cut_division.specs.declared.Quotient.{Quotient}
@@ -119,9 +119,9 @@ kept_whole scrubber.Biotrickling d = refl
 kept_whole scrubber.None d = refl
 
 pub kept-by-le : (s : AirScrubber) (amount : ℕ) → kept_by cutting s amount ≤ amount
-kept-by-le scrubber.Acid amount = zero≤
+kept-by-le scrubber.Acid amount = zero-le
 kept-by-le scrubber.Biotrickling amount = le_refl amount
-kept-by-le scrubber.None amount = zero≤
+kept-by-le scrubber.None amount = zero-le
 
 pub outdoor-rate : er_housing housed.Outdoor ≡ 0
 outdoor-rate = refl

@@ -26,7 +26,7 @@ with_days yard yard-days days = outdoors yard-days yard Solid (pos 0) days 120
 
 infix 68 ◌is_told◌
 abbrev ◌is_told◌ : Outdoor → Line → Row
-o is-told l = record { herd = o; told = l }
+o is_told l = record { herd = o; told = l }
 
 abbrev line : String → ℕ → ℕ → ℕ → Line
 line reason days chosen share = record { reason = reason; days = days; chosen = chosen; share = share }
@@ -41,18 +41,18 @@ Right r = line_of r ≡ r.told
 abbrev pub table : List Row
 table =
     -- the last day without both, and the first with
-    with_days Exclusively 165 200 is-told line "no_such_days" 0 6 6
-    ∷ with_days Exclusively 166 200 is-told line "lowered" 1 6 2
+    with_days Exclusively 165 200 is_told line "no_such_days" 0 6 6
+    ∷ with_days Exclusively 166 200 is_told line "lowered" 1 6 2
     -- no such days come first, also where no yard is available
-    ∷ with_days NotAvailable 165 200 is-told line "no_such_days" 0 0 0
-    ∷ with_days NotAvailable 166 200 is-told line "not_available" 1 0 0
+    ∷ with_days NotAvailable 165 200 is_told line "no_such_days" 0 0 0
+    ∷ with_days NotAvailable 166 200 is_told line "not_available" 1 0 0
     -- a share of 0.2 is not lowered, nor is one below it
-    ∷ with_days NotSupplied 166 200 is-told line "as_chosen" 1 1 1
-    ∷ with_days Partly 166 200 is-told line "as_chosen" 1 2 2
+    ∷ with_days NotSupplied 166 200 is_told line "as_chosen" 1 1 1
+    ∷ with_days Partly 166 200 is_told line "as_chosen" 1 2 2
     -- 01, rows 1 to 3
-    ∷ with_days Partly 365 200 is-told line "as_chosen" 200 2 2
-    ∷ with_days Exclusively 365 200 is-told line "lowered" 200 6 2
-    ∷ with_days Exclusively 365 0 is-told line "no_such_days" 0 6 6
+    ∷ with_days Partly 365 200 is_told line "as_chosen" 200 2 2
+    ∷ with_days Exclusively 365 200 is_told line "lowered" 200 6 2
+    ∷ with_days Exclusively 365 0 is_told line "no_such_days" 0 6 6
     -- every day of the year
-    ∷ with_days Exclusively 365 365 is-told line "lowered" 365 6 2
+    ∷ with_days Exclusively 365 365 is_told line "lowered" 365 6 2
     ∷ []

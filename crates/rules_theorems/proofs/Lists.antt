@@ -46,6 +46,7 @@ pub record Met {A : Type 0} (P Q : A → Type 0) : Type 0 where
 
 module _ {A : Type 0} {P : A → Type 0} where
   pub meet : {Q : A → Type 0} {l : List A} → Each P l → Some Q l → Met P Q
+  meet none s = elim s [ ]
   meet (more p ps) (here q) = record { of = _; one = p; other = q }
   meet (more p ps) (there s) = meet ps s
 
@@ -122,10 +123,12 @@ pairs-map f (Pairs.more r p) (more q e) = Pairs.more (f _ _ r q) (pairs-map f p 
 
 module _ {A B : Type 0} {R : A → B → Type 0} {P : A → Type 0} {Q : B → Type 0} where
   pub some_left : {l : List A} {m : List B} → ((a : A) (b : B) → R a b → Q b → P a) → Pairs R l m → Some Q m → Some P l
+  some_left f Pairs.none s = elim s [ ]
   some_left f (Pairs.more r p) (here q) = here (f _ _ r q)
   some_left f (Pairs.more r p) (there s) = there (some_left f p s)
 
   pub some_right : {l : List A} {m : List B} → ((a : A) (b : B) → R a b → P a → Q b) → Pairs R l m → Some P l → Some Q m
+  some_right f Pairs.none s = elim s [ ]
   some_right f (Pairs.more r p) (here q) = here (f _ _ r q)
   some_right f (Pairs.more r p) (there s) = there (some_right f p s)
 
@@ -143,6 +146,7 @@ pub record Fellow {A B : Type 0} (R : A → B → Type 0) (Q : B → Type 0) : T
 
 pub fellow : {A B : Type 0} {R : A → B → Type 0} {Q : B → Type 0} {l : List A} {m : List B} → Pairs R l m → Some Q m
     → Fellow R Q
+fellow Pairs.none s = elim s [ ]
 fellow (Pairs.more r p) (here q) = record { one = _; of = _; pair = r; has = q }
 fellow (Pairs.more r p) (there s) = fellow p s
 

@@ -58,6 +58,7 @@ module _ {l : List ℕ} (good : GoodLabel l) where
 
   pub herds-seen : {a : List Record} {hs : List Herd} → StandTogether PartOf a hs → Some (λ h. h.label ≡ label_of l) hs
       → Some (λ r. label_text r ≡ l) a
+  herds-seen StandTogether.none s = elim s [ ]
   herds-seen (StandTogether.more {rest = rest} p s) (here e) = some-front rest (herd-seen p e)
   herds-seen (StandTogether.more {rs = rs} p s) (there m) = some_back rs (herds-seen s m)
 

@@ -248,6 +248,7 @@ module _ (array : List Herd) (book : Book) (step : Step) (h : Herd) where
       }
     where
       go : {m : ℕ} {other : Fault} → AppliesTo array book step h m other → Sooner m other y.place (of_farm r) → ⊥
+      go (to_step {refusal = o} a) s = elim s [ ]
       go (to_farm {place = m} {refusal = o} a) (within_farm s) = y.is_first.none_sooner m o a s
 
   pub step_gets : StepGets array book step h (decided_in array book step h)

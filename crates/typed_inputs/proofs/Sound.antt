@@ -9,7 +9,7 @@ use native.Mathlib.Omega.{arith}
 use lib.IntN.{nat_abs}
 use lib.ListN.{length, get_or, length-take}
 use lib.Seq.{get_or-take}
-use borrow.Author.Rules.{zero≤}
+use Rattle.std.proofs.Common.{zero-le}
 use borrow.Author.Tests.{leb-true, ltb-true}
 use Rattle.base.proofs.Clash.{clash}
 use Rattle.base.proofs.Each.{each-get_or}
@@ -58,22 +58,22 @@ value-to (ASigned m) v e = clash cc
 value-to (OneOf names) v e = omega (arith, ltb-true v (size_of names) e)
 
 number-to : (form : Form) (g : Given) → fits form g ≡ true → number_in g ≤ most_of form
-number-to form Missing e = zero≤
-number-to form Standard e = zero≤
+number-to form Missing e = zero-le
+number-to form Standard e = zero-le
 number-to form (Value v) e = value-to form v e
-number-to form (Signed v) e = zero≤
+number-to form (Signed v) e = zero-le
 
 signed-to : (m : ℕ) (g : Given) → fits (ASigned m) g ≡ true → nat_abs (signed_in g) ≤ m
-signed-to m Missing e = zero≤
-signed-to m Standard e = zero≤
-signed-to m (Value v) e = zero≤
+signed-to m Missing e = zero-le
+signed-to m Standard e = zero-le
+signed-to m (Value v) e = zero-le
 signed-to m (Signed v) e = leb-true (nat_abs v) m e
 
 entered-to : (form : Form) (g : Given) → fits form g ≡ true → EnteredTo (most_of form) (entered_in g)
-entered-to form Missing e = number zero≤
+entered-to form Missing e = number zero-le
 entered-to form Standard e = standard
 entered-to form (Value v) e = number (value-to form v e)
-entered-to form (Signed v) e = number zero≤
+entered-to form (Signed v) e = number zero-le
 
 -- ---- the slot of each input
 
@@ -81,6 +81,7 @@ fits-at : (rows : List Row) (slots : List Slot) (i : ℕ) → Passes rows slots 
     → fits (get_or rows i no_row).form (get_or slots i no_slot).given ≡ true
 fits-at (row ∷ rows) (s ∷ slots) zero (Passes.next m f p) h = f
 fits-at (row ∷ rows) (s ∷ slots) (suc i) (Passes.next m f p) h = fits-at rows slots i p (omega arith)
+fits-at (row ∷ rows) [] i p h = elim p [ ]
 fits-at [] slots i p h = absurd (omega arith)
 
 module _ (k : Kind) (h : Herd) (p : Passes (rows_of k) h.slots) (name : String) where

@@ -62,13 +62,13 @@ unfolding point_from fraction_from
 no-decimals v [] = refl
 no-decimals v (b ∷ rest) = refl
 
-digits-alone : (v b : ℕ) (rest : List ℕ) → whole_from 0 v (b ∷ rest) ≡ (if-digit b then whole_from 0 (more v b) rest)
+digits-alone : (v b : ℕ) (rest : List ℕ) → whole_from 0 v (b ∷ rest) ≡ (if_digit b then whole_from 0 (more v b) rest)
 unfolding whole_from
 digits-alone v b rest = go (eqb b 46) refl
   where
     go : (t : Bool) → eqb b 46 ≡ t
-        → pick t (point_from 0 v rest) (if-digit b then whole_from 0 (more v b) rest)
-        ≡ (if-digit b then whole_from 0 (more v b) rest)
+        → pick t (point_from 0 v rest) (if_digit b then whole_from 0 (more v b) rest)
+        ≡ (if_digit b then whole_from 0 (more v b) rest)
     go true e =
         let low : b < 48 = omega (arith, eqb-true b 46 e) in
         no-decimals v rest ∙ sym (simp (lt-ltb b 48 low))
@@ -93,7 +93,7 @@ module _ (s : List ℕ) (i x : ℕ) (X : WideNumber) (inv : widened (up_to wide_
   wide-end h l = sym (at-end x l) ∙ (rw (rest_end s i h) at inv)
 
   module _ (h : i < length s) (r : WideNumber) (q : r ≡ widened (up_to wide_most (with_digit x (get_or s i 0)))) where
-    going : widened (up_to wide_most (if-digit (get_or s i 0) then whole_from 0 (more x (get_or s i 0)) (drop (i + 1) s))) ≡ X
+    going : widened (up_to wide_most (if_digit (get_or s i 0) then whole_from 0 (more x (get_or s i 0)) (drop (i + 1) s))) ≡ X
     going = rw (rest_at s i h, digits-alone x (get_or s i 0) (drop (i + 1) s)) at inv
 
     pub wide-small : (y : ℕ) → r ≡ Value y → y ≤ wide_most

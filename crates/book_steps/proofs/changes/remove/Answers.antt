@@ -1,0 +1,28 @@
+-- The herds without the one of the label, and the totals less by its figures. Assumes nothing.
+use Prim.Native.Nat.{◌<◌}
+use borrow.Author.Rules.{rules}
+use Rattle.farm.specs.Limits.{herds_most}
+use Rattle.farm.proofs.Left.{length_mapped}
+use Rattle.book_steps.proofs.ChangeSteps.{change_steps}
+use Rattle.book_steps.proofs.changes.remove.Goals as goal
+
+inside : (c : tie.After-place-of) → c.place_of.result < herds_most
+inside c = search (rules, change_steps, length_mapped)
+
+pub place_of-place-requires : goal.place_of-place-requires
+place_of-place-requires c = search (rules, change_steps)
+
+pub offset_bounds-farm-place : goal.offset_bounds-farm-place
+offset_bounds-farm-place c = search (rules, inside c)
+
+pub bounds-farm-place : goal.bounds-farm-place
+bounds-farm-place c = search (rules, inside c)
+
+pub herd_totals-gone-requires : goal.herd_totals-gone-requires
+herd_totals-gone-requires c = search (rules, change_steps, length_mapped)
+
+pub removed_at-requires : goal.removed_at-requires
+removed_at-requires c = search (rules, change_steps, length_mapped)
+
+pub returns : goal.returns
+returns c = search (rules, change_steps, length_mapped)

@@ -1,0 +1,29 @@
+use Prim.Native.Nat.{◌-◌, ◌≤◌}
+use mathlib.Core.Path.{◌≡◌}
+use lib.ListN.{length}
+use lib.IntN.{◌+ℤ◌, ◌-ℤ◌}
+use borrow.Author.Rules.{rules}
+use Rattle.outputs.specs.Names.{totals}
+use Rattle.outputs.specs.Grams.{grams_at}
+use Rattle.outputs.proofs.ByNumber.{Filled, fill_none, fill_one, fill_all}
+use Rattle.book_totals.proofs.Beyond.{within-most}
+use Rattle.book_totals.proofs.Parts.{reads_small, gave}
+use Rattle.book_totals.proofs.moved_by.Goals as goal
+
+pub loop-i-init : goal.loop-i-init
+loop-i-init c = (search rules, search rules, fill_none _ _)
+
+pub exchanged-requires : goal.exchanged-requires
+exchanged-requires c = (search (rules, reads_small), search (rules, reads_small), search (rules, reads_small))
+
+pub loop-i-preserved : goal.loop-i-preserved
+loop-i-preserved c = let l = c in
+    let p = l.requires in (
+      search rules,
+      search rules,
+      fill_one _ l.loop-i.invariant.2 (search rules)
+          (gave (within-most _ p.0) p.1 p.2 _ _ c.exchanged.ensures),
+    )
+
+pub returns : goal.returns
+returns c = let l = c.loop-i in fill_all _ (length totals) l.invariant.2 (search rules) l.invariant.1

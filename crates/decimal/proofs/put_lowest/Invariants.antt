@@ -1,0 +1,24 @@
+-- `decimal::put_lowest` meets its contract. The invariant of both loops: storing the i lowest digits of m gives what
+-- storing those at the loop's start gives. Assumes nothing.
+use mathlib.Core.Path.{◌≡◌, sym, ap, ◌∙◌}
+use Prim.Native.Nat.{◌≤◌}
+use native.Mathlib.Omega.{arith}
+use lib.ListN.{length, length-set}
+use lib.Seq.{sets}
+use Rattle.base.proofs.Writes.{wrote-keeps-length}
+use Rattle.decimal.specs.Writing.{lowest}
+use Rattle.decimal.proofs.Widths.{low-three, low_turn, lowest-length}
+use borrow.Author.Rules.{rules}
+use Rattle.decimal.proofs.put_lowest.Given as goal
+
+abbrev pub invariant-loop-i : goal.invariant-loop-i
+invariant-loop-i l = (l.i ≤ l.k) × (length l.out ≡ length l.initial.out) × (sets l.out l.at (lowest l.i l.m) ≡ sets l.initial.out l.at (lowest l.k l.n))
+
+abbrev pub decreases-loop-i : goal.decreases-loop-i
+decreases-loop-i l = l.i
+
+abbrev pub invariant-loop-i-2 : goal.invariant-loop-i-2
+invariant-loop-i-2 l = (l.i ≤ l.initial.i) × (length l.out ≡ length l.initial.out) × (sets l.out l.at (lowest l.i l.m) ≡ sets l.initial.out l.at (lowest l.initial.i l.initial.m))
+
+abbrev pub decreases-loop-i-2 : goal.decreases-loop-i-2
+decreases-loop-i-2 l = l.i

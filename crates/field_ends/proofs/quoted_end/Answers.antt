@@ -1,0 +1,28 @@
+use Prim.Native.Nat.{◌-◌}
+use mathlib.Core.Path.{◌≡◌}
+use lib.ListN.{length, drop}
+use Rattle.field_ends.specs.Places.{quoted_from}
+use Rattle.field_ends.proofs.Scans.{quoted_steps}
+use borrow.Author.Rules.{rules}
+use Rattle.field_ends.proofs.quoted_end.Goals as goal
+
+pub loop-i-preserved-then-s-i-ne34 : goal.loop-i-preserved-then-s-i-ne34
+loop-i-preserved-then-s-i-ne34 c = search (rules, quoted_steps)
+
+pub returns-then-s-j : goal.returns-then-s-j
+returns-then-s-j c = search (rules, quoted_steps)
+
+pub returns-then-b-eq44 : goal.returns-then-b-eq44
+returns-then-b-eq44 c = search (rules, quoted_steps)
+
+pub returns-then-b-eq13 : goal.returns-then-b-eq13
+returns-then-b-eq13 c = search (rules, quoted_steps)
+
+pub returns-then-b-ne34 : goal.returns-then-b-ne34
+returns-then-b-ne34 c = search (rules, quoted_steps)
+
+pub loop-i-preserved : goal.loop-i-preserved
+loop-i-preserved c = search (rules, quoted_steps)
+
+pub returns : goal.returns
+returns c = search (rules, quoted_steps)

@@ -1,0 +1,7 @@
+-- `herd_inputs::outdoor_of` meets its contract: each field is read from its slot. Assumes nothing.
+use borrow.Author.Rules.{rules}
+use Rattle.typed_inputs.proofs.Fields.{fields}
+use Rattle.herd_inputs.proofs.outdoor_of.Goals as goal
+
+pub returns : goal.returns
+returns c = search (rules, fields)

@@ -1,0 +1,17 @@
+-- `kilograms::total_kilograms_of` meets its contract: the array that was lent has the kilograms of all totals. Assumes
+-- nothing.
+use borrow.Author.Rules.{rules}
+use mathlib.Core.Path.{ap}
+use mathlib.Core.List.{List}
+use lib.Ieee.{Float}
+use Rattle.kilograms.specs.declared.TotalKilograms.{TotalKilograms}
+use Rattle.kilograms.proofs.total_kilograms_of.Goals as goal
+
+abbrev of_kilograms : List Float → TotalKilograms
+of_kilograms k = record { kilograms = k }
+
+pub convert-requires : goal.convert-requires
+convert-requires c = (c.requires, slice-aggregate-convert c)
+
+pub returns : goal.returns
+returns c = ap of_kilograms c.convert.ensures

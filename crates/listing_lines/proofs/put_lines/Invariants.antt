@@ -1,0 +1,21 @@
+-- `listing_lines::put_lines` meets its contract: what is still to be written is the lines of the numbers that are
+-- left. Assumes nothing.
+use Prim.Native.Nat.{◌-◌, ◌≤◌}
+use native.Mathlib.Omega.{arith}
+use lib.ListN.{length, get_or, drop, length-take, length-drop}
+use mir.Facts.{to_z-of_z}
+use Rattle.base.specs.Part.{part}
+use Rattle.base.proofs.ToCome.{ToCome, begun}
+use Rattle.line_parts.proofs.Middles.{Stands, stands}
+use Rattle.listing_lines.specs.Numbered.{longest_middle, numbered}
+use Rattle.listing_lines.proofs.LineByLine.{line-room, line-put, all-put}
+use borrow.Author.Rules.{rules, sfits_of}
+use Rattle.listing_lines.proofs.put_lines.Given as goal
+
+abbrev pub invariant-loop-k : goal.invariant-loop-k
+invariant-loop-k l = (l.k ≤ length l.lines)
+    × ToCome l.initial.out l.at (numbered l.owner l.middles l.starts l.grams l.lines) l.out
+    (numbered l.owner l.middles l.starts l.grams (drop l.k l.lines)) l.next
+
+abbrev pub decreases-loop-k : goal.decreases-loop-k
+decreases-loop-k l = length l.lines - l.k

@@ -1,0 +1,7 @@
+-- `mend_print::changes_listed` meets its contract: the list had room for the changes. Assumes nothing.
+use Rattle.mend.proofs.Written.{list-room}
+use borrow.Author.Rules.{rules}
+use Rattle.mend_print.proofs.changes_listed.Goals as goal
+
+pub returns-in-Mended : goal.returns-in-Mended
+returns-in-Mended c = search (rules, list-room)

@@ -1,0 +1,14 @@
+-- `quoting::put_closing` meets its contract: by the form. Assumes nothing.
+use native.Mathlib.Omega.{arith}
+use Rattle.quoting.proofs.Steps.{no-closing, quote_steps}
+use borrow.Author.Rules.{rules}
+use Rattle.quoting.proofs.put_closing.Goals as goal
+
+pub returns-in-Plain : goal.returns-in-Plain
+returns-in-Plain c = (no-closing _ _ _ c.enum_told-1.given.1, omega arith)
+
+pub returns-in-Quoted : goal.returns-in-Quoted
+returns-in-Quoted c = search (rules, quote_steps)
+
+pub returns-in-Escaped : goal.returns-in-Escaped
+returns-in-Escaped c = search (rules, quote_steps)

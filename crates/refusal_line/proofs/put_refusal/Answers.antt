@@ -1,0 +1,12 @@
+-- `refusal_line::put_refusal` meets its contract, by its calls, one after the other. Assumes nothing.
+use Rattle.base.proofs.Writes.{wrote-append}
+use Rattle.refusal_line.specs.Lines.{refusal_line}
+use native.Mathlib.Omega.{arith}
+use borrow.Author.Rules.{rules}
+use Rattle.refusal_line.proofs.put_refusal.Goals as goal
+
+pub returns : goal.returns
+unfolding refusal_line
+returns c = let p = c in
+    let w = c in
+    (wrote-append w.put-a.ensures p.put_pair.ensures.0, omega (arith, w.put-a.ensures, p.put_pair.ensures.1))

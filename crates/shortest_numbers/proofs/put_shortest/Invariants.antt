@@ -1,0 +1,14 @@
+-- `shortest_numbers::put_shortest` meets its contract: each turn leaves a zero out, and nothing is written before the
+-- end. The measure is how many decimals are left. Assumes nothing.
+use Prim.Native.Nat.{◌≤◌}
+use mathlib.Core.Path.{◌≡◌}
+use borrow.Author.Rules.{rules}
+use Rattle.shortest_numbers.specs.Shortest.{shortest}
+use Rattle.shortest_numbers.proofs.Steps.{zero_steps}
+use Rattle.shortest_numbers.proofs.put_shortest.Given as goal
+
+abbrev pub invariant-loop-left : goal.invariant-loop-left
+invariant-loop-left l = (l.out ≡ l.initial.out) × (l.m ≤ l.v) × (shortest l.left l.m ≡ shortest l.decimals l.v)
+
+abbrev pub decreases-loop-left : goal.decreases-loop-left
+decreases-loop-left l = l.left

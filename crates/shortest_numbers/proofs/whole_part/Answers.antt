@@ -1,0 +1,11 @@
+use Prim.Native.Nat.{◌/◌, ◌^◌}
+use mathlib.Core.Path.{◌≡◌}
+use borrow.Author.Rules.{rules}
+use Rattle.shortest_numbers.proofs.Steps.{part_steps}
+use Rattle.shortest_numbers.proofs.whole_part.Goals as goal
+
+pub loop-left-preserved : goal.loop-left-preserved
+loop-left-preserved c = search (rules, part_steps)
+
+pub returns : goal.returns
+returns c = search (rules, part_steps)

@@ -1,0 +1,24 @@
+use Prim.Native.Nat.{◌<◌, ◌≤◌}
+use lib.ListN.{length}
+use borrow.Author.Rules.{rules}
+use Rattle.streams.specs.Within.{All}
+use Rattle.streams.proofs.Moves.{left, turn_steps}
+use Rattle.streams.proofs.write_all.Goals as goal
+
+pub returns-then-text-eq0 : goal.returns-then-text-eq0
+returns-then-text-eq0 c = rw c.if-text-eq0.true All.whole
+
+pub loop-patience-smaller-in-On : goal.loop-patience-smaller-in-On
+loop-patience-smaller-in-On c = search (rules, turn_steps)
+
+pub loop-patience-preserved-in-On : goal.loop-patience-preserved-in-On
+loop-patience-preserved-in-On c = search (rules, turn_steps)
+
+pub returns-in-Done : goal.returns-in-Done
+returns-in-Done c = search (rules, turn_steps)
+
+pub returns-in-Broken : goal.returns-in-Broken
+returns-in-Broken c = search (rules, turn_steps)
+
+pub returns : goal.returns
+returns c = search (rules, turn_steps)

@@ -1,0 +1,18 @@
+-- `sums::plus` meets its contract: the loop fills the table number by number. Assumes nothing.
+use borrow.Author.Rules.{rules}
+use Prim.Native.Nat.{◌≤◌, ◌-◌}
+use mathlib.Core.Path.{◌≡◌}
+use lib.ListN.{length}
+use lib.IntN.{◌+ℤ◌}
+use Rattle.outputs.specs.Names.{rows}
+use Rattle.outputs.specs.Grams.{grams_at}
+use Rattle.outputs.proofs.Signed.{plus_fits, plus_is}
+use Rattle.outputs.proofs.ByNumber.{Filled, fill_none, fill_one, fill_all}
+use Rattle.sums.proofs.plus.Given as goal
+
+abbrev pub invariant-loop-i : goal.invariant-loop-i
+invariant-loop-i l = (l.i ≤ length rows) × (length l.sum.grams ≡ length rows)
+    × Filled (λ n. grams_at l.a.grams n +ℤ grams_at l.b.grams n) l.i l.sum.grams
+
+abbrev pub decreases-loop-i : goal.decreases-loop-i
+decreases-loop-i l = length rows - l.i

@@ -1,0 +1,11 @@
+-- `test_lent::tell_short_entries` is safe and ends. No more entries are counted than passed. Assumes nothing.
+use Prim.Native.Nat.{◌≤◌, ◌-◌}
+use Rattle.test_arrays.specs.Sizes.{short}
+use borrow.Author.Rules.{rules}
+use Rattle.test_lent.proofs.tell_short_entries.Given as goal
+
+abbrev pub invariant-loop-i : goal.invariant-loop-i
+invariant-loop-i l = (l.left ≤ l.i) × (l.i ≤ short)
+
+abbrev pub decreases-loop-i : goal.decreases-loop-i
+decreases-loop-i l = short - l.i
