@@ -30,7 +30,7 @@ pub fn add(line: &mut [u8], at: usize, text: &[u8]) -> usize {
 pub fn add_number(line: &mut [u8], at: usize, n: u64) -> usize {
     let mut digits = [0u8; DIGITS_MOST];
     let k = decimal::put_whole(&mut digits, 0, n);
-    add(line, at, &digits[..k])
+    add(line, at, base::part_of(&digits, 0, k))
 }
 
 // A name as it is shown in messages.

@@ -33,6 +33,12 @@ struct Text {
     length: usize,
 }
 
+impl Text {
+    fn said(&self) -> &[u8] {
+        base::part_of(&self.bytes, 0, self.length)
+    }
+}
+
 impl Write for Text {
     fn write_str(&mut self, s: &str) -> fmt::Result {
         for b in s.as_bytes() {
@@ -57,6 +63,11 @@ fn words_end(text: &[u8]) -> usize {
     i
 }
 
+// The words alone.
+fn words_of(text: &[u8]) -> &[u8] {
+    base::part_of(text, 0, words_end(text))
+}
+
 // The system's words for an error; those of no error where it has none.
 fn tell_error(rt: &impl Tell, error: Error) {
     let mut text = Text {
@@ -64,9 +75,7 @@ fn tell_error(rt: &impl Tell, error: Error) {
         length: 0,
     };
     let _ = write!(text, "{error}");
-    let bytes = text.bytes;
-    let said = base::part_of(&bytes, 0, text.length);
-    rt.tell(base::part_of(said, 0, words_end(said)));
+    rt.tell(words_of(text.said()));
 }
 
 // A line: what failed, as the caller names it, a colon, and the system's words for the error.
