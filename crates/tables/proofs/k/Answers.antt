@@ -10,7 +10,7 @@ offset_bounds-within_day c = omega (arith, within_day-le c.args.tenths)
 pub bounds-within_day : goal.bounds-within_day
 bounds-within_day c = omega (arith, within_day-le c.args.tenths)
 
--- the one computed test is that of the table as the code has it
+-- the one computed test, `table-right`, is that of the table as the code has it
 pub returns : goal.returns
 unfolding table-right right k_at nearest growth_num growth_den exp_num exp_den
 returns c = search entry
