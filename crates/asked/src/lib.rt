@@ -3,7 +3,10 @@
 
 pub mod commands; // the commands of the program, by their pages of help
 
+ghost use Rattle.std.specs.Prelude.{◌≤◌, length};
+
 use digits::Number;
+use std::env::{Env, FillError};
 use wide_numbers::WideNumber;
 
 // The command that a word asks for, by the number of its page of help.
@@ -50,76 +53,95 @@ pub fn after(i: usize) -> usize {
 }
 
 // Is there no such word?
-pub fn is_past(i: usize) -> bool {
-    os::arg_count() <= i
+pub fn is_past(rt: &impl Env, i: usize) -> bool {
+    let mut none = [0u8; 0];
+    match rt.arg(i, &mut none) {
+        Ok(_) => false,
+        Err(FillError::NotPresent) => true,
+        Err(FillError::TooLong) => false,
+    }
 }
 
 // How many words there are from this one on.
-pub fn count_from(i: usize) -> usize {
-    let count = os::arg_count();
-    if count < i {
-        return 0;
+pub fn count_from(rt: &impl Env, i: usize) -> usize {
+    let mut end = i;
+    while end < usize::MAX && !is_past(rt, end) {
+        end += 1;
     }
-    count - i
+    end - i
 }
 
 // Is it longer than a name may be?
-pub fn is_too_long(i: usize) -> bool {
+pub fn is_too_long(rt: &impl Env, i: usize) -> bool {
     let mut name = [0u8; NAME_MOST];
-    os::arg(i, &mut name);
-    os::errno() == libc::ENAMETOOLONG
+    match rt.arg(i, &mut name) {
+        Ok(_) => false,
+        Err(FillError::NotPresent) => false,
+        Err(FillError::TooLong) => true,
+    }
 }
 
-fn is_word(i: usize, word: &[u8]) -> bool {
+// The bytes of a word, at the start of the buffer, and how many there are. Of a word that is not there none; nor of one
+// that is longer than the buffer.
+pub fn word_at(rt: &impl Env, i: usize, into: &mut [u8]) -> usize
+    ensures { result ≤ length into.new }
+{
+    match rt.arg(i, into) {
+        Ok(n) => n,
+        Err(_) => 0,
+    }
+}
+
+fn is_word(rt: &impl Env, i: usize, word: &[u8]) -> bool {
     let mut given = [0u8; WORD_MOST];
-    let n = os::arg(i, &mut given);
+    let n = word_at(rt, i, &mut given);
     base::same(&given[..n], word)
 }
 
-pub fn is_status(i: usize) -> bool {
-    is_word(i, b"--status-fd")
+pub fn is_status(rt: &impl Env, i: usize) -> bool {
+    is_word(rt, i, b"--status-fd")
 }
 
-pub fn is_words(i: usize) -> bool {
-    is_word(i, b"--words")
+pub fn is_words(rt: &impl Env, i: usize) -> bool {
+    is_word(rt, i, b"--words")
 }
 
-pub fn is_cooperative(i: usize) -> bool {
-    is_word(i, b"--cooperative")
+pub fn is_cooperative(rt: &impl Env, i: usize) -> bool {
+    is_word(rt, i, b"--cooperative")
 }
 
-pub fn is_farm(i: usize) -> bool {
-    is_word(i, b"--farm")
+pub fn is_farm(rt: &impl Env, i: usize) -> bool {
+    is_word(rt, i, b"--farm")
 }
 
-pub fn is_add(i: usize) -> bool {
-    is_word(i, b"add")
+pub fn is_add(rt: &impl Env, i: usize) -> bool {
+    is_word(rt, i, b"add")
 }
 
-pub fn is_replace(i: usize) -> bool {
-    is_word(i, b"replace")
+pub fn is_replace(rt: &impl Env, i: usize) -> bool {
+    is_word(rt, i, b"replace")
 }
 
-pub fn is_remove(i: usize) -> bool {
-    is_word(i, b"remove")
+pub fn is_remove(rt: &impl Env, i: usize) -> bool {
+    is_word(rt, i, b"remove")
 }
 
 // Is it the word for standard input?
-pub fn is_input(i: usize) -> bool {
-    is_word(i, b"-")
+pub fn is_input(rt: &impl Env, i: usize) -> bool {
+    is_word(rt, i, b"-")
 }
 
 // The words from this one on: a name, and --cooperative before or behind it.
-pub fn file_at(i: usize) -> File {
+pub fn file_at(rt: &impl Env, i: usize) -> File {
     let second = after(i);
-    if is_cooperative(i) {
+    if is_cooperative(rt, i) {
         return File {
             cooperative: true,
             name: second,
             end: after(second),
         };
     }
-    if is_cooperative(second) {
+    if is_cooperative(rt, second) {
         return File {
             cooperative: true,
             name: i,
@@ -156,9 +178,9 @@ fn page_of(word: &[u8]) -> Asked {
 }
 
 // The command that a word names.
-pub fn command_at(i: usize) -> Asked {
+pub fn command_at(rt: &impl Env, i: usize) -> Asked {
     let mut given = [0u8; WORD_MOST];
-    let n = os::arg(i, &mut given);
+    let n = word_at(rt, i, &mut given);
     page_of(&given[..n])
 }
 
@@ -170,9 +192,9 @@ fn descriptor_of(n: u32) -> Descriptor {
 }
 
 // The descriptor that a word names.
-pub fn descriptor_at(i: usize) -> Descriptor {
+pub fn descriptor_at(rt: &impl Env, i: usize) -> Descriptor {
     let mut given = [0u8; WORD_MOST];
-    let n = os::arg(i, &mut given);
+    let n = word_at(rt, i, &mut given);
     match numbers::read_number(&given[..n], 0, DESCRIPTOR_MOST) {
         Number::Value(n) => descriptor_of(n),
         Number::Unreadable => Descriptor::Nothing,
@@ -180,8 +202,8 @@ pub fn descriptor_at(i: usize) -> Descriptor {
 }
 
 // The number of grams that a word says; a word that is not there says none.
-pub fn grams_at(i: usize) -> WideNumber {
+pub fn grams_at(rt: &impl Env, i: usize) -> WideNumber {
     let mut given = [0u8; GRAMS_MOST];
-    let n = os::arg(i, &mut given);
+    let n = word_at(rt, i, &mut given);
     wide_numbers::read_wide(&given[..n])
 }

@@ -19,8 +19,8 @@ ghost use Rattle.views.specs.Rooms.{output_room};
 use above_line::Above;
 use books::Step;
 use farm::{Checked, Farm, Given, Refusal};
-use libc::{STDIN_FILENO, STDOUT_FILENO};
 use limits::Source;
+use std::io::Read;
 use views::View;
 use written::Written;
 
@@ -266,15 +266,27 @@ fn input_room() -> [u8; INPUT_MOST] {
     [0u8; INPUT_MOST]
 }
 
-fn main() {
+// Reads until the buffer is full, the input ends or a read fails: how many bytes it now has.
+fn read_full(reader: &mut impl Read, into: &mut [u8]) -> usize
+    ensures { result ≤ length into.new }
+{
+    let mut done = 0;
+    while done < into.len() {
+        let n = reader.read(&mut into[done..]).unwrap_or(0);
+        if n == 0 {
+            return done;
+        }
+        done += n;
+    }
+    done
+}
+
+fn main(rt: HostRuntime) {
     let mut input = input_room();
-    let n = io::read_full(STDIN_FILENO, &mut input);
+    let n = read_full(&mut rt.reader(), &mut input);
     let mode = mode_of(base::part_of(&input, 0, 1));
     let source = source_of(base::part_of(&input, 1, 2));
     let times = times_of(base::part_of(&input, 2, HEAD));
-    io::print_decimal(
-        STDOUT_FILENO,
-        repeated(mode, times, source, base::part_of(&input, HEAD, n)),
-    );
-    io::write_all(STDOUT_FILENO, b"\n");
+    let sum = repeated(mode, times, source, base::part_of(&input, HEAD, n));
+    let _ = println!(rt; "{sum}");
 }

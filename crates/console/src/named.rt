@@ -2,52 +2,57 @@
 ghost use Rattle.std.specs.Prelude.{length};
 ghost use Rattle.streams.specs.Within.{Within};
 
-use streams::Outcome;
+use crate::Surroundings;
+use std::env::Env;
+use std::fs;
+use std::io::{Error, ErrorKind, Read, Result};
+use std::rt::Files;
+use streams::telling::Tell;
+use streams::{Outcome, telling};
 
-// A descriptor, or one below zero.
-fn open(name: usize) -> i32 {
+// The file, open for reading; a name that is no text opens none.
+fn open<R: Env + Files>(rt: &R, name: usize) -> Result<R::File> {
     let mut path = [0u8; asked::NAME_MOST];
-    let n = os::arg(name, &mut path);
-    os::open_read(&path[..n])
+    let n = asked::word_at(rt, name, &mut path);
+    match str::from_utf8(&path[..n]) {
+        Ok(path) => fs::open(rt, path),
+        Err(_) => Err(Error::from(ErrorKind::InvalidFilename)),
+    }
 }
 
-fn read_open(fd: i32, into: &mut [u8]) -> Outcome
+fn read_open<F: Read>(file: &mut Result<F>, into: &mut [u8]) -> Outcome
     ensures { Within (length into.new) result }
 {
-    if fd < 0 {
-        return Outcome::Broken;
-    }
-    streams::read_from(fd, into)
-}
-
-fn close(fd: i32) {
-    if 0 <= fd {
-        libc::close(fd);
+    match file {
+        Ok(file) => streams::read_from(file, into),
+        Err(error) => Outcome::Broken(Some(*error)),
     }
 }
 
-fn tell_if_broken(outcome: Outcome, line: &[u8]) {
+// A file that is let go is closed.
+fn close<F: Drop>(_file: Result<F>) {}
+
+fn tell_if_broken(rt: &impl Tell, outcome: Outcome, line: &[u8]) {
     match outcome {
         Outcome::Whole(_) => {}
-        Outcome::Broken => os::fail(line),
+        Outcome::Broken(error) => telling::fail(rt, line, error),
     }
 }
 
-fn add_failure(line: &mut [u8], name: usize) -> usize {
-    let a = message_lines::add_both(line, 0, b"urvendlo: ", name);
+fn add_failure(rt: &impl Env, line: &mut [u8], name: usize) -> usize {
+    let a = message_lines::add_both(rt, line, 0, b"urvendlo: ", name);
     message_lines::add(line, a, b": it cannot be read")
 }
 
-// The file to its end, or until the buffer is full. The message is put together first: to look a word up sets the
-// system's error, which ends the message.
-pub fn read_file(name: usize, into: &mut [u8]) -> Outcome
+// The file to its end, or until the buffer is full.
+pub fn read_file(rt: &impl Surroundings, name: usize, into: &mut [u8]) -> Outcome
     ensures { Within (length into.new) result }
 {
     let mut line = message_lines::room();
-    let n = add_failure(&mut line, name);
-    let fd = open(name);
-    let outcome = read_open(fd, into);
-    tell_if_broken(outcome, base::part_of(&line, 0, n));
-    close(fd);
+    let n = add_failure(rt, &mut line, name);
+    let mut file = open(rt, name);
+    let outcome = read_open(&mut file, into);
+    tell_if_broken(rt, outcome, base::part_of(&line, 0, n));
+    close(file);
     outcome
 }

@@ -8,7 +8,7 @@ mod kept; // the edited farm's file
 
 use crate::handed::Handed;
 use books::{Decided, Step};
-use console::{Ended, messages};
+use console::{Ended, Surroundings, messages};
 use farm::{Checked, Farm, Herd, Refusal, herds};
 use limits::Source;
 use outputs::Totals;
@@ -32,27 +32,40 @@ pub struct Edited {
 // ---- the farm's file
 
 // The line of a refused file's refusal, and what there is to say of it.
-fn print_refused(source: Source, s: &[u8], name: usize, refusal: Refusal, record: usize) -> Ended {
-    if !printing::print_refusal(refusal, record) {
-        return messages::unwritten();
+fn print_refused(
+    rt: &impl Surroundings,
+    source: Source,
+    s: &[u8],
+    name: usize,
+    refusal: Refusal,
+    record: usize,
+) -> Ended {
+    match printing::print_refusal(rt, refusal, record) {
+        Outcome::Whole(_) => refused_input::of_farm(rt, source, s, name, refusal, record),
+        Outcome::Broken(error) => messages::unwritten(rt, error),
     }
-    refused_input::of_farm(source, s, name, refusal, record)
 }
 
-fn end_opening(checked: Checked, source: Source, s: &[u8], name: usize) -> Ended {
+fn end_opening(
+    rt: &impl Surroundings,
+    checked: Checked,
+    source: Source,
+    s: &[u8],
+    name: usize,
+) -> Ended {
     match checked {
         Checked::Accepted => Ended::Printed,
-        Checked::Refused(refusal, record) => print_refused(source, s, name, refusal, record),
+        Checked::Refused(refusal, record) => print_refused(rt, source, s, name, refusal, record),
     }
 }
 
 // The farm that a file says, with its totals; of a refused file no farm, and that is printed and said.
-pub fn open(source: Source, s: &[u8], name: usize) -> Edited {
+pub fn open(rt: &impl Surroundings, source: Source, s: &[u8], name: usize) -> Edited {
     let opened = step_answer::files::open(source, s);
     let checked = opened.checked;
     let farm = opened.farm;
     let totals = opened.totals;
-    let ended = end_opening(checked, source, s, name);
+    let ended = end_opening(rt, checked, source, s, name);
     Edited {
         farm,
         totals,
@@ -75,35 +88,52 @@ pub fn none(ended: Ended) -> Edited {
 // ---- a step
 
 // A step that was printed: where it was refused, that is said of the word at `at` and the one behind it.
-fn end_step(before: Ended, decided: Decided, source: Source, at: usize) -> Ended {
+fn end_step(
+    rt: &impl Surroundings,
+    before: Ended,
+    decided: Decided,
+    source: Source,
+    at: usize,
+) -> Ended {
     match decided {
         Decided::Done => before,
         Decided::Refused(refusal) => {
-            messages::step_refused(source, at, books::numbers::number_of(refusal))
+            messages::step_refused(rt, source, at, books::numbers::number_of(refusal))
         }
     }
 }
 
-// What a step is answered with, unless only the farm's file is printed; is nothing of it missing?
-fn print_answer(only_farm: bool, answer: &[u8]) -> bool {
+// What a step is answered with, unless only the farm's file is printed.
+fn print_answer(rt: &impl Surroundings, only_farm: bool, answer: &[u8]) -> Outcome {
     if only_farm {
-        return true;
+        return Outcome::Whole(0);
     }
-    match streams::write_all(answer) {
-        Outcome::Whole(_) => true,
-        Outcome::Broken => false,
-    }
+    streams::write_all(rt, answer)
 }
 
-fn end_printed(printed: bool, before: Ended, decided: Decided, source: Source, at: usize) -> Ended {
-    if !printed {
-        return messages::unwritten();
+fn end_printed(
+    rt: &impl Surroundings,
+    printed: Outcome,
+    before: Ended,
+    decided: Decided,
+    source: Source,
+    at: usize,
+) -> Ended {
+    match printed {
+        Outcome::Whole(_) => end_step(rt, before, decided, source, at),
+        Outcome::Broken(error) => messages::unwritten(rt, error),
     }
-    end_step(before, decided, source, at)
 }
 
 // The step with this herd.
-fn take(edited: Edited, manner: Manner, step: Step, h: Herd, at: usize) -> Edited {
+fn take(
+    rt: &impl Surroundings,
+    edited: Edited,
+    manner: Manner,
+    step: Step,
+    h: Herd,
+    at: usize,
+) -> Edited {
     let source = manner.source;
     let limits = limits::limits_of(source);
     let farm = edited.farm;
@@ -114,8 +144,8 @@ fn take(edited: Edited, manner: Manner, step: Step, h: Herd, at: usize) -> Edite
     let farm_after = taken.farm;
     let totals_after = taken.totals;
     let bytes = taken.bytes;
-    let printed = print_answer(manner.only_farm, base::part_of(&bytes, 0, taken.length));
-    let ended = end_printed(printed, before, decided, source, at);
+    let printed = print_answer(rt, manner.only_farm, base::part_of(&bytes, 0, taken.length));
+    let ended = end_printed(rt, printed, before, decided, source, at);
     Edited {
         farm: farm_after,
         totals: totals_after,
@@ -135,42 +165,56 @@ fn left(edited: Edited, ended: Ended) -> Edited {
 }
 
 // The step that the word at `at` says, with the herd that the one behind it hands over.
-fn take_handed(edited: Edited, manner: Manner, step: Step, handed: Handed, at: usize) -> Edited {
+fn take_handed(
+    rt: &impl Surroundings,
+    edited: Edited,
+    manner: Manner,
+    step: Step,
+    handed: Handed,
+    at: usize,
+) -> Edited {
     let found = handed.ended;
     let h = handed.herd;
     match found {
-        Ended::Printed => take(edited, manner, step, h, at),
+        Ended::Printed => take(rt, edited, manner, step, h, at),
         Ended::Refused => left(edited, Ended::Refused),
         Ended::Failed => left(edited, Ended::Failed),
     }
 }
 
-fn take_at(edited: Edited, manner: Manner, at: usize) -> Edited {
+fn take_at(rt: &impl Surroundings, edited: Edited, manner: Manner, at: usize) -> Edited {
     let behind = asked::after(at);
-    if asked::is_add(at) {
-        let handed = handed::by_file(manner, behind);
-        return take_handed(edited, manner, Step::Add, handed, at);
+    if asked::is_add(rt, at) {
+        let handed = handed::by_file(rt, manner, behind);
+        return take_handed(rt, edited, manner, Step::Add, handed, at);
     }
-    if asked::is_replace(at) {
-        let handed = handed::by_file(manner, behind);
-        return take_handed(edited, manner, Step::Replace, handed, at);
+    if asked::is_replace(rt, at) {
+        let handed = handed::by_file(rt, manner, behind);
+        return take_handed(rt, edited, manner, Step::Replace, handed, at);
     }
-    take_handed(edited, manner, Step::Remove, handed::by_label(behind), at)
+    take_handed(
+        rt,
+        edited,
+        manner,
+        Step::Remove,
+        handed::by_label(rt, behind),
+        at,
+    )
 }
 
 // ---- all of them
 
 // The steps that the words from `first` on say, two by two, to the last or until one fails.
-fn take_all(opened: Edited, manner: Manner, first: usize) -> Edited {
+fn take_all(rt: &impl Surroundings, opened: Edited, manner: Manner, first: usize) -> Edited {
     let mut edited = opened;
     let mut at = first;
-    let mut words = asked::count_from(first);
+    let mut words = asked::count_from(rt, first);
     while 1 < words {
         let ended = edited.ended;
         if is_failed(ended) {
             return edited;
         }
-        edited = take_at(edited, manner, at);
+        edited = take_at(rt, edited, manner, at);
         at = asked::after(asked::after(at));
         words -= 2;
     }
@@ -186,7 +230,7 @@ fn is_failed(ended: Ended) -> bool {
 }
 
 // What is printed after the last step, unless one failed: the farm's file, or nothing more.
-fn end_steps(edited: Edited, manner: Manner) -> Ended {
+fn end_steps(rt: &impl Surroundings, edited: Edited, manner: Manner) -> Ended {
     let ended = edited.ended;
     if is_failed(ended) {
         return ended;
@@ -196,14 +240,14 @@ fn end_steps(edited: Edited, manner: Manner) -> Ended {
     }
     let farm = edited.farm;
     let source = manner.source;
-    kept::print_farm(farm, source, ended)
+    kept::print_farm(rt, farm, source, ended)
 }
 
 // The steps of a farm that was opened; one that was not is not edited.
-pub fn run(opened: Edited, manner: Manner, first: usize) -> Ended {
+pub fn run(rt: &impl Surroundings, opened: Edited, manner: Manner, first: usize) -> Ended {
     let ended = opened.ended;
     match ended {
-        Ended::Printed => end_steps(take_all(opened, manner, first), manner),
+        Ended::Printed => end_steps(rt, take_all(rt, opened, manner, first), manner),
         Ended::Refused => Ended::Refused,
         Ended::Failed => Ended::Failed,
     }

@@ -7,9 +7,9 @@ pub mod lines; // the list as text
 ghost use Rattle.std.specs.Prelude.{◌*◌, ◌≤◌, length};
 ghost use Rattle.mend_print.specs.Lines.{round_most};
 
-use libc::STDERR_FILENO;
 use mend::Answer;
-use streams::Outcome;
+use streams::telling::Tell;
+use streams::{Outcome, telling};
 
 // The longest file that is mended here.
 pub const FILE_MOST: usize = 262144;
@@ -34,31 +34,28 @@ pub enum Input {
 }
 
 // The file, and its length; where it cannot be read or is too long, that is said.
-pub fn read_file(file: &mut [u8]) -> Input {
-    match streams::read_all(file) {
+pub fn read_file(rt: &(impl std::io::Input + Tell), file: &mut [u8]) -> Input {
+    match streams::read_all(rt, file) {
         Outcome::Whole(n) => {
             if FILE_MOST < n {
-                io::write_all(
-                    STDERR_FILENO,
-                    b"urvendlo: the file has more than 262,144 bytes\n",
-                );
+                rt.tell(b"urvendlo: the file has more than 262,144 bytes\n");
                 return Input::Failed;
             }
             Input::File(n)
         }
-        Outcome::Broken => {
-            os::fail(b"urvendlo: the input cannot be read");
+        Outcome::Broken(error) => {
+            telling::fail(rt, b"urvendlo: the input cannot be read", error);
             Input::Failed
         }
     }
 }
 
 // A text on standard output; was all of it written?
-pub fn print(text: &[u8]) -> bool {
-    match streams::write_all(text) {
+pub fn print(rt: &(impl Print + Tell), text: &[u8]) -> bool {
+    match streams::write_all(rt, text) {
         Outcome::Whole(_) => true,
-        Outcome::Broken => {
-            os::fail(b"urvendlo: the output cannot be written");
+        Outcome::Broken(error) => {
+            telling::fail(rt, b"urvendlo: the output cannot be written", error);
             false
         }
     }
@@ -71,30 +68,35 @@ fn round_room() -> [u8; ROUND_ROOM] {
 }
 
 // Some changes, kind and place one after the other; were all of them written?
-fn print_some(list: &[usize]) -> bool
+fn print_some(rt: &(impl Print + Tell), list: &[usize]) -> bool
     requires { length list.now ≤ round_most }
 {
     let mut text = round_room();
     let n = lines::put_lines(&mut text, list);
-    print(base::part_of(&text, 0, n))
+    print(rt, base::part_of(&text, 0, n))
 }
 
 // A list of changes; was all of it written?
-pub fn print_list(list: &[usize]) -> bool {
+pub fn print_list(rt: &(impl Print + Tell), list: &[usize]) -> bool {
     let mut from = 0;
     while ROUND < list.len() - from {
-        if !print_some(&list[from..from + ROUND]) {
+        if !print_some(rt, &list[from..from + ROUND]) {
             return false;
         }
         from += ROUND;
     }
-    print_some(&list[from..])
+    print_some(rt, &list[from..])
 }
 
 // The mended file, by way of these slices; was all of it written?
-pub fn print_mended_by(s: &[u8], out: &mut [u8], list: &mut [usize]) -> bool {
+pub fn print_mended_by(
+    rt: &(impl Print + Tell),
+    s: &[u8],
+    out: &mut [u8],
+    list: &mut [usize],
+) -> bool {
     match mend::mend(s, out, list) {
-        Answer::Mended(length, _) => print(base::part_of(out, 0, length)),
+        Answer::Mended(length, _) => print(rt, base::part_of(out, 0, length)),
         Answer::Refused(_, _) => false,
     }
 }
@@ -110,9 +112,14 @@ fn changes_listed(s: &[u8], out: &mut [u8], list: &mut [usize]) -> usize
 }
 
 // The list of changes, by way of these slices; was all of it written?
-pub fn print_changes_by(s: &[u8], out: &mut [u8], list: &mut [usize]) -> bool {
+pub fn print_changes_by(
+    rt: &(impl Print + Tell),
+    s: &[u8],
+    out: &mut [u8],
+    list: &mut [usize],
+) -> bool {
     let changes = changes_listed(s, out, list);
-    print_list(&list[..mend::ENTRY * changes])
+    print_list(rt, &list[..mend::ENTRY * changes])
 }
 
 // Room for the mended file, and for the list of its changes.
@@ -125,15 +132,15 @@ fn list_room() -> [usize; LIST_MOST] {
 }
 
 // The mended file, of no more than the longest; was all of it written?
-pub fn print_mended(s: &[u8]) -> bool {
+pub fn print_mended(rt: &(impl Print + Tell), s: &[u8]) -> bool {
     let mut out = mended_room();
     let mut list = list_room();
-    print_mended_by(s, &mut out, &mut list)
+    print_mended_by(rt, s, &mut out, &mut list)
 }
 
 // The list of changes of such a file; was all of it written?
-pub fn print_changes(s: &[u8]) -> bool {
+pub fn print_changes(rt: &(impl Print + Tell), s: &[u8]) -> bool {
     let mut out = mended_room();
     let mut list = list_room();
-    print_changes_by(s, &mut out, &mut list)
+    print_changes_by(rt, s, &mut out, &mut list)
 }

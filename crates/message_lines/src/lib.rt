@@ -3,6 +3,7 @@
 #![tactic(auto)]
 
 use limits::Source;
+use std::env::Env;
 
 // Room for a line with a name in it, however it is quoted, and the words around it.
 const LINE_MOST: usize = quoting::BYTE_MOST * asked::NAME_MOST + quoting::AROUND_MOST + 512;
@@ -26,10 +27,10 @@ pub fn add(line: &mut [u8], at: usize, text: &[u8]) -> usize {
     base::put(line, at, text)
 }
 
-fn add_number(line: &mut [u8], at: usize, n: u64) -> usize {
+pub fn add_number(line: &mut [u8], at: usize, n: u64) -> usize {
     let mut digits = [0u8; DIGITS_MOST];
-    let k = io::decimal(n, &mut digits);
-    add(line, at, &digits[..k])
+    let k = decimal::put_whole(&mut digits, 0, n);
+    add(line, at, base::part_of(&digits, 0, k))
 }
 
 // A name as it is shown in messages.
@@ -49,27 +50,27 @@ fn add_quoted(line: &mut [u8], at: usize, name: &[u8]) -> usize {
 }
 
 // A word of the command line, as it is shown; nothing where there is none.
-fn add_word(line: &mut [u8], at: usize, word: usize) -> usize {
-    if asked::is_past(word) {
+fn add_word(rt: &impl Env, line: &mut [u8], at: usize, word: usize) -> usize {
+    if asked::is_past(rt, word) {
         return at;
     }
     let mut given = [0u8; asked::NAME_MOST];
-    let n = os::arg(word, &mut given);
+    let n = asked::word_at(rt, word, &mut given);
     add_quoted(line, at, &given[..n])
 }
 
 // A text and a word.
-pub fn add_both(line: &mut [u8], at: usize, text: &[u8], word: usize) -> usize {
+pub fn add_both(rt: &impl Env, line: &mut [u8], at: usize, text: &[u8], word: usize) -> usize {
     let next = add(line, at, text);
-    add_word(line, next, word)
+    add_word(rt, line, next, word)
 }
 
 // The file's name, or what it is read from.
-pub fn add_name(line: &mut [u8], at: usize, name: usize) -> usize {
-    if asked::is_past(name) {
+pub fn add_name(rt: &impl Env, line: &mut [u8], at: usize, name: usize) -> usize {
+    if asked::is_past(rt, name) {
         return add(line, at, b"standard input");
     }
-    add_word(line, at, name)
+    add_word(rt, line, at, name)
 }
 
 pub fn add_record(line: &mut [u8], at: usize, record: usize) -> usize {
@@ -118,11 +119,11 @@ pub fn add_places(line: &mut [u8], at: usize, changes: usize) -> usize {
     add(line, a, b" places")
 }
 
-pub fn add_source(line: &mut [u8], at: usize, name: usize) -> usize {
-    if asked::is_past(name) {
+pub fn add_source(rt: &impl Env, line: &mut [u8], at: usize, name: usize) -> usize {
+    if asked::is_past(rt, name) {
         return add(line, at, b"< FILE");
     }
-    add_word(line, at, name)
+    add_word(rt, line, at, name)
 }
 
 fn add_verdict(line: &mut [u8], at: usize, is_above: bool) -> usize {

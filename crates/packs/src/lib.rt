@@ -29,25 +29,25 @@ fn length_of(head: &[u8; LENGTH_BYTES]) -> usize {
 }
 
 // Reads as much as there is room for; was there so much?
-fn filled(into: &mut [u8]) -> bool {
+fn filled(rt: &impl Input, into: &mut [u8]) -> bool {
     let size = into.len();
-    match streams::read_all(into) {
+    match streams::read_all(rt, into) {
         Outcome::Whole(n) => n == size,
-        Outcome::Broken => false,
+        Outcome::Broken(_) => false,
     }
 }
 
 // The next file, into the front of the buffer.
-pub fn next_file(file: &mut [u8]) -> Packed {
+pub fn next_file(rt: &impl Input, file: &mut [u8]) -> Packed {
     let mut head = [0u8; LENGTH_BYTES];
-    if !filled(&mut head) {
+    if !filled(rt, &mut head) {
         return Packed::End;
     }
     let n = length_of(&head);
     if file.len() < n {
         return Packed::End;
     }
-    if !filled(&mut file[..n]) {
+    if !filled(rt, &mut file[..n]) {
         return Packed::End;
     }
     Packed::File(n)

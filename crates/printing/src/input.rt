@@ -9,9 +9,9 @@ use streams::Outcome;
 pub const INPUT_MOST: usize = limits::INPUT_BYTES + 1;
 
 // The whole file; or, of a longer one, so much that it is refused as too long.
-pub fn read_file(file: &mut [u8]) -> Outcome
+pub fn read_file(rt: &impl Input, file: &mut [u8]) -> Outcome
     requires { length file.old ≡ input_bytes + 1 }
     ensures { Within (length file.new) result }
 {
-    streams::read_all(file)
+    streams::read_all(rt, file)
 }

@@ -7,6 +7,7 @@ pub mod tell; // answers of other calls, a line each
 
 use farm::Refusal;
 use limits::Source;
+use std::io::Error;
 use streams::Outcome;
 use views::{Output, View, program};
 use written::Written;
@@ -16,30 +17,30 @@ use written::Written;
 pub enum Printed {
     Listed,
     Refused(Refusal, usize),
-    Broken,
+    Broken(Option<Error>),
 }
 
-// A text on standard output; was all of it written?
-fn print(text: &[u8]) -> bool {
-    match streams::write_all(text) {
-        Outcome::Whole(_) => true,
-        Outcome::Broken => false,
-    }
+// A text on standard output.
+fn print(rt: &impl Print, text: &[u8]) -> Outcome {
+    streams::write_all(rt, text)
 }
 
 // The line of a refusal.
-pub fn print_refusal(refusal: Refusal, record: usize) -> bool {
+pub fn print_refusal(rt: &impl Print, refusal: Refusal, record: usize) -> Outcome {
     let mut line = [0u8; refusal_line::LINE_ROOM];
     let n = file_refusal_line::put_line(&mut line, refusal, record);
-    print(base::part_of(&line, 0, n))
+    print(rt, base::part_of(&line, 0, n))
 }
 
 // What was put in front of a buffer.
-fn print_output(put: &[u8], output: Output) -> Printed {
-    if !print(base::part_of(put, 0, output.length)) {
-        return Printed::Broken;
+fn print_output(rt: &impl Print, put: &[u8], output: Output) -> Printed {
+    match print(rt, base::part_of(put, 0, output.length)) {
+        Outcome::Whole(_) => end_output(output.ended),
+        Outcome::Broken(error) => Printed::Broken(error),
     }
-    let ended = output.ended;
+}
+
+fn end_output(ended: Written) -> Printed {
     match ended {
         Written::Length(_) => Printed::Listed,
         Written::Refused(refusal, record) => Printed::Refused(refusal, record),
@@ -55,22 +56,22 @@ fn cooperative_room() -> [u8; views::COOPERATIVE_ROOM] {
     [0u8; views::COOPERATIVE_ROOM]
 }
 
-fn print_input(view: View, s: &[u8]) -> Printed {
+fn print_input(rt: &impl Print, view: View, s: &[u8]) -> Printed {
     let mut put = input_room();
     let output = program::put_output(Source::StandardInput, s, &mut put, view);
-    print_output(&put, output)
+    print_output(rt, &put, output)
 }
 
-fn print_cooperative(view: View, s: &[u8]) -> Printed {
+fn print_cooperative(rt: &impl Print, view: View, s: &[u8]) -> Printed {
     let mut put = cooperative_room();
     let output = program::put_output(Source::Cooperative, s, &mut put, view);
-    print_output(&put, output)
+    print_output(rt, &put, output)
 }
 
 // What the view lists of a file, or the refusal's line.
-pub fn print_view(view: View, source: Source, s: &[u8]) -> Printed {
+pub fn print_view(rt: &impl Print, view: View, source: Source, s: &[u8]) -> Printed {
     match source {
-        Source::StandardInput => print_input(view, s),
-        Source::Cooperative => print_cooperative(view, s),
+        Source::StandardInput => print_input(rt, view, s),
+        Source::Cooperative => print_cooperative(rt, view, s),
     }
 }

@@ -1,49 +1,48 @@
 // Answers on standard output, a line each.
 use farm::{Checked, Refusal};
-use libc::STDOUT_FILENO;
 use written::Written;
 
 // As long as kilograms can be.
 const KILOGRAMS_MOST: usize = 21;
 
-fn say(text: &[u8]) {
-    io::write_all(STDOUT_FILENO, text);
+fn say(rt: &impl Print, text: &[u8]) {
+    let _ = rt.write_all(text);
 }
 
-pub fn line(text: &[u8]) {
-    say(text);
-    say(b"\r\n");
+pub fn line(rt: &impl Print, text: &[u8]) {
+    say(rt, text);
+    say(rt, b"\r\n");
 }
 
-pub fn number(n: u64) {
-    io::print_decimal(STDOUT_FILENO, n);
-    say(b"\r\n");
+pub fn number(rt: &impl Print, n: u64) {
+    let _ = print!(rt; "{n}");
+    say(rt, b"\r\n");
 }
 
 // Grams, as kilograms.
-pub fn kilograms(grams: i64) {
+pub fn kilograms(rt: &impl Print, grams: i64) {
     let mut text = [0u8; KILOGRAMS_MOST];
     let n = kilogram_text::put_kilograms(&mut text, 0, grams);
-    line(base::part_of(&text, 0, n));
+    line(rt, base::part_of(&text, 0, n));
 }
 
-fn refusal_line(refusal: Refusal, record: usize) {
-    crate::print_refusal(refusal, record);
+fn refusal_line(rt: &impl Print, refusal: Refusal, record: usize) {
+    crate::print_refusal(rt, refusal, record);
 }
 
-pub fn checked_line(checked: Checked) {
+pub fn checked_line(rt: &impl Print, checked: Checked) {
     match checked {
-        Checked::Accepted => line(b"accepted"),
-        Checked::Refused(refusal, record) => refusal_line(refusal, record),
+        Checked::Accepted => line(rt, b"accepted"),
+        Checked::Refused(refusal, record) => refusal_line(rt, refusal, record),
     }
 }
 
-pub fn written_line(written: Written) {
+pub fn written_line(rt: &impl Print, written: Written) {
     match written {
         Written::Length(n) => {
-            say(b"length,");
-            number(n as u64);
+            say(rt, b"length,");
+            number(rt, n as u64);
         }
-        Written::Refused(refusal, record) => refusal_line(refusal, record),
+        Written::Refused(refusal, record) => refusal_line(rt, refusal, record),
     }
 }

@@ -2,8 +2,10 @@
 // are proved to be the definitions of specs/Steps.antt.
 #![tactic(auto)]
 
-ghost use Rattle.std.specs.Prelude.{◌≡◌};
+ghost use Rattle.std.specs.Prelude.{◌≡◌, None};
 ghost use Rattle.stream_steps.specs.Steps.{fault_of, moved_of, onward_of, after_call, after_read, after_write};
+
+use std::io::{Error, ErrorKind, Result};
 
 // What one read or write gave: so many bytes; none, which is the end of an input; a signal or a stream that was not
 // ready; or an error.
@@ -11,52 +13,52 @@ ghost use Rattle.stream_steps.specs.Steps.{fault_of, moved_of, onward_of, after_
 pub enum Moved {
     Bytes(usize),
     Nothing,
-    Again,
-    Failed,
+    Again(Error),
+    Failed(Error),
 }
 
-// What to do next: go on from a place, try once more, or stop, after so many bytes or with an error.
+// What to do next: go on from a place, try once more, or stop, after so many bytes or with an error. Where the system
+// has none to name, as of an output that takes nothing, there is none.
 #[derive(Clone, Copy)]
 pub enum Step {
     On(usize),
-    Wait,
+    Wait(Error),
     Done(usize),
-    Broken,
+    Broken(Option<Error>),
 }
 
-fn fault(error: i32) -> Moved
+fn fault(error: Error) -> Moved
     ensures { result ≡ fault_of error }
 {
-    if error == libc::EINTR {
-        return Moved::Again;
+    let kind = error.kind();
+    if kind == ErrorKind::Interrupted {
+        return Moved::Again(error);
     }
-    if error == libc::EAGAIN {
-        return Moved::Again;
+    if kind == ErrorKind::WouldBlock {
+        return Moved::Again(error);
     }
-    Moved::Failed
+    Moved::Failed(error)
 }
 
-// The answer of a read or a write; the error's number beside it counts where the answer is below zero.
-pub fn meaning(answer: isize, error: i32) -> Moved
-    ensures { result ≡ moved_of answer error }
+// The answer of a read or a write.
+pub fn meaning(answer: Result<usize>) -> Moved
+    ensures { result ≡ moved_of answer }
 {
-    if answer < 0 {
-        return fault(error);
+    match answer {
+        Ok(0) => Moved::Nothing,
+        Ok(n) => Moved::Bytes(n),
+        Err(error) => fault(error),
     }
-    if answer == 0 {
-        return Moved::Nothing;
-    }
-    Moved::Bytes(answer as usize)
 }
 
 fn onward(done: usize, size: usize, n: usize) -> Step
     ensures { result ≡ onward_of done size n }
 {
     if size < done {
-        return Step::Broken;
+        return Step::Broken(None);
     }
     if size - done < n {
-        return Step::Broken;
+        return Step::Broken(None);
     }
     if done + n == size {
         return Step::Done(size);
@@ -71,8 +73,8 @@ fn after_call(done: usize, size: usize, none: Step, moved: Moved) -> Step
     match moved {
         Moved::Bytes(n) => onward(done, size, n),
         Moved::Nothing => none,
-        Moved::Again => Step::Wait,
-        Moved::Failed => Step::Broken,
+        Moved::Again(error) => Step::Wait(error),
+        Moved::Failed(error) => Step::Broken(Some(error)),
     }
 }
 
@@ -85,5 +87,5 @@ pub fn after_read(done: usize, size: usize, moved: Moved) -> Step
 pub fn after_write(done: usize, size: usize, moved: Moved) -> Step
     ensures { result ≡ after_write done size moved }
 {
-    after_call(done, size, Step::Broken, moved)
+    after_call(done, size, Step::Broken(None), moved)
 }

@@ -1,55 +1,50 @@
 -- What is read or written is no more than there is room or text, and each step that goes on goes further.
 -- Assumes nothing.
-use Prim.Native.Nat.{ℕ, ◌+◌, ◌-◌, ◌*◌, ◌<◌, ◌≤◌, ◌^◌}
-use mathlib.Core.Path.{◌≡◌, refl}
-use mathlib.Core.Bool.{Bool, true, false}
-use native.Mathlib.Omega.{arith}
-use lib.Dec.{eqb}
-use lib.IntN.{ℤ, pos, negsuc}
-use lib.Signed.{mag}
-use mir.Syntax.{w64}
-use mir.Val.{of_z, to_z}
-use mir.Facts.{to_z-of_z}
+use Rattle.std.proofs.Common.{◌≡◌, refl, ℕ, ◌+◌, ◌-◌, ◌*◌, ◌<◌, ◌≤◌, Bool, true, false, List, length, arith, Result, Ok, Err, Option, None, Some, IfOk}
 use borrow.Author.Tests.{eqb-false, le-ltb}
+use lib.Dec.{eqb}
 use Rattle.base.specs.Pick.{pick}
-use Rattle.libc.specs.Io as io
+use Rattle.std.specs.Counts.{IsPrefixLen}
+use Rattle.std.specs.IoError.{error_kind}
+use Rattle.std.specs.declared.io.Error.{Error}
+use Rattle.std.specs.declared.io.ErrorKind.{ErrorKind}
+use Rattle.std.specs.declared.io.ErrorKind.TheVariants.{Interrupted, WouldBlock}
 use Rattle.stream_steps.specs.declared.Moved.{Moved}
 use Rattle.stream_steps.specs.declared.Moved.TheVariants.{Bytes, Nothing, Again, Failed}
 use Rattle.streams.specs.declared.Outcome.{Outcome}
 use Rattle.streams.specs.declared.Outcome.TheVariants.{Whole, Broken}
 use Rattle.stream_steps.specs.declared.Step.{Step}
 use Rattle.stream_steps.specs.declared.Step.TheVariants as steps
-use Rattle.stream_steps.specs.Steps.{fault_of, moved_of, onward_of, after_call, after_read, after_write}
+use Rattle.stream_steps.specs.Steps.{fault_by, fault_of, moved_of, onward_of, after_call, after_read, after_write}
 use Rattle.streams.specs.Within.{Counted, Within, All, Going}
 
 -- ---- one call
 
-fault-counted : (size : ℕ) (e : ℤ) → Counted size (fault_of e)
-fault-counted size (pos n) = go (eqb n 4) (eqb n 11)
-  where
-    go : (s t : Bool) → Counted size (pick s Again (pick t Again Failed))
-    go true t = Counted.again
-    go false true = Counted.again
-    go false false = Counted.failed
-fault-counted size (negsuc n) = Counted.failed
+-- each kind of fault is one of two
+fault_counted : (size : ℕ) (k : ErrorKind) (e : Error) → Counted size (fault_by k e)
+fault_counted size Interrupted e = Counted.again
+fault_counted size WouldBlock e = Counted.again
+fault_counted size k e = Counted.failed
 
-answer-counted : (size : ℕ) (z e : ℤ) → io.Moved size z → Counted size (moved_of z e)
-answer-counted size (pos n) e h = go (eqb n 0) refl
+-- an answer that moved no more than there is
+pub answer_counted : (size : ℕ) (answer : Result ℕ Error) {r : Moved} → IfOk answer (λ n. n ≤ size)
+    → r ≡ moved_of answer → Counted size r
+answer_counted size (Ok n) h q = rw q (go (eqb n 0) refl)
   where
     go : (t : Bool) → eqb n 0 ≡ t → Counted size (pick t Nothing (Bytes n))
-    go true q = Counted.nothing
-    go false q = let k = eqb-false n 0 q in Counted.bytes {n = n} (omega arith) h
-answer-counted size (negsuc n) e h = fault-counted size e
+    go true e = Counted.nothing
+    go false e = let k = eqb-false n 0 e in Counted.bytes {n = n} (omega arith) h
+answer_counted size (Err e) h q = rw q (fault_counted size (error_kind e) e)
 
--- as a call hands it on, by its bits
-pub moved-counted : (size : ℕ) (z e : ℤ) {r : Moved} → mag z < 2 ^ 63 → io.Moved size z
-    → r ≡ moved_of (to_z w64 (of_z w64 z)) e → Counted size r
-moved-counted size z e h k q = rw (q, to_z-of_z (record { sfits = h })) (answer-counted size z e k)
+pub read_counted : (size : ℕ) (buf : List ℕ) (answer : Result ℕ Error) {r : Moved} → length buf ≡ size
+    → IfOk answer (λ n. IsPrefixLen n buf) → r ≡ moved_of answer → Counted size r
+read_counted size buf (Ok n) same h q = answer_counted size (Ok n) (omega (arith, h.0)) q
+read_counted size buf (Err e) same h q = answer_counted size (Err e) tt q
 
 -- ---- a step
 
 module _ (Ends : Outcome → Type 0) (done size : ℕ) (inside : done ≤ size) (full : Ends (Whole size))
-    (broken : Ends Broken) where
+    (broken : (e : Option Error) → Ends (Broken e)) where
   onward_going : (n : ℕ) → 0 < n → n ≤ size - done → Going Ends done size (onward_of done size n)
   onward_going n h k = rw (le-ltb size (done + n) (omega arith)) (go (eqb (done + n) size))
     where
@@ -62,21 +57,21 @@ module _ (Ends : Outcome → Type 0) (done size : ℕ) (inside : done ≤ size) 
   call_going w (Counted.bytes {n} h k) = onward_going n h k
   call_going w Counted.nothing = w
   call_going w Counted.again = Going.wait
-  call_going w Counted.failed = Going.broken broken
+  call_going w (Counted.failed {e}) = Going.broken (broken (Some e))
 
 -- of the rest of the slice
 module _ {done size rest : ℕ} {m : Moved} {r : Step} (inside : done ≤ size) (given : Counted rest m)
     (e : rest ≡ size - done) where
   pub read_goes : r ≡ after_read done size m → Going (Within size) done size r
   read_goes q =
-      rw q (call_going (Within size) done size inside (Within.whole (omega arith)) Within.broken
+      rw q (call_going (Within size) done size inside (Within.whole (omega arith)) (λ e. Within.broken)
       (Going.done (Within.whole inside))
       (rw e at given))
 
   pub write_goes : 0 < size → r ≡ after_write done size m → Going (All size) done size r
   write_goes some q =
-      let broken = All.broken some in
-      rw q (call_going (All size) done size inside All.whole broken (Going.broken broken) (rw e at given))
+      let broken : (e : Option Error) → All size (Broken e) = λ e. All.broken some in
+      rw q (call_going (All size) done size inside All.whole broken (Going.broken (broken None)) (rw e at given))
 
 -- ---- a loop's turn, after which the slice is as long as before
 

@@ -1,5 +1,6 @@
 -- What a read or a write can have given of a slice, and how a reading or a writing can go on and end.
-use Rattle.std.specs.Prelude.{ℕ, ◌<◌, ◌≤◌}
+use Rattle.std.specs.Prelude.{ℕ, ◌<◌, ◌≤◌, Option}
+use Rattle.std.specs.declared.io.Error.{Error}
 use Rattle.stream_steps.specs.declared.Moved.{Moved}
 use Rattle.stream_steps.specs.declared.Moved.TheVariants.{Bytes, Nothing, Again, Failed}
 use Rattle.streams.specs.declared.Outcome.{Outcome}
@@ -11,22 +12,22 @@ use Rattle.stream_steps.specs.declared.Step.TheVariants as steps
 pub data Counted (size : ℕ) : Moved → Type 0 where
   bytes : {n : ℕ} → 0 < n → n ≤ size → Counted size (Bytes n)
   nothing : Counted size Nothing
-  again : Counted size Again
-  failed : Counted size Failed
+  again : {e : Error} → Counted size (Again e)
+  failed : {e : Error} → Counted size (Failed e)
 
 -- an input is read: no more of it than the buffer has room for
 pub data Within (size : ℕ) : Outcome → Type 0 where
   whole : {n : ℕ} → n ≤ size → Within size (Whole n)
-  broken : Within size Broken
+  broken : {e : Option Error} → Within size (Broken e)
 
 -- a text is written: all of it; where there is nothing to write, that cannot break off
 pub data All (size : ℕ) : Outcome → Type 0 where
   whole : All size (Whole size)
-  broken : 0 < size → All size Broken
+  broken : {e : Option Error} → 0 < size → All size (Broken e)
 
 -- a step that goes on goes further, and not past the end; one that stops does so with an outcome that may be
 pub data Going (Ends : Outcome → Type 0) (from size : ℕ) : Step → Type 0 where
   on : {n : ℕ} → from < n → n ≤ size → Going Ends from size (steps.On n)
-  wait : Going Ends from size steps.Wait
+  wait : {e : Error} → Going Ends from size (steps.Wait e)
   done : {n : ℕ} → Ends (Whole n) → Going Ends from size (steps.Done n)
-  broken : Ends Broken → Going Ends from size steps.Broken
+  broken : {e : Option Error} → Ends (Broken e) → Going Ends from size (steps.Broken e)

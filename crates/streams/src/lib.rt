@@ -2,85 +2,88 @@
 // after a call of the system, crate `stream_steps` decides.
 #![tactic(auto)]
 
+pub mod telling; // lines on standard error, and what failed
+
 ghost use Rattle.std.specs.Prelude.{◌<◌, ◌≤◌, length};
 ghost use Rattle.streams.specs.Within.{Counted, Within, All, Going};
 
-use libc::{STDIN_FILENO, STDOUT_FILENO};
+use std::io::{Error, Read};
+use std::thread;
 use stream_steps::{Moved, Step};
 
-// How a whole reading or writing ends: after so many bytes, or with an error.
+// How a whole reading or writing ends: after so many bytes, or with an error, where the system has one to name.
 #[derive(Clone, Copy)]
 pub enum Outcome {
     Whole(usize),
-    Broken,
+    Broken(Option<Error>),
 }
 
 // How often in a row a call is made again before it counts as failed.
 const PATIENCE: usize = 20000000;
 
-fn read_some(fd: i32, into: &mut [u8]) -> Moved
+fn read_some(input: &mut impl Read, into: &mut [u8]) -> Moved
     ensures { Counted (length into.old) result }
 {
-    let answer = libc::read(fd, into);
-    stream_steps::meaning(answer, os::errno())
+    stream_steps::meaning(input.read(into))
 }
 
-fn write_some(text: &[u8]) -> Moved
+fn write_some(output: &impl Print, text: &[u8]) -> Moved
     ensures { Counted (length text.now) result }
 {
-    let answer = libc::write(STDOUT_FILENO, text);
-    stream_steps::meaning(answer, os::errno())
+    stream_steps::meaning(output.write_some(text))
 }
 
-fn read_step(fd: i32, into: &mut [u8], done: usize) -> Step
+fn read_step(input: &mut impl Read, into: &mut [u8], done: usize) -> Step
     requires { done ≤ length into.old }
     ensures { Going (Within (length into.old)) done (length into.old) result }
 {
     let size = into.len();
-    let moved = read_some(fd, &mut into[done..]);
+    let moved = read_some(input, &mut into[done..]);
     stream_steps::after_read(done, size, moved)
 }
 
-fn write_step(text: &[u8], done: usize) -> Step
+fn write_step(output: &impl Print, text: &[u8], done: usize) -> Step
     requires { (0 < length text.now) × (done ≤ length text.now) }
     ensures { Going (All (length text.now)) done (length text.now) result }
 {
-    let moved = write_some(&text[done..]);
+    let moved = write_some(output, &text[done..]);
     stream_steps::after_write(done, text.len(), moved)
 }
 
-// What the descriptor gives, to its end or until the buffer is full.
-pub fn read_from(fd: i32, into: &mut [u8]) -> Outcome
+// What the input gives, to its end or until the buffer is full.
+pub fn read_from(input: &mut impl Read, into: &mut [u8]) -> Outcome
     ensures { Within (length into.new) result }
 {
     let mut done = 0;
     let mut patience = PATIENCE;
+    let mut last = None;
     while patience > 0 {
-        match read_step(fd, into, done) {
+        match read_step(input, into, done) {
             Step::On(next) => {
                 done = next;
                 patience = PATIENCE;
             }
-            Step::Wait => {
-                libc::sched_yield();
+            Step::Wait(error) => {
+                thread::yield_now();
                 patience -= 1;
+                last = Some(error);
             }
             Step::Done(n) => return Outcome::Whole(n),
-            Step::Broken => return Outcome::Broken,
+            Step::Broken(error) => return Outcome::Broken(error),
         }
     }
-    Outcome::Broken
+    Outcome::Broken(last)
 }
 
 // The same of standard input.
-pub fn read_all(into: &mut [u8]) -> Outcome
+pub fn read_all(rt: &impl Input, into: &mut [u8]) -> Outcome
     ensures { Within (length into.new) result }
 {
-    read_from(STDIN_FILENO, into)
+    read_from(&mut rt.reader(), into)
 }
 
 // A text to standard output, all of it.
-pub fn write_all(text: &[u8]) -> Outcome
+pub fn write_all(output: &impl Print, text: &[u8]) -> Outcome
     ensures { All (length text.now) result }
 {
     if text.len() == 0 {
@@ -88,19 +91,21 @@ pub fn write_all(text: &[u8]) -> Outcome
     }
     let mut done = 0;
     let mut patience = PATIENCE;
+    let mut last = None;
     while patience > 0 {
-        match write_step(text, done) {
+        match write_step(output, text, done) {
             Step::On(next) => {
                 done = next;
                 patience = PATIENCE;
             }
-            Step::Wait => {
-                libc::sched_yield();
+            Step::Wait(error) => {
+                thread::yield_now();
                 patience -= 1;
+                last = Some(error);
             }
             Step::Done(n) => return Outcome::Whole(n),
-            Step::Broken => return Outcome::Broken,
+            Step::Broken(error) => return Outcome::Broken(error),
         }
     }
-    Outcome::Broken
+    Outcome::Broken(last)
 }

@@ -133,52 +133,66 @@ fn refused_sizes(call: Call, length: usize) -> usize {
 }
 
 // A buffer of this size: the answer, how many marks are left, and the bytes where the listing goes.
-fn show(call: Call, size: usize, length: usize) {
+fn show(rt: &impl Print, call: Call, size: usize, length: usize) {
     let mut out = [MARK; ROOM];
     let written = write_part(call, &mut out, size);
-    tell::written_line(written);
-    tell::number(marks(&out) as u64);
-    tell::line(base::part_of(&out, 0, length));
+    tell::written_line(rt, written);
+    tell::number(rt, marks(&out) as u64);
+    tell::line(rt, base::part_of(&out, 0, length));
 }
 
 // All sizes below the listing's length, the length, a longer one, and one that any listing fits.
-fn sizes(name: &[u8], call: Call, length: usize)
+fn sizes(rt: &impl Print, name: &[u8], call: Call, length: usize)
     requires { length ≤ 2048 }
 {
-    tell::line(name);
-    tell::number(refused_sizes(call, length) as u64);
-    show(call, length, length);
-    show(call, length + 3, length);
-    show(call, ROOM, length);
+    tell::line(rt, name);
+    tell::number(rt, refused_sizes(call, length) as u64);
+    show(rt, call, length, length);
+    show(rt, call, length + 3, length);
+    show(rt, call, ROOM, length);
 }
 
-fn main() {
-    sizes(b"herd", Call::Herd(View::Figures), HERD_LENGTH);
+fn main(rt: HostRuntime) {
+    sizes(&rt, b"herd", Call::Herd(View::Figures), HERD_LENGTH);
     sizes(
+        &rt,
         b"herd of a file",
         Call::FileHerd(View::Figures, 0),
         HERD_LENGTH,
     );
-    sizes(b"totals", Call::Totals, TOTALS_LENGTH);
-    sizes(b"totals of a file", Call::FileTotals, TOTALS_LENGTH);
-    sizes(b"cuts", Call::Herd(View::Cuts), CUTS_LENGTH);
+    sizes(&rt, b"totals", Call::Totals, TOTALS_LENGTH);
+    sizes(&rt, b"totals of a file", Call::FileTotals, TOTALS_LENGTH);
+    sizes(&rt, b"cuts", Call::Herd(View::Cuts), CUTS_LENGTH);
     sizes(
+        &rt,
         b"cuts of a file",
         Call::FileHerd(View::Cuts, 0),
         CUTS_LENGTH,
     );
-    sizes(b"cuts past the last herd", Call::FileHerd(View::Cuts, 1), 0);
-    sizes(b"past the last herd", Call::FileHerd(View::Figures, 1), 0);
     sizes(
+        &rt,
+        b"cuts past the last herd",
+        Call::FileHerd(View::Cuts, 1),
+        0,
+    );
+    sizes(
+        &rt,
+        b"past the last herd",
+        Call::FileHerd(View::Figures, 1),
+        0,
+    );
+    sizes(
+        &rt,
         b"far past the last herd",
         Call::FileHerd(View::Figures, usize::MAX),
         0,
     );
-    sizes(b"of no herds", Call::OfNoHerds, 0);
+    sizes(&rt, b"of no herds", Call::OfNoHerds, 0);
     sizes(
+        &rt,
         b"the notes of a whole file",
         Call::File(View::Notes),
         NOTES_LENGTH,
     );
-    sizes(b"no reasons", Call::File(View::Reasons), 0);
+    sizes(&rt, b"no reasons", Call::File(View::Reasons), 0);
 }

@@ -7,17 +7,17 @@ use packs::Packed;
 // Longer than any log of the vectors.
 const CASE_MOST: usize = 66000;
 
-fn print_answer(log: &[u8]) {
+fn print_answer(rt: &impl Print, log: &[u8]) {
     let put = gate_answer::answer_of(log);
     let bytes = put.bytes;
-    streams::write_all(base::part_of(&bytes, 0, put.length));
+    streams::write_all(rt, base::part_of(&bytes, 0, put.length));
 }
 
 // One log, if there is one more.
-fn run_one(log: &mut [u8]) -> bool {
-    match packs::next_file(log) {
+fn run_one(rt: &(impl Input + Print), log: &mut [u8]) -> bool {
+    match packs::next_file(rt, log) {
         Packed::File(n) => {
-            print_answer(base::part_of(log, 0, n));
+            print_answer(rt, base::part_of(log, 0, n));
             true
         }
         Packed::End => false,
@@ -29,10 +29,10 @@ fn log_room() -> [u8; CASE_MOST] {
     [0u8; CASE_MOST]
 }
 
-fn main() {
+fn main(rt: HostRuntime) {
     let mut log = log_room();
     let mut turns = u64::MAX;
-    while turns > 0 && run_one(&mut log) {
+    while turns > 0 && run_one(&rt, &mut log) {
         turns -= 1;
     }
 }

@@ -48,55 +48,55 @@ const SHOWN: [usize; FIGURES_SHOWN] = [
 ];
 
 // What is no number has no bits of its own; no kilograms are such, and nothing is printed for one.
-fn tell_bits(x: f64) {
+fn tell_bits(rt: &impl Print, x: f64) {
     if x == x {
-        tell::number(f64::to_bits(x));
+        tell::number(rt, f64::to_bits(x));
     }
 }
 
-fn of_herd(h: Herd) {
+fn of_herd(rt: &impl Print, h: Herd) {
     let answer = calls::herd_figures(h);
     let k = answer.kilograms;
     let mut i = 0;
     while i < FIGURES_SHOWN {
         let n = SHOWN[i];
         if n < names::COUNT {
-            tell_bits(k.kilograms[n]);
+            tell_bits(rt, k.kilograms[n]);
         }
         i += 1;
     }
 }
 
-fn of_totals(f: Farm) {
+fn of_totals(rt: &impl Print, f: Farm) {
     let herds = f.herds;
     let answer = test_totals::totals_through(herds, f.count);
     let k = answer.kilograms;
     let mut i = 0;
     while i < total_names::COUNT {
-        tell_bits(k.kilograms[i]);
+        tell_bits(rt, k.kilograms[i]);
         i += 1;
     }
 }
 
-fn of_file(s: &[u8]) {
+fn of_file(rt: &impl Print, s: &[u8]) {
     let answer = farm_file::read(Source::StandardInput, s);
     let f = answer.farm;
     let mut i = 0;
     while i < farm::HERDS_MOST {
         if i < f.count {
             let h = f.herds[i];
-            of_herd(h);
+            of_herd(rt, h);
         }
         i += 1;
     }
-    of_totals(f);
+    of_totals(rt, f);
 }
 
 // One file, if there is one more.
-fn run_one(file: &mut [u8]) -> bool {
-    match packs::next_file(file) {
+fn run_one(rt: &(impl Input + Print), file: &mut [u8]) -> bool {
+    match packs::next_file(rt, file) {
         Packed::File(n) => {
-            of_file(base::part_of(file, 0, n));
+            of_file(rt, base::part_of(file, 0, n));
             true
         }
         Packed::End => false,
@@ -108,10 +108,10 @@ fn room() -> [u8; CASE_MOST] {
     [0u8; CASE_MOST]
 }
 
-fn main() {
+fn main(rt: HostRuntime) {
     let mut file = room();
     let mut turns = u64::MAX;
-    while turns > 0 && run_one(&mut file) {
+    while turns > 0 && run_one(&rt, &mut file) {
         turns -= 1;
     }
 }

@@ -15,13 +15,13 @@ use test_arrays::SHORT;
 // Longer than any file of the pack.
 const CASE_MOST: usize = 263000;
 
-fn tell_answer(answer: LentAnswer) {
+fn tell_answer(rt: &impl Print, answer: LentAnswer) {
     let checked = answer.checked;
-    tell::checked_line(checked);
-    tell::number(answer.count as u64);
+    tell::checked_line(rt, checked);
+    tell::number(rt, answer.count as u64);
 }
 
-fn tell_entries(herds: [Herd; HERDS_MOST]) {
+fn tell_entries(rt: &impl Print, herds: [Herd; HERDS_MOST]) {
     let mut left = 0;
     let mut sum = 0;
     let mut i = 0;
@@ -31,11 +31,11 @@ fn tell_entries(herds: [Herd; HERDS_MOST]) {
         sum = test_entries::with_entry(sum, i, h);
         i += 1;
     }
-    tell::number(left);
-    tell::number(sum);
+    tell::number(rt, left);
+    tell::number(rt, sum);
 }
 
-fn tell_short_entries(herds: [Herd; SHORT]) {
+fn tell_short_entries(rt: &impl Print, herds: [Herd; SHORT]) {
     let mut left = 0;
     let mut sum = 0;
     let mut i = 0;
@@ -45,39 +45,39 @@ fn tell_short_entries(herds: [Herd; SHORT]) {
         sum = test_entries::with_entry(sum, i, h);
         i += 1;
     }
-    tell::number(left);
-    tell::number(sum);
+    tell::number(rt, left);
+    tell::number(rt, sum);
 }
 
-fn tell_ammonia(answer: FarmAnswer) {
+fn tell_ammonia(rt: &impl Print, answer: FarmAnswer) {
     let totals = answer.totals;
-    tell::kilograms(totals.grams[total_names::NH3_NLIVESTOCK]);
+    tell::kilograms(rt, totals.grams[total_names::NH3_NLIVESTOCK]);
 }
 
-fn by_array(file: &[u8]) {
+fn by_array(rt: &impl Print, file: &[u8]) {
     let through = test_arrays::read_through(file, test_entries::filler());
     let answer = through.answer;
     let herds = through.herds;
-    tell_answer(answer);
-    tell_entries(herds);
-    tell_ammonia(test_totals::totals_through(herds, answer.count));
+    tell_answer(rt, answer);
+    tell_entries(rt, herds);
+    tell_ammonia(rt, test_totals::totals_through(herds, answer.count));
 }
 
-fn by_short_array(file: &[u8]) {
+fn by_short_array(rt: &impl Print, file: &[u8]) {
     let through = test_arrays::read_through_short(file, test_entries::filler());
     let answer = through.answer;
     let herds = through.herds;
-    tell_answer(answer);
-    tell_short_entries(herds);
-    tell_ammonia(test_totals::totals_of_few(herds, answer.count));
+    tell_answer(rt, answer);
+    tell_short_entries(rt, herds);
+    tell_ammonia(rt, test_totals::totals_of_few(herds, answer.count));
 }
 
 // One file, if there is one more.
-fn run_one(file: &mut [u8]) -> bool {
-    match packs::next_file(file) {
+fn run_one(rt: &(impl Input + Print), file: &mut [u8]) -> bool {
+    match packs::next_file(rt, file) {
         Packed::File(n) => {
-            by_array(base::part_of(file, 0, n));
-            by_short_array(base::part_of(file, 0, n));
+            by_array(rt, base::part_of(file, 0, n));
+            by_short_array(rt, base::part_of(file, 0, n));
             true
         }
         Packed::End => false,
@@ -89,10 +89,10 @@ fn room() -> [u8; CASE_MOST] {
     [0u8; CASE_MOST]
 }
 
-fn main() {
+fn main(rt: HostRuntime) {
     let mut file = room();
     let mut turns = u64::MAX;
-    while turns > 0 && run_one(&mut file) {
+    while turns > 0 && run_one(&rt, &mut file) {
         turns -= 1;
     }
 }

@@ -21,29 +21,34 @@ fn wide(b: u8) -> usize
     b as usize
 }
 
-fn print_answer(source: Source, file: &[u8], line: u64) {
+fn print_answer(rt: &impl Print, source: Source, file: &[u8], line: u64) {
     let put = line_answer::answer_of(source, file, line);
     let bytes = put.bytes;
-    streams::write_all(base::part_of(&bytes, 0, put.length));
+    streams::write_all(rt, base::part_of(&bytes, 0, put.length));
 }
 
-fn run_case(case: &[u8]) {
+fn run_case(rt: &impl Print, case: &[u8]) {
     if case.len() < DIGITS {
         return;
     }
     let source = packs::source_of(base::part_of(case, 0, 1));
     let end = DIGITS + wide(case[1]);
     match wide_numbers::read_wide(base::part_of(case, DIGITS, end)) {
-        WideNumber::Value(line) => print_answer(source, base::part_of(case, end, case.len()), line),
+        WideNumber::Value(line) => print_answer(
+            rt,
+            source,
+            base::part_of(case, end, case.len()),
+            line,
+        ),
         WideNumber::Unreadable => {}
     }
 }
 
 // One case, if there is one more.
-fn run_one(case: &mut [u8]) -> bool {
-    match packs::next_file(case) {
+fn run_one(rt: &(impl Input + Print), case: &mut [u8]) -> bool {
+    match packs::next_file(rt, case) {
         Packed::File(n) => {
-            run_case(base::part_of(case, 0, n));
+            run_case(rt, base::part_of(case, 0, n));
             true
         }
         Packed::End => false,
@@ -55,10 +60,10 @@ fn room() -> [u8; CASE_MOST] {
     [0u8; CASE_MOST]
 }
 
-fn main() {
+fn main(rt: HostRuntime) {
     let mut case = room();
     let mut turns = u64::MAX;
-    while turns > 0 && run_one(&mut case) {
+    while turns > 0 && run_one(&rt, &mut case) {
         turns -= 1;
     }
 }

@@ -4,52 +4,52 @@
 #![tactic(auto)]
 
 mod script; // what a line says
-mod records; // a good record, and records changed in one place
-mod answers; // what the calls answer
+mod case_records; // a good record, and records changed in one place
+mod call_answers; // what the calls answer
 
 use printing::tell;
 use script::Change;
 
 // H: a herd with two changes, by itself and alone on a farm.
-fn herd_case(change: Change, other: Change) {
-    let h = records::changed(records::changed(records::pigs(), change), other);
-    answers::of_herd(h);
-    answers::of_farm(records::farm_of(h, h, 1));
+fn herd_case(rt: &impl Print, change: Change, other: Change) {
+    let h = case_records::changed(case_records::changed(case_records::pigs(), change), other);
+    call_answers::of_herd(rt, h);
+    call_answers::of_farm(rt, case_records::farm_of(h, h, 1));
 }
 
 // F: so many herds with one change, but for the second, which has another.
-fn farm_case(change: Change, other: Change, count: usize) {
-    let first = records::changed(records::pigs(), change);
-    let second = records::changed(records::pigs(), other);
-    answers::of_farm(records::farm_of(first, second, count));
+fn farm_case(rt: &impl Print, change: Change, other: Change, count: usize) {
+    let first = case_records::changed(case_records::pigs(), change);
+    let second = case_records::changed(case_records::pigs(), other);
+    call_answers::of_farm(rt, case_records::farm_of(first, second, count));
 }
 
 // S: the same in an array that is shorter than a farm may be; the totals alone.
-fn few_case(change: Change, other: Change, count: usize) {
-    let first = records::changed(records::pigs(), change);
-    let second = records::changed(records::pigs(), other);
-    answers::of_few(records::few_of(first, second), count);
+fn few_case(rt: &impl Print, change: Change, other: Change, count: usize) {
+    let first = case_records::changed(case_records::pigs(), change);
+    let second = case_records::changed(case_records::pigs(), other);
+    call_answers::of_few(rt, case_records::few_of(first, second), count);
 }
 
-fn run(line: &[u8; script::LINE]) {
+fn run(rt: &impl Print, line: &[u8; script::LINE]) {
     let change = script::change_at(line, script::FIRST);
     let other = script::change_at(line, script::SECOND);
     let count = script::number_at(line, script::NUMBER) as usize;
-    tell::line(base::part_of(line, 0, script::TEXT));
+    tell::line(rt, base::part_of(line, 0, script::TEXT));
     let kind = line[0];
     match kind {
-        b'H' => herd_case(change, other),
-        b'F' => farm_case(change, other, count),
-        b'S' => few_case(change, other, count),
-        _ => farm_case(change, other, usize::MAX),
+        b'H' => herd_case(rt, change, other),
+        b'F' => farm_case(rt, change, other, count),
+        b'S' => few_case(rt, change, other, count),
+        _ => farm_case(rt, change, other, usize::MAX),
     }
 }
 
-fn main() {
+fn main(rt: HostRuntime) {
     let mut line = [0u8; script::LINE];
     let mut turns = u64::MAX;
-    while turns > 0 && script::read_line(&mut line) {
-        run(&line);
+    while turns > 0 && script::read_line(&rt, &mut line) {
+        run(&rt, &line);
         turns -= 1;
     }
 }

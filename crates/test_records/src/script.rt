@@ -60,10 +60,10 @@ pub fn change_at(line: &[u8; LINE], at: usize) -> Change
 }
 
 // The next line, if there is one more.
-pub fn read_line(line: &mut [u8]) -> bool {
+pub fn read_line(rt: &impl Input, line: &mut [u8]) -> bool {
     let size = line.len();
-    match streams::read_all(line) {
+    match streams::read_all(rt, line) {
         Outcome::Whole(n) => n == size,
-        Outcome::Broken => false,
+        Outcome::Broken(_) => false,
     }
 }

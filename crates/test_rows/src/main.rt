@@ -111,13 +111,13 @@ fn room() -> [u8; BYTES] {
     [0u8; BYTES]
 }
 
-fn read_herds(end: u8) {
+fn read_herds(rt: &impl Print, end: u8) {
     let mut file = room();
     let n = put_herds(&mut file, end);
     let answer = farm_file::read(Source::StandardInput, base::part_of(&file, 0, n));
     let checked = answer.checked;
-    tell::checked_line(checked);
-    tell::number(answer.farm.count as u64);
+    tell::checked_line(rt, checked);
+    tell::number(rt, answer.farm.count as u64);
 }
 
 fn one_field() -> [u8; BYTES + 1] {
@@ -126,19 +126,20 @@ fn one_field() -> [u8; BYTES + 1] {
 
 // 10. 65,536 bytes are read, here as one field in place of four, and 65,537 are refusal 1; herd 64 is taken, herd 65 is
 // refusal 9.
-fn limits() {
+fn limits(rt: &impl Print) {
     let file = one_field();
     printing::print_view(
+        rt,
         View::Figures,
         Source::StandardInput,
         base::part_of(&file, 0, BYTES),
     );
-    printing::print_view(View::Figures, Source::StandardInput, &file);
-    read_herds(b'0' + HERDS);
-    read_herds(b'0' + HERDS + 1);
+    printing::print_view(rt, View::Figures, Source::StandardInput, &file);
+    read_herds(rt, b'0' + HERDS);
+    read_herds(rt, b'0' + HERDS + 1);
 }
 
-fn main() {
-    printing::print_view(View::Figures, Source::StandardInput, &ALWAYS_OUT);
-    limits();
+fn main(rt: HostRuntime) {
+    printing::print_view(&rt, View::Figures, Source::StandardInput, &ALWAYS_OUT);
+    limits(&rt);
 }

@@ -7,7 +7,6 @@ mod walk_bytes; // a walk's bytes as records
 
 use books::Step;
 use farm::{Farm, HERDS_MOST, Herd};
-use libc::STDOUT_FILENO;
 use outputs::Totals;
 use packs::Packed;
 
@@ -35,22 +34,21 @@ fn sum_of(farm: Farm) -> u64 {
     sum
 }
 
-fn tell_farm(farm: Farm) {
-    io::print_decimal(STDOUT_FILENO, farm.count as u64);
-    io::write_all(STDOUT_FILENO, b",");
-    io::print_decimal(STDOUT_FILENO, sum_of(farm));
-    io::write_all(STDOUT_FILENO, b"\r\n");
+fn tell_farm(rt: &impl Print, farm: Farm) {
+    let count = farm.count;
+    let sum = sum_of(farm);
+    let _ = print!(rt; "{count},{sum}\r\n");
 }
 
-fn take(kept: Kept, room: usize, step: Step, h: Herd) -> Kept {
+fn take(rt: &impl Print, kept: Kept, room: usize, step: Step, h: Herd) -> Kept {
     let farm = kept.farm;
     let totals = kept.totals;
     let taken = step_answer::take(farm, room, totals, step, h);
     let bytes = taken.bytes;
     let farm_after = taken.farm;
     let totals_after = taken.totals;
-    streams::write_all(base::part_of(&bytes, 0, taken.length));
-    tell_farm(farm_after);
+    streams::write_all(rt, base::part_of(&bytes, 0, taken.length));
+    tell_farm(rt, farm_after);
     Kept {
         farm: farm_after,
         totals: totals_after,
@@ -58,12 +56,12 @@ fn take(kept: Kept, room: usize, step: Step, h: Herd) -> Kept {
 }
 
 // The step that stands there, a byte and a record.
-fn take_at(kept: Kept, room: usize, s: &[u8]) -> Kept {
+fn take_at(rt: &impl Print, kept: Kept, room: usize, s: &[u8]) -> Kept {
     let h = walk_bytes::herd_of(base::part_of(s, 1, s.len()));
-    take(kept, room, walk_bytes::step_of(s), h)
+    take(rt, kept, room, walk_bytes::step_of(s), h)
 }
 
-fn take_all(begun: Kept, room: usize, steps: &[u8]) {
+fn take_all(rt: &impl Print, begun: Kept, room: usize, steps: &[u8]) {
     let size = steps.len();
     let mut kept = begun;
     let mut at = 0;
@@ -72,16 +70,17 @@ fn take_all(begun: Kept, room: usize, steps: &[u8]) {
             return;
         }
         let next = at + walk_bytes::STEP_BYTES;
-        kept = take_at(kept, room, base::part_of(steps, at, next));
+        kept = take_at(rt, kept, room, base::part_of(steps, at, next));
         at = next;
     }
 }
 
-fn run_walk(walk: &[u8]) {
+fn run_walk(rt: &impl Print, walk: &[u8]) {
     let head = walk_bytes::head_of(walk);
     let farm = walk_bytes::farm_of(walk, head.count, head.herds);
     let totals = walk_bytes::totals_of(walk);
     take_all(
+        rt,
         Kept { farm, totals },
         head.room,
         walk_bytes::steps_of(walk, head.herds),
@@ -89,10 +88,10 @@ fn run_walk(walk: &[u8]) {
 }
 
 // One walk, if there is one more.
-fn run_one(walk: &mut [u8]) -> bool {
-    match packs::next_file(walk) {
+fn run_one(rt: &(impl Input + Print), walk: &mut [u8]) -> bool {
+    match packs::next_file(rt, walk) {
         Packed::File(n) => {
-            run_walk(base::part_of(walk, 0, n));
+            run_walk(rt, base::part_of(walk, 0, n));
             true
         }
         Packed::End => false,
@@ -104,10 +103,10 @@ fn room() -> [u8; WALK_MOST] {
     [0u8; WALK_MOST]
 }
 
-fn main() {
+fn main(rt: HostRuntime) {
     let mut walk = room();
     let mut turns = u64::MAX;
-    while turns > 0 && run_one(&mut walk) {
+    while turns > 0 && run_one(&rt, &mut walk) {
         turns -= 1;
     }
 }

@@ -11,21 +11,21 @@ use views::View;
 const CASE_MOST: usize = 263000;
 
 // What each command prints.
-fn print_views(source: Source, file: &[u8]) {
-    printing::print_view(View::Figures, source, file);
-    printing::print_view(View::Notes, source, file);
-    printing::print_view(View::Cuts, source, file);
-    printing::print_view(View::Reasons, source, file);
-    printing::print_view(View::Sentences, source, file);
-    printing::print_view(View::File, source, file);
+fn print_views(rt: &impl Print, source: Source, file: &[u8]) {
+    printing::print_view(rt, View::Figures, source, file);
+    printing::print_view(rt, View::Notes, source, file);
+    printing::print_view(rt, View::Cuts, source, file);
+    printing::print_view(rt, View::Reasons, source, file);
+    printing::print_view(rt, View::Sentences, source, file);
+    printing::print_view(rt, View::File, source, file);
 }
 
 // One file, if there is one more.
-fn run_one(file: &mut [u8]) -> bool {
-    match packs::next_file(file) {
+fn run_one(rt: &(impl Input + Print), file: &mut [u8]) -> bool {
+    match packs::next_file(rt, file) {
         Packed::File(n) => {
             let source = packs::source_of(base::part_of(file, 0, 1));
-            print_views(source, base::part_of(file, 1, n));
+            print_views(rt, source, base::part_of(file, 1, n));
             true
         }
         Packed::End => false,
@@ -37,10 +37,10 @@ fn room() -> [u8; CASE_MOST] {
     [0u8; CASE_MOST]
 }
 
-fn main() {
+fn main(rt: HostRuntime) {
     let mut file = room();
     let mut turns = u64::MAX;
-    while turns > 0 && run_one(&mut file) {
+    while turns > 0 && run_one(&rt, &mut file) {
         turns -= 1;
     }
 }

@@ -72,22 +72,22 @@ fn longest_herds() -> [Herd; HERDS_MOST] {
     herds
 }
 
-fn write(herds: [Herd; HERDS_MOST], count: usize, out: &mut [u8]) {
-    tell::written_line(test_totals::view_through(View::File, herds, count, out));
+fn write(rt: &impl Print, herds: [Herd; HERDS_MOST], count: usize, out: &mut [u8]) {
+    tell::written_line(rt, test_totals::view_through(View::File, herds, count, out));
 }
 
 fn room() -> [u8; limits::COOPERATIVE_BYTES] {
     [0u8; limits::COOPERATIVE_BYTES]
 }
 
-fn main() {
+fn main(rt: HostRuntime) {
     let herds = longest_herds();
     let mut out = room();
-    write(herds, MOST, &mut out);
-    write(herds, ONE_MORE, &mut out);
-    write(herds, HERDS_MOST, &mut out);
-    write(herds, HERDS_MOST + 1, &mut out);
+    write(&rt, herds, MOST, &mut out);
+    write(&rt, herds, ONE_MORE, &mut out);
+    write(&rt, herds, HERDS_MOST, &mut out);
+    write(&rt, herds, HERDS_MOST + 1, &mut out);
     let mut short = [0u8; SHORT];
-    write(herds, MOST, &mut short);
-    write(herds, ONE_MORE, &mut short);
+    write(&rt, herds, MOST, &mut short);
+    write(&rt, herds, ONE_MORE, &mut short);
 }

@@ -5,7 +5,7 @@ ghost use Rattle.limits.specs.Limits.{cooperative_bytes};
 ghost use Rattle.streams.specs.Within.{Within};
 
 use above_line::{Above, LineAnswer};
-use console::{Ended, messages, named};
+use console::{Ended, Surroundings, messages, named};
 use editing::{Edited, Manner};
 use gate::LogAnswer;
 use limits::Source;
@@ -20,32 +20,39 @@ pub enum Question {
     Line(u64, bool),
 }
 
-fn answer_view(view: View, source: Source, s: &[u8], name: usize) -> Ended {
-    match printing::print_view(view, source, s) {
+fn answer_view(rt: &impl Surroundings, view: View, source: Source, s: &[u8], name: usize) -> Ended {
+    match printing::print_view(rt, view, source, s) {
         Printed::Listed => Ended::Printed,
         Printed::Refused(refusal, record) => refused_input::of_farm(
-            source, s, name, refusal, record,
+            rt, source, s, name, refusal, record,
         ),
-        Printed::Broken => messages::unwritten(),
+        Printed::Broken(error) => messages::unwritten(rt, error),
     }
 }
 
-fn tell_above(above: Above, line: u64, name: usize) {
+fn tell_above(rt: &impl Surroundings, above: Above, line: u64, name: usize) {
     match above {
-        Above::Yes(count) => messages::screened(name, true, line, count),
-        Above::No(count) => messages::screened(name, false, line, count),
+        Above::Yes(count) => messages::screened(rt, name, true, line, count),
+        Above::No(count) => messages::screened(rt, name, false, line, count),
     }
 }
 
-fn tell_if_asked(in_words: bool, above: Above, line: u64, name: usize) -> Ended {
+fn tell_if_asked(
+    rt: &impl Surroundings,
+    in_words: bool,
+    above: Above,
+    line: u64,
+    name: usize,
+) -> Ended {
     if in_words {
-        tell_above(above, line, name);
+        tell_above(rt, above, line, name);
     }
     Ended::Printed
 }
 
 // What is said behind a line's answer that was printed.
 fn end_line(
+    rt: &impl Surroundings,
     ended: LineAnswer,
     line: u64,
     in_words: bool,
@@ -54,27 +61,40 @@ fn end_line(
     name: usize,
 ) -> Ended {
     match ended {
-        LineAnswer::Screened(above) => tell_if_asked(in_words, above, line, name),
+        LineAnswer::Screened(above) => tell_if_asked(rt, in_words, above, line, name),
         LineAnswer::Refused(refusal, record) => refused_input::of_farm(
-            source, s, name, refusal, record,
+            rt, source, s, name, refusal, record,
         ),
     }
 }
 
-fn answer_line(line: u64, in_words: bool, source: Source, s: &[u8], name: usize) -> Ended {
+fn answer_line(
+    rt: &impl Surroundings,
+    line: u64,
+    in_words: bool,
+    source: Source,
+    s: &[u8],
+    name: usize,
+) -> Ended {
     let put = line_answer::answer_of(source, s, line);
     let ended = put.answer;
     let bytes = put.bytes;
-    match streams::write_all(base::part_of(&bytes, 0, put.length)) {
-        Outcome::Whole(_) => end_line(ended, line, in_words, source, s, name),
-        Outcome::Broken => messages::unwritten(),
+    match streams::write_all(rt, base::part_of(&bytes, 0, put.length)) {
+        Outcome::Whole(_) => end_line(rt, ended, line, in_words, source, s, name),
+        Outcome::Broken(error) => messages::unwritten(rt, error),
     }
 }
 
-fn answer_farm(question: Question, source: Source, s: &[u8], name: usize) -> Ended {
+fn answer_farm(
+    rt: &impl Surroundings,
+    question: Question,
+    source: Source,
+    s: &[u8],
+    name: usize,
+) -> Ended {
     match question {
-        Question::View(view) => answer_view(view, source, s, name),
-        Question::Line(line, in_words) => answer_line(line, in_words, source, s, name),
+        Question::View(view) => answer_view(rt, view, source, s, name),
+        Question::Line(line, in_words) => answer_line(rt, line, in_words, source, s, name),
     }
 }
 
@@ -83,16 +103,17 @@ fn farm_room() -> [u8; input::INPUT_MOST] {
 }
 
 // A farm file on standard input.
-pub fn of_farm(question: Question, name: usize) -> Ended {
+pub fn of_farm(rt: &impl Surroundings, question: Question, name: usize) -> Ended {
     let mut file = farm_room();
-    match input::read_file(&mut file) {
+    match input::read_file(rt, &mut file) {
         Outcome::Whole(n) => answer_farm(
+            rt,
             question,
             Source::StandardInput,
             base::part_of(&file, 0, n),
             name,
         ),
-        Outcome::Broken => messages::unread(),
+        Outcome::Broken(error) => messages::unread(rt, error),
     }
 }
 
@@ -100,11 +121,11 @@ pub fn of_farm(question: Question, name: usize) -> Ended {
 const COOPERATIVE_MOST: usize = limits::COOPERATIVE_BYTES + 1;
 
 // The whole file of that name; or, of a longer one, so much that it is refused as too long.
-fn read_cooperative(name: usize, file: &mut [u8]) -> Outcome
+fn read_cooperative(rt: &impl Surroundings, name: usize, file: &mut [u8]) -> Outcome
     requires { length file.old ≡ cooperative_bytes + 1 }
     ensures { Within (length file.new) result }
 {
-    named::read_file(name, file)
+    named::read_file(rt, name, file)
 }
 
 fn cooperative_room() -> [u8; COOPERATIVE_MOST] {
@@ -112,88 +133,95 @@ fn cooperative_room() -> [u8; COOPERATIVE_MOST] {
 }
 
 // A cooperative's file, by its name; where it cannot be read that is said.
-pub fn of_cooperative(question: Question, name: usize) -> Ended {
+pub fn of_cooperative(rt: &impl Surroundings, question: Question, name: usize) -> Ended {
     let mut file = cooperative_room();
-    match read_cooperative(name, &mut file) {
+    match read_cooperative(rt, name, &mut file) {
         Outcome::Whole(n) => answer_farm(
+            rt,
             question,
             Source::Cooperative,
             base::part_of(&file, 0, n),
             name,
         ),
-        Outcome::Broken => Ended::Failed,
+        Outcome::Broken(_) => Ended::Failed,
     }
 }
 
 // Where messages look for the name: a word that says standard input is none, and there is none at the largest number.
-fn name_or_none(word: usize) -> usize {
-    if asked::is_input(word) {
+fn name_or_none(rt: &impl Surroundings, word: usize) -> usize {
+    if asked::is_input(rt, word) {
         return usize::MAX;
     }
     word
 }
 
 // The farm on standard input; a word that says so is not its name.
-fn open_input(name: usize) -> Edited {
+fn open_input(rt: &impl Surroundings, name: usize) -> Edited {
     let mut file = farm_room();
-    match input::read_file(&mut file) {
+    match input::read_file(rt, &mut file) {
         Outcome::Whole(n) => editing::open(
+            rt,
             Source::StandardInput,
             base::part_of(&file, 0, n),
-            name_or_none(name),
+            name_or_none(rt, name),
         ),
-        Outcome::Broken => editing::none(messages::unread()),
+        Outcome::Broken(error) => editing::none(messages::unread(rt, error)),
     }
 }
 
 // A cooperative's farm, by its name.
-fn open_cooperative(name: usize) -> Edited {
+fn open_cooperative(rt: &impl Surroundings, name: usize) -> Edited {
     let mut file = cooperative_room();
-    match read_cooperative(name, &mut file) {
-        Outcome::Whole(n) => editing::open(Source::Cooperative, base::part_of(&file, 0, n), name),
-        Outcome::Broken => editing::none(Ended::Failed),
+    match read_cooperative(rt, name, &mut file) {
+        Outcome::Whole(n) => editing::open(
+            rt,
+            Source::Cooperative,
+            base::part_of(&file, 0, n),
+            name,
+        ),
+        Outcome::Broken(_) => editing::none(Ended::Failed),
     }
 }
 
 // The steps that stand behind the farm's name; the farm is on standard input.
-pub fn of_edit(only_farm: bool, name: usize) -> Ended {
+pub fn of_edit(rt: &impl Surroundings, only_farm: bool, name: usize) -> Ended {
     let source = Source::StandardInput;
     let manner = Manner { source, only_farm };
-    editing::run(open_input(name), manner, asked::after(name))
+    editing::run(rt, open_input(rt, name), manner, asked::after(name))
 }
 
 // The same of a cooperative's farm.
-pub fn of_cooperative_edit(only_farm: bool, name: usize) -> Ended {
+pub fn of_cooperative_edit(rt: &impl Surroundings, only_farm: bool, name: usize) -> Ended {
     let source = Source::Cooperative;
     let manner = Manner { source, only_farm };
-    editing::run(open_cooperative(name), manner, asked::after(name))
+    editing::run(rt, open_cooperative(rt, name), manner, asked::after(name))
 }
 
 // One byte more than a log may have, so that a longer one is seen.
 const LOG_INPUT_MOST: usize = gate::LOG_MOST + 1;
 
 // The whole log; or, of a longer one, so much that it is refused as too long.
-fn read_log(log: &mut [u8]) -> Outcome
+fn read_log(rt: &impl Surroundings, log: &mut [u8]) -> Outcome
     requires { length log.old ≡ log_most + 1 }
     ensures { Within (length log.new) result }
 {
-    streams::read_all(log)
+    streams::read_all(rt, log)
 }
 
-fn end_log(answer: LogAnswer, s: &[u8], name: usize) -> Ended {
+fn end_log(rt: &impl Surroundings, answer: LogAnswer, s: &[u8], name: usize) -> Ended {
     match answer {
         LogAnswer::Gives(_) => Ended::Printed,
-        LogAnswer::Refused(refusal, record) => refused_input::of_log(s, name, refusal, record),
+        LogAnswer::Refused(refusal, record) => refused_input::of_log(rt, s, name, refusal, record),
     }
 }
 
-fn answer_log(s: &[u8], name: usize) -> Ended {
+fn answer_log(rt: &impl Surroundings, s: &[u8], name: usize) -> Ended {
     let put = gate_answer::answer_of(s);
     let ended = put.answer;
     let bytes = put.bytes;
-    match streams::write_all(base::part_of(&bytes, 0, put.length)) {
-        Outcome::Whole(_) => end_log(ended, s, name),
-        Outcome::Broken => messages::unwritten(),
+    match streams::write_all(rt, base::part_of(&bytes, 0, put.length)) {
+        Outcome::Whole(_) => end_log(rt, ended, s, name),
+        Outcome::Broken(error) => messages::unwritten(rt, error),
     }
 }
 
@@ -202,11 +230,11 @@ fn log_room() -> [u8; LOG_INPUT_MOST] {
 }
 
 // A gate's log on standard input.
-pub fn of_log(name: usize) -> Ended {
+pub fn of_log(rt: &impl Surroundings, name: usize) -> Ended {
     let mut log = log_room();
-    match read_log(&mut log) {
-        Outcome::Whole(n) => answer_log(base::part_of(&log, 0, n), name),
-        Outcome::Broken => messages::unread(),
+    match read_log(rt, &mut log) {
+        Outcome::Whole(n) => answer_log(rt, base::part_of(&log, 0, n), name),
+        Outcome::Broken(error) => messages::unread(rt, error),
     }
 }
 
@@ -222,19 +250,19 @@ fn mending_room() -> [u8; mend_print::INPUT_MOST] {
 }
 
 // What is printed of mending a file: the list of its changes, or the mended file.
-fn print_mending(s: &[u8], listed: bool) -> Ended {
+fn print_mending(rt: &impl Surroundings, s: &[u8], listed: bool) -> Ended {
     if listed {
-        return if_printed(mend_print::print_changes(s));
+        return if_printed(mend_print::print_changes(rt, s));
     }
-    if_printed(mend_print::print_mended(s))
+    if_printed(mend_print::print_mended(rt, s))
 }
 
 // The file on standard input, mended, or what mending changes in it. Its lists take five megabytes of stack. Both
 // commands call it, so the compiler leaves it a function of its own, and no other command pays for them.
-pub fn of_mending(listed: bool) -> Ended {
+pub fn of_mending(rt: &impl Surroundings, listed: bool) -> Ended {
     let mut file = mending_room();
-    match mend_print::read_file(&mut file) {
-        mend_print::Input::File(n) => print_mending(base::part_of(&file, 0, n), listed),
+    match mend_print::read_file(rt, &mut file) {
+        mend_print::Input::File(n) => print_mending(rt, base::part_of(&file, 0, n), listed),
         mend_print::Input::Failed => Ended::Failed,
     }
 }

@@ -126,14 +126,16 @@ module _ {M : Type 1} {𝓤 : Ura M} {𝓛 : Logic 𝓤} {K : Type 0} {Γ : List
   pub lent_out : K → Soaks G → (R : RattleType) → Single R.mir → Makes 𝓛 R (Is R) → (n l : ℕ) (ℓ : Lifetime)
       (xs : List R.Denot) (v : Val) → Is (Array R n) xs (v ∷ []) → Room R (length xs)
       → ((ν : ℕ) (δ : GName) → Seq K 𝓛
-      (‵ ((MutSlice ℓ (ν ∷ []) R).own_val (record { ref_ptr = (l, 0); ghost_name = δ; now = xs }) (slice_val (l, 0) (length xs) ∷ []))
+      (‵ ((MutSlice ℓ (ν ∷ []) R).own_val (record { ref_ptr = (l, 0); ghost_name = δ; now = xs })
+      (slice_val (l, 0) (length xs) ∷ []))
       ∷ ‵ (flent (ν ∷ []) (Held R (length xs) l 0 δ)) ∷ ‵ (flft (ν ∷ []) full_share) ∷ Γ) G)
       → Seq K 𝓛 (‵ (fat full_share (ty_array (lone R.mir) n) l 0 v) ∷ Γ) G
   lent_out t z R one mk n l ℓ xs v is room k =
       lft_new t z (λ ν. move t (1 ∷ []) $
       use1 𝓛
       (later (some (λ (δ : GName).
-      ‵ ((MutSlice ℓ (ν ∷ []) R).own_val (record { ref_ptr = (l, 0); ghost_name = δ; now = xs }) (slice_val (l, 0) (length xs) ∷ []))
+      ‵ ((MutSlice ℓ (ν ∷ []) R).own_val (record { ref_ptr = (l, 0); ghost_name = δ; now = xs })
+      (slice_val (l, 0) (length xs) ∷ []))
       ⊛ ‵ (flent (ν ∷ []) (Held R (length xs) l 0 δ)))))
       (lends_array 𝓛 R one mk n l ℓ (ν ∷ []) xs v is room) $ await t z $ pick t (λ δ. split t $ k ν δ))
 
@@ -147,6 +149,7 @@ module _ {M : Type 1} {𝓤 : Ura M} {𝓛 : Logic 𝓤} {K : Type 0} {Γ : List
   brought_home t z R one mk n l val tl ν δ zs m e k =
       lft_end t z $
       use3 𝓛
-      (later (some (λ (v : Val). ‵ ((Array R n).own_val zs (v ∷ [])) ⊛ ‵ (fat full_share (ty_array (lone R.mir) n) l 0 v))))
+      (later (some (λ (v : Val).
+      ‵ ((Array R n).own_val zs (v ∷ [])) ⊛ ‵ (fat full_share (ty_array (lone R.mir) n) l 0 v))))
       (array_back 𝓛 R one mk n l val tl (ν ∷ []) δ zs m e) $ await t z $ pick t (λ v. split t $
       facts t (Array R n) (Is (Array R n)) (shows 𝓛 (Array R n)) zs (v ∷ []) (λ is. k v is))

@@ -8,7 +8,7 @@ use Rattle.streams.proofs.Moves.{left, turn_steps}
 use Rattle.streams.proofs.read_from.Given as goal
 
 abbrev pub invariant-loop-patience : goal.invariant-loop-patience
-invariant-loop-patience l = (length l.into ≡ length l.initial.into) × (l.done ≤ length l.into)
+invariant-loop-patience g l = (length l.into ≡ length l.initial.into) × (l.done ≤ length l.into)
 
 abbrev pub decreases-loop-patience : goal.decreases-loop-patience
-decreases-loop-patience l = left (length l.into) l.done l.patience
+decreases-loop-patience g l = left (length l.into) l.done l.patience

@@ -5,4 +5,4 @@ use Rattle.streams.proofs.Moves.{read_goes}
 use Rattle.streams.proofs.read_step.Goals as goal
 
 pub returns : goal.returns
-returns c = search (rules, read_goes)
+returns g c = search (rules, read_goes)

@@ -6,19 +6,19 @@ use Rattle.streams.proofs.Moves.{left, turn_steps}
 use Rattle.streams.proofs.write_all.Goals as goal
 
 pub returns-then-text-eq0 : goal.returns-then-text-eq0
-returns-then-text-eq0 c = rw c.if-text-eq0.true All.whole
+returns-then-text-eq0 g c = rw c.if-text-eq0.true All.whole
 
 pub loop-patience-smaller-in-On : goal.loop-patience-smaller-in-On
-loop-patience-smaller-in-On c = search (rules, turn_steps)
+loop-patience-smaller-in-On g c = search (rules, turn_steps)
 
 pub loop-patience-preserved-in-On : goal.loop-patience-preserved-in-On
-loop-patience-preserved-in-On c = search (rules, turn_steps)
+loop-patience-preserved-in-On g c = search (rules, turn_steps)
 
 pub returns-in-Done : goal.returns-in-Done
-returns-in-Done c = search (rules, turn_steps)
+returns-in-Done g c = search (rules, turn_steps)
 
 pub returns-in-Broken : goal.returns-in-Broken
-returns-in-Broken c = search (rules, turn_steps)
+returns-in-Broken g c = search (rules, turn_steps)
 
 pub returns : goal.returns
-returns c = search (rules, turn_steps)
+returns g c = search (rules, turn_steps)

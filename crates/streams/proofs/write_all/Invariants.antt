@@ -8,7 +8,7 @@ use Rattle.streams.proofs.Moves.{left, turn_steps}
 use Rattle.streams.proofs.write_all.Given as goal
 
 abbrev pub invariant-loop-patience : goal.invariant-loop-patience
-invariant-loop-patience l = (0 < length l.text) × (l.done ≤ length l.text)
+invariant-loop-patience g l = (0 < length l.text) × (l.done ≤ length l.text)
 
 abbrev pub decreases-loop-patience : goal.decreases-loop-patience
-decreases-loop-patience l = left (length l.text) l.done l.patience
+decreases-loop-patience g l = left (length l.text) l.done l.patience

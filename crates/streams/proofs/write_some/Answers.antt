@@ -1,8 +1,7 @@
--- `streams::write_some` meets its contract: a write takes no more than there is text.
--- Assumes nothing.
-use borrow.Author.Rules.{rules}
-use Rattle.streams.proofs.Moves.{moved-counted}
+-- `streams::write_some` meets its contract: the call took no more than the text has.
+use Rattle.std.proofs.Common.{rules}
+use Rattle.streams.proofs.Moves.{answer_counted}
 use Rattle.streams.proofs.write_some.Goals as goal
 
 pub returns : goal.returns
-returns c = search (rules, moved-counted)
+returns g c = answer_counted _ c.write_some.result c.write_some.ensures.bound c.meaning.ensures

@@ -5,4 +5,4 @@ use Rattle.streams.proofs.Moves.{write_goes}
 use Rattle.streams.proofs.write_step.Goals as goal
 
 pub returns : goal.returns
-returns c = search (rules, write_goes)
+returns g c = search (rules, write_goes)

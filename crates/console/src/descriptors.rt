@@ -1,0 +1,56 @@
+// A text to a descriptor that the command line names by its number. Where that is closed, or takes nothing, there is
+// nobody to tell.
+use crate::Surroundings;
+use std::fs;
+use std::fs::OpenOptions;
+use std::io::{Error, ErrorKind, Result, Write};
+use std::os::unix::fs::MetadataExt;
+
+const OUTPUT: i32 = 1;
+
+const ERROR: i32 = 2;
+
+// Longer than any path of a descriptor.
+const PATH_MOST: usize = 64;
+
+// Who has a descriptor open for writing has this right on its path.
+const WRITER: u32 = 0o200;
+
+// The path by which the system opens a descriptor's file once more, and its length.
+fn put_path(path: &mut [u8], fd: i32) -> usize {
+    let a = message_lines::add(path, 0, b"/proc/self/fd/");
+    message_lines::add_number(path, a, fd.unsigned_abs() as u64)
+}
+
+// Is the descriptor open for writing? The file itself may well be written, where the descriptor only reads it.
+fn is_written(rt: &impl Surroundings, path: &str) -> Result<bool> {
+    let metadata = fs::symlink_metadata(rt, path)?;
+    Ok(metadata.mode() & WRITER != 0)
+}
+
+// What stands in the file already stays as it is.
+fn append(rt: &impl Surroundings, path: &str, text: &[u8]) -> Result<()> {
+    if !is_written(rt, path)? {
+        return Err(Error::from(ErrorKind::PermissionDenied));
+    }
+    let mut file = OpenOptions::new().append(true).open(rt, path)?;
+    file.write_all(text)
+}
+
+fn write_by_path(rt: &impl Surroundings, fd: i32, text: &[u8]) {
+    let mut path = [0u8; PATH_MOST];
+    let n = put_path(&mut path, fd);
+    if let Ok(path) = str::from_utf8(base::part_of(&path, 0, n)) {
+        let _ = append(rt, path, text);
+    }
+}
+
+pub fn write_all(rt: &impl Surroundings, fd: i32, text: &[u8]) {
+    match fd {
+        OUTPUT => {
+            let _ = rt.write_all(text);
+        }
+        ERROR => rt.tell(text),
+        _ => write_by_path(rt, fd, text),
+    }
+}
