@@ -5,4 +5,4 @@ use borrow.Author.Rules.{rules}
 use Rattle.mend_print.proofs.print_changes_by.Goals as goal
 
 pub slice_bounds-print_list-end-2 : goal.slice_bounds-print_list-end-2
-slice_bounds-print_list-end-2 c = sym (length-take-le _ _ (search rules))
+slice_bounds-print_list-end-2 g c = sym (length-take-le _ _ (search rules))

@@ -6,7 +6,7 @@ use borrow.Author.Rules.{rules}
 use Rattle.mend_print.proofs.print_list.Given as goal
 
 abbrev pub invariant-loop-from : goal.invariant-loop-from
-invariant-loop-from l = l.from ≤ length l.list
+invariant-loop-from g l = l.from ≤ length l.list
 
 abbrev pub decreases-loop-from : goal.decreases-loop-from
-decreases-loop-from l = length l.list - l.from
+decreases-loop-from g l = length l.list - l.from

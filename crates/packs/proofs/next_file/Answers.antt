@@ -6,4 +6,4 @@ use borrow.Author.Rules.{rules}
 use Rattle.packs.proofs.next_file.Goals as goal
 
 pub slice_bounds-filled-end-3 : goal.slice_bounds-filled-end-3
-slice_bounds-filled-end-3 c = sym (length-take-le _ _ (search rules))
+slice_bounds-filled-end-3 g c = sym (length-take-le _ _ (search rules))

@@ -11,12 +11,9 @@ use Rattle.kilogram_text.proofs.Lengths.{kilograms-short}
 use borrow.Author.Rules.{rules}
 use Rattle.printing.proofs.tell.kilograms.Goals as goal
 
-short : (s : tie.Start) → length (kilograms_of (to_z w64 (of_z w64 s.args.grams))) ≤ 21
-short s = omega (
-  arith,
-  kilograms-short s.args.grams s.ranges.grams,
-  ap (λ z. length (kilograms_of z)) (to_z-of_z s.ranges.grams),
-)
-
 pub put_kilograms-n-requires : goal.put_kilograms-n-requires
-put_kilograms-n-requires c = omega (arith, short c)
+put_kilograms-n-requires g c = omega (
+  arith,
+  kilograms-short c.args.grams c.ranges.grams,
+  ap (λ z. length (kilograms_of z)) (to_z-of_z c.ranges.grams),
+)
