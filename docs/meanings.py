@@ -71,7 +71,7 @@ def form_of(words):
     form = re.sub(r"\bform\b", maker, page[f"{name} form"]) if maker else page[name]
     shape, *numbers = re.findall(r"\([\d *]+\)|\w+", form)
     if shape == "OneOf":
-        return {"values": texts(VALUES, definitions(VALUES)[f"namesOf {numbers[0]}"])}
+        return {"values": texts(VALUES, definitions(VALUES)[f"names_of {numbers[0]}"])}
     *decimals, most = (prod(map(int, re.findall(r"\d+", number))) for number in numbers)
     least = -most if shape == "Signed" else 0
     standard = {"OrStandard": "taken", "NoStandard": "refused"}.get(shape, "unknown")
@@ -95,9 +95,9 @@ def range_of(form):
 def kind_list(kind, said):
     """A kind with its words, its inputs and the lines that it lists."""
     word, what, label = said["kinds"].of(kind)
-    path, sections = definitions(PATHS)[f"pathOf {kind}"].strip('"'), dict(output_names())
-    inputs = rows(INPUTS, f"rowsOf {kind}", r'"([\w:]+)" has "(\w+)" reads ([\w ]+?)(?=\))')
-    lines = [(f"{path}::{sections[name]}", name) for name in texts(LINES, f"linesOf {kind}")]
+    path, sections = definitions(PATHS)[f"path_of {kind}"].strip('"'), dict(output_names())
+    inputs = rows(INPUTS, f"rows_of {kind}", r'"([\w:]+)" has "(\w+)" reads ([\w ]+?)(?=\))')
+    lines = [(f"{path}::{sections[name]}", name) for name in texts(LINES, f"lines_of {kind}")]
     return {
         "word": word,
         "what": what,
@@ -166,7 +166,7 @@ def lists():
     said = {part: Said(part, *columns) for part, columns in PARTS.items()}
     by_kind = {kind: kind_list(kind, said) for kind in rows(INPUTS, "kinds", r"(\w+)")}
     kinds = [by_kind[kind] for (kind,) in said["kinds"].lines if kind in by_kind]
-    (farm,) = texts(LISTING, "totalPath")
+    (farm,) = texts(LISTING, "total_path")
     of_farm = [line_row(farm, name, said) for name in totals()]
     means = outputs([*(line for kind in kinds for line in kind["outputs"]), *of_farm], said)
     for part in said.values():
@@ -175,7 +175,7 @@ def lists():
         "made": "by docs/tables from the lists of inputs, outputs and refusals, and from docs/meanings.txt",
         "bytes": limit_number("BYTES"),
         "herds": limit_number("HERDS"),
-        "label": int(definitions(LABELS)["labelMost"]),
+        "label": int(definitions(LABELS)["label_most"]),
         "kinds": kinds,
         "totals": of_farm,
         "outputs": means,

@@ -66,13 +66,16 @@ def texts(page, name):
 # ---- parts of a source
 
 WIDTH = 120
-# The formatter puts an array on one line up to these widths, of the array and of all of the line.
-ARRAY_WIDTH, CODE_WIDTH = 60, 100
+# The formatter puts an array on one line up to these widths, of the array and of all of the line. A longer one with
+# entries of at most so many characters fills its lines.
+ARRAY_WIDTH, CODE_WIDTH, SHORT = 60, 100, 10
+TACTICS = "#![tactic(auto)]\n"  # what stands near the head of a crate's root file
 
 
-def source(says, *items, uses=()):
+def source(says, *items, uses=(), is_root=False):
     """A source: what it is for, what it uses, and its items, with a line between each two."""
-    return "\n".join([comment(says) + "".join(f"use {used};\n" for used in uses), *items])
+    head = comment(says) + TACTICS * is_root
+    return "\n".join([head + "".join(f"use {used};\n" for used in uses), *items])
 
 
 def comment(says):
@@ -98,11 +101,18 @@ def constant(name):
 
 
 def array(name, of, entries, says=""):
-    """A table on one line, or with a line for each entry."""
-    begin, line = f"pub const {name}: [{of}; {len(entries)}] = ", ", ".join(map(str, entries))
+    """A table on one line; or over several, each filled where every entry is short, else with one entry."""
+    begin, words = f"pub const {name}: [{of}; {len(entries)}] = ", [str(entry) for entry in entries]
+    line = ", ".join(words)
     if len(line) + 2 > ARRAY_WIDTH or len(begin) + len(line) + 3 > CODE_WIDTH:
-        line = "\n" + "".join(f"    {entry},\n" for entry in entries)
+        lines = filled(words) if all(len(word) <= SHORT for word in words) else [f"{word}," for word in words]
+        line = "\n" + "".join(f"    {row}\n" for row in lines)
     return f"{comment(says)}{begin}[{line}];\n"
+
+
+def filled(words):
+    """The lines of a table whose entries follow one another, each with a comma."""
+    return textwrap.wrap(" ".join(f"{word}," for word in words), CODE_WIDTH - 4)
 
 
 def starts(lists):
@@ -314,7 +324,7 @@ def listing_texts():
             [f",{name}," for name in totals()],
             "What stands in a line of the totals between its owner and its amount, by the number of the total.",
         ),
-        uses=["outputs::names", "outputs::total_names"],
+        uses=["outputs::{names, total_names}"],
     )
 
 
@@ -402,7 +412,7 @@ def command_numbers():
     return source(
         "The commands of the program by the numbers of their pages of help. Made by docs/tables from docs/help.txt.",
         comment("A command of the program, or one of those that ./urvendlo alone has.")
-        + f"pub enum Command {{\n{variants}    OfLauncher,\n}}\n",
+        + f"#[derive(Clone, Copy)]\npub enum Command {{\n{variants}    OfLauncher,\n}}\n",
         f"pub fn command_of(page: usize) -> Command {{\n    match page {{\n{arms}"
         "        _ => Command::OfLauncher,\n    }\n}\n",
     )
@@ -448,4 +458,5 @@ def program_texts():
         text_table("NAMES", "NAMES_STARTS", list(pages), "The commands' names, by the numbers of their pages."),
         comment("The numbers of the pages, and the last of them.")
         + constants([*((name.upper(), place) for place, name in enumerate(pages)), ("PAGE_LAST", len(pages) - 1)]),
+        is_root=True,
     )

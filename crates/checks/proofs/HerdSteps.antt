@@ -29,11 +29,11 @@ use Rattle.checks.proofs.Tests.{first-append, Refusing, refusing, quiet-passes, 
 -- ---- a herd: the tests in their order
 
 module _ (A : Type 0) (r x y : A) (t u : Bool) where
-  pub flag_not-true : r ≡ x → u ≡ t → not u ≡ true → r ≡ pick (not t) x y
-  flag_not-true q e h = q ∙ (simp (sym (ap not e) ∙ h))
+  pub flag_not-true : r ≡ x → u ≡ t → u ≡ false → r ≡ pick (not t) x y
+  flag_not-true q e h = q ∙ (simp (sym e ∙ h))
 
-  pub flag_not-false : r ≡ y → u ≡ t → not u ≡ false → r ≡ pick (not t) x y
-  flag_not-false q e h = q ∙ (simp (sym (ap not e) ∙ h))
+  pub flag_not-false : r ≡ y → u ≡ t → u ≡ true → r ≡ pick (not t) x y
+  flag_not-false q e h = q ∙ (simp (sym e ∙ h))
 
 pub ruleset flags = (flag_true, flag_false, flag_not-true, flag_not-false)
 
@@ -82,10 +82,10 @@ module _ (f : Farm) where
             ∙ inv
 
         module _ (ok : Bool) (o : ok ≡ label_ok h.label) where
-          pub herd-labelled_badly : not ok ≡ true → Refused BadLabel 0 ≡ check_farm f
+          pub herd-labelled_badly : ok ≡ false → Refused BadLabel 0 ≡ check_farm f
           herd-labelled_badly t = sym (rw (sym o, t)) ∙ next-herd
 
-          module _ (good : not ok ≡ false) where
+          module _ (good : ok ≡ true) where
             pub herd-labelled-again : (r : Bool) → r ≡ earlier_label (take i f.herds) h.label → r ≡ true
                 → Refused EarlierLabel 0 ≡ check_farm f
             unfolding earlier_label

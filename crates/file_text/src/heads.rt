@@ -1,5 +1,5 @@
 // What stands in a record between its label and its value, module and input name, kind by kind in the order of the
-// slots: as one text, with the length of each. Made by docs/tables from rowsOf of inputs/specs/Inputs.antt.
+// slots: as one text, with the length of each. Made by docs/tables from rows_of of inputs/specs/Inputs.antt.
 
 pub const ROUGHAGE: [u8; 388] = *b"\
 Livestock::RoughageConsuming::Excretion,animalcategory \

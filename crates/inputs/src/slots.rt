@@ -1,5 +1,5 @@
 // The slots of a kind's inputs by name, `slots::CATTLE_YARD_DAYS`, and how many they are. Kinds whose inputs have the
-// same names, in the same order, have one set. Made by docs/tables from rowsOf of specs/Inputs.antt.
+// same names, in the same order, have one set. Made by docs/tables from rows_of of specs/Inputs.antt.
 
 // Roughage
 pub const ROUGHAGE_ANIMALCATEGORY: usize = 0;

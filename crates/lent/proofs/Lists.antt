@@ -1,10 +1,12 @@
 -- Entries laid into an array one after the other, of any type: the array after i of them. Assumes nothing.
 use mathlib.Core.Path.{◌≡◌, refl, ap}
-use Prim.Native.Nat.{ℕ, zero, suc, ◌≤◌, ◌<◌, min}
+use Prim.Native.Nat.{ℕ, zero, suc, ◌+◌, ◌≤◌, ◌<◌, min}
 use native.Mathlib.Nat.{not-suc-le-zero, le_of_suc-le-suc}
 use native.Mathlib.Omega.{arith}
 use mathlib.Core.List.{List, [], ◌∷◌}
-use lib.ListN.{length, get_or, set}
+use Rattle.std.proofs.Common.{add-one}
+use lib.ListN.{length, take, get_or, set, length-take}
+use Rattle.std.proofs.lemmas.List.{get_or-take}
 use Rattle.lent.specs.Laid.{laid}
 
 -- the first i of these over what was there
@@ -38,3 +40,10 @@ module _ {A : Type 0} where
   up_to-done (suc i) [] old h = refl
   up_to-done (suc i) (x ∷ hs) [] h = refl
   up_to-done (suc i) (x ∷ hs) (y ∷ old) h = ap (λ (l : List A). x ∷ l) (up_to-done i hs old (omega (arith, h)))
+
+  -- an iteration: the next of the first `count` entries
+  pub laid-next : (i count : ℕ) (xs old l : List A) (d : A) → l ≡ up_to i (take count xs) old
+      → i < length (take count xs) → set l i (get_or xs i d) ≡ up_to (i + 1) (take count xs) old
+  laid-next i count xs old l d e h =
+      let below : i < count = omega (arith, length-take count xs) in
+      rw (e, add-one, ← get_or-take count xs i d below) (set-up_to i (take count xs) old d h)

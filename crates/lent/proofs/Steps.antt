@@ -1,9 +1,9 @@
 -- The steps of the functions by value: how many herds, and the farm that was loaded. Assumes nothing.
-use mathlib.Core.Path.{◌≡◌, sym, ap, ◌∙◌}
+use mathlib.Core.Path.{◌≡◌, ap}
 use Prim.Native.Nat.{ℕ, ◌+◌, ◌≤◌, ◌<◌, min}
 use native.Mathlib.Omega.{arith}
-use mathlib.Core.List.{List, map}
-use lib.ListN.{length, replicate, length-map, length-take}
+use mathlib.Core.List.{List}
+use lib.ListN.{length, replicate, length-take}
 use borrow.Author.Tests.{lt-ltb, le-ltb}
 use Rattle.farm.specs.declared.Herd.{Herd}
 use Rattle.farm.specs.declared.Farm.{Farm}
@@ -12,12 +12,9 @@ use Rattle.farm.specs.Herds.{no_herd}
 use Rattle.checks.specs.Checks.{herds_of}
 use Rattle.lent.specs.Laid.{blank_herds, farm_from}
 
-module _ (f : Farm) {Y : Type 0} (g : Herd → Y) (n : length (map g f.herds) ≡ herds_most) where
-  long : length f.herds ≡ herds_most
-  long = sym (length-map f.herds g) ∙ n
-
+module _ (f : Farm) (long : length f.herds ≡ herds_most) where
   pub room_so : (b x y : ℕ) → x ≡ min f.count herds_most → y ≡ min x b → y ≡ min (length (herds_of f)) b
-  room_so b x y e q = omega (arith, long, length-take f.count f.herds)
+  room_so b x y e q = omega (arith, length-take f.count f.herds)
 
 pub all-blank : (h : Herd) → h ≡ no_herd → replicate herds_most h ≡ blank_herds
 all-blank h e = ap (λ (x : Herd). replicate herds_most x) e

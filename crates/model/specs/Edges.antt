@@ -53,8 +53,8 @@ abbrev noted : Row → Edge
 noted r = record { given = names (told r); said = names r.notes }
 
 -- k at so many tenths of an hour, and c at so many days and tenths of an hour
-abbrev k_at_lem : ℕ → ℕ → Edge
-k_at_lem hours k = record { given = factor (k_of hours); said = factor k }
+abbrev k_edge : ℕ → ℕ → Edge
+k_edge hours k = record { given = factor (k_of hours); said = factor k }
 
 abbrev c_at : ℕ → ℕ → ℕ → Edge
 c_at days hours c = record { given = factor (c_grazing cutting days hours); said = factor c }
@@ -192,7 +192,7 @@ herds =
     ∷ gives outdoor_pigs "n_into_housing" (pos 0)
     ∷ gives outdoor_pigs "tan_into_housing" (pos 0)
     -- 7
-    ∷ k_at_lem 0 1000000000
+    ∷ k_edge 0 1000000000
     -- 8 stands among the rows of the notes
     -- 9
     ∷ c_at 365 240 1000000000

@@ -1,5 +1,5 @@
-// For the test programs, which cannot lend an array of herd records themselves: arrays of a known content are lent to
-// the calls of the library here, and handed back whole, so that every entry can be compared.
+// For the test programs: arrays of a known content are lent to the calls of the library here, and handed back whole, so
+// that every entry can be compared.
 #![tactic(auto)]
 
 ghost use Rattle.std.specs.Prelude.{◌≡◌, replicate};

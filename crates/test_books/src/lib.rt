@@ -1,5 +1,5 @@
-// For the test programs, which cannot lend an array of herd records themselves: an array that is handed in by value is
-// lent to a step (02, W11) here, and handed back whole, so that every entry can be compared.
+// For the test programs: an array that is handed in by value is lent to a step (02, W11) here, and handed back whole,
+// so that every entry can be compared.
 #![tactic(auto)]
 
 ghost use Rattle.std.specs.Prelude.{◌≡◌};

@@ -4,31 +4,31 @@
 #![tactic(auto)]
 
 mod script; // what a line says
-mod records; // a good record, and records changed in one place
-mod answers; // what the calls answer
+mod case_records; // a good record, and records changed in one place
+mod call_answers; // what the calls answer
 
 use printing::tell;
 use script::Change;
 
 // H: a herd with two changes, by itself and alone on a farm.
 fn herd_case(rt: &impl Print, change: Change, other: Change) {
-    let h = records::changed(records::changed(records::pigs(), change), other);
-    answers::of_herd(rt, h);
-    answers::of_farm(rt, records::farm_of(h, h, 1));
+    let h = case_records::changed(case_records::changed(case_records::pigs(), change), other);
+    call_answers::of_herd(rt, h);
+    call_answers::of_farm(rt, case_records::farm_of(h, h, 1));
 }
 
 // F: so many herds with one change, but for the second, which has another.
 fn farm_case(rt: &impl Print, change: Change, other: Change, count: usize) {
-    let first = records::changed(records::pigs(), change);
-    let second = records::changed(records::pigs(), other);
-    answers::of_farm(rt, records::farm_of(first, second, count));
+    let first = case_records::changed(case_records::pigs(), change);
+    let second = case_records::changed(case_records::pigs(), other);
+    call_answers::of_farm(rt, case_records::farm_of(first, second, count));
 }
 
 // S: the same in an array that is shorter than a farm may be; the totals alone.
 fn few_case(rt: &impl Print, change: Change, other: Change, count: usize) {
-    let first = records::changed(records::pigs(), change);
-    let second = records::changed(records::pigs(), other);
-    answers::of_few(rt, records::few_of(first, second), count);
+    let first = case_records::changed(case_records::pigs(), change);
+    let second = case_records::changed(case_records::pigs(), other);
+    call_answers::of_few(rt, case_records::few_of(first, second), count);
 }
 
 fn run(rt: &impl Print, line: &[u8; script::LINE]) {

@@ -1,5 +1,5 @@
-// The calls on a farm's record, lent an array that is handed in by value. No function that makes a slice of herds is
-// covered by the borrow checker, so the programs that test the calls, and the one that measures them, go through these.
+// The calls on a farm's record, lent an array that is handed in by value. The programs that test the calls, and the one
+// that measures them, go through these.
 #![tactic(auto)]
 
 ghost use Rattle.std.specs.Prelude.{◌≡◌};

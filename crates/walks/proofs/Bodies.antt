@@ -12,6 +12,9 @@ use mir.Syntax.{
   exit,
   return,
   call,
+  call_v,
+  lend_static,
+  unreachable,
   w64,
   ty_int,
 }
@@ -31,3 +34,6 @@ after (switch c ss) = skip
 after (exit n) = skip
 after return = skip
 after (call k as' d) = skip
+after (call_v v t as' d) = skip
+after (lend_static a b c) = skip
+after unreachable = skip

@@ -31,16 +31,16 @@ module _ {M : Type 1} {𝓤 : Ura M} {𝓛 : Logic 𝓤} {K : Type 0} {Γ : List
 
   pub told : K → Soaks G → (i : Item 𝓤) (R : RattleType) (v : Val) {X : Type 0} (F : X → Fml) (P : R.Denot → Type 0)
       → ((r : R.Denot) → P r → Is R r (v ∷ []) → Seq K 𝓛 (i ∷ Γ) G)
-      → Seq K 𝓛 (raw (H.⇛ (ex 𝓤 (λ (r : R.Denot). sep 𝓤 (sep 𝓤 (mean 𝓛 i) (sem 𝓛 (R.own r (v ∷ []))))
+      → Seq K 𝓛 (raw (H.⇛ (ex 𝓤 (λ (r : R.Denot). sep 𝓤 (sep 𝓤 (mean 𝓛 i) (sem 𝓛 (R.own_val r (v ∷ []))))
       (ex 𝓤 (λ (x : X). sep 𝓤 (sem 𝓛 (F x)) (fact 𝓤 (P r))))))) ∷ Γ) G
   told t z i R v {X} F P k =
       use1 𝓛
-      (later (some (λ (r : R.Denot). (i ⊛ ‵ (R.own r (v ∷ []))) ⊛ some (λ (x : X). ‵ (F x) ⊛ raw (fact 𝓤 (P r))))))
+      (later (some (λ (r : R.Denot). (i ⊛ ‵ (R.own_val r (v ∷ []))) ⊛ some (λ (x : X). ‵ (F x) ⊛ raw (fact 𝓤 (P r))))))
       (id⊢ 𝓤 _) $ await t z $ pick t (λ r. split t $ move t (1 ∷ []) $ pick t (λ x. split t $ drop t $
       heard t (P r) (λ e. split t $ move t (1 ∷ []) $ facts t R (Is R) (shows 𝓛 R) r (v ∷ []) (λ is. k r e is))))
 
   pub answer : K → Soaks G → (R : RattleType) (v : Val) {X : Type 0} (F : X → Fml) (P : R.Denot → Type 0)
       → ((r : R.Denot) → P r → Is R r (v ∷ []) → Seq K 𝓛 Γ G)
-      → Seq K 𝓛 (raw (H.⇛ (ex 𝓤 (λ (r : R.Denot). sep 𝓤 (sep 𝓤 (emp 𝓤) (sem 𝓛 (R.own r (v ∷ []))))
+      → Seq K 𝓛 (raw (H.⇛ (ex 𝓤 (λ (r : R.Denot). sep 𝓤 (sep 𝓤 (emp 𝓤) (sem 𝓛 (R.own_val r (v ∷ []))))
       (ex 𝓤 (λ (x : X). sep 𝓤 (sem 𝓛 (F x)) (fact 𝓤 (P r))))))) ∷ Γ) G
   answer t z R v F P k = told t z (raw (emp 𝓤)) R v F P (λ r e is. drop t $ k r e is)

@@ -10,13 +10,14 @@ use Prim.Native.Nat.{ℕ}
 use mathlib.Core.List.{List, [], ◌∷◌, map}
 use lib.ListN.{length}
 use seplogic.Ra.Ura.{Ura}
-use seplogic.Ra.TreeShare.{full_share}
+use base.Fraction.{full_share}
 use mir.Syntax.{Ty, Lifetime, ty_array}
 use mir.Val.{Val}
 use base.Logic.{SProp, ent, sep, ex}
-use base.Fml.{Lft, GName, fsep, fat, fdead, flft, flent}
-use types.Logic.{Logic, sem}
-use types.Kit.{‵, raw, ◌⊛◌, some, later, ◌$◌, ◌∵◌, !, qed, move, use1, use3, drop, split, pick, rewrite, fsplit}
+use base.Fml.{Lft, GName, fsep, fat, fdead, flft, flent, Incl}
+use ghost.Rules.{Toks, span}
+use types.Logic.{Logic, sem, lfts}
+use types.Kit.{‵, raw, ◌⊛◌, some, later, ◌$◌, ◌∵◌, !, qed, move, use1, use2, use3, drop, split, pick, rewrite, fsplit}
 use types.Kit.{fjoin, fpick, fpack, feq_l, feq_i, await, updating, now as at_once, show, done}
 use types.Kit.{Item, Goal, Soaks, Seq}
 use types.Tokens.{lft_new, lft_end, lent_back}
@@ -24,7 +25,8 @@ use types.SemTy.{cells, Arr}
 use types.Share.{arr_parts}
 use denote.RattleType.{RattleType}
 use denote.Laws.{Is, Tells, Makes, shows}
-use denote.Memory.{cell_at, part_at, lone, mem, shares, part_of}
+use denote.Memory.{cell_at, part_at, lone, mem, shares, part_of, shared_of}
+use denote.Shares.{SharesAsFrom}
 use denote.Array.{Array, array_val, Array-Tells, Array-Makes}
 use denote.ArrayMemory.{Single, Array-apart, Array-whole}
 use denote.Slice.{slice_val, MutSlice, Room, finally}
@@ -61,17 +63,19 @@ module _ {M : Type 1} {𝓤 : Ura M} (𝓛 : Logic 𝓤) (R : RattleType) (one :
       (lends_slice 𝓛 R ℓ κ' xs l 0 room) $ await ! tt $ pick ! (λ δ.
       at_once ! $ show ! (Lent 𝓛 R ℓ κ' xs l 0) δ $ done !)
 
+  -- with tokens at which the type is shared, which come back
   pub lends_shared-array : (ℓ : Lifetime) (κ' : Lft) (xs : List R.Denot) (v : Val) → Is (Array R n) xs (v ∷ [])
-      → Room R (length xs)
-      → ent 𝓤 (H.at full_share array_ty l 0 v) (H.⇛ (ex 𝓤 (LentShrs 𝓛 R ℓ κ' full_share xs l 0)))
-  lends_shared-array ℓ κ' xs v is room =
-      qed 𝓛 (‵ (fat full_share array_ty l 0 v) ∷ []) ∵ updating ! $
+      → Room R (length xs) → (κ : Lft) → SharesAsFrom 𝓛 full_share R (shared_of R) κ → (ts : Toks)
+      → Incl (span ts) κ → Incl (span ts) κ'
+      → ent 𝓤 (sep 𝓤 (H.at full_share array_ty l 0 v) (lfts 𝓛 ts))
+      (H.⇛ (sep 𝓤 (LentShrs 𝓛 R ℓ κ' full_share xs l 0) (lfts 𝓛 ts)))
+  lends_shared-array ℓ κ' xs v is room κ s ts inc sp =
+      qed 𝓛 (‵ (fat full_share array_ty l 0 v) ∷ raw (lfts 𝓛 ts) ∷ []) ∵ updating ! $
       use1 𝓛 (‵ (part_at (Array R n) full_share xs l 0)) (lies xs v is) $
       use1 𝓛 (‵ ((arr_parts (shares R) n).part full_share xs l 0)) (Array-apart 𝓛 R full_share one n xs l 0) $
       fsplit ! $ drop ! $ feq_i ! ℕ (length xs) (length xs) refl $ fjoin ! $
-      use1 𝓛 (later (some (λ (δ : GName). raw (LentShrs 𝓛 R ℓ κ' full_share xs l 0 δ))))
-      (lends_shr_slice 𝓛 R ℓ κ' full_share xs l 0 room) $ await ! tt $ pick ! (λ δ.
-      at_once ! $ show ! (LentShrs 𝓛 R ℓ κ' full_share xs l 0) δ $ done !)
+      use2 𝓛 (later (raw (LentShrs 𝓛 R ℓ κ' full_share xs l 0) ⊛ raw (lfts 𝓛 ts)))
+      (lends_shr_slice 𝓛 R ℓ κ' full_share xs l 0 room κ s ts inc sp) $ await ! tt $ at_once ! $ done !
 
   module _ (val : R.Denot → Val) (tl : Tells R (Is R) (λ x. val x ∷ [])) where
     abbrev value : List R.Denot → Val
@@ -122,14 +126,16 @@ module _ {M : Type 1} {𝓤 : Ura M} {𝓛 : Logic 𝓤} {K : Type 0} {Γ : List
   pub lent_out : K → Soaks G → (R : RattleType) → Single R.mir → Makes 𝓛 R (Is R) → (n l : ℕ) (ℓ : Lifetime)
       (xs : List R.Denot) (v : Val) → Is (Array R n) xs (v ∷ []) → Room R (length xs)
       → ((ν : ℕ) (δ : GName) → Seq K 𝓛
-      (‵ ((MutSlice ℓ (ν ∷ []) R).own_val (record { ref_ptr = (l, 0); ghost_name = δ; now = xs }) (slice_val (l, 0) (length xs) ∷ []))
+      (‵ ((MutSlice ℓ (ν ∷ []) R).own_val (record { ref_ptr = (l, 0); ghost_name = δ; now = xs })
+      (slice_val (l, 0) (length xs) ∷ []))
       ∷ ‵ (flent (ν ∷ []) (Held R (length xs) l 0 δ)) ∷ ‵ (flft (ν ∷ []) full_share) ∷ Γ) G)
       → Seq K 𝓛 (‵ (fat full_share (ty_array (lone R.mir) n) l 0 v) ∷ Γ) G
   lent_out t z R one mk n l ℓ xs v is room k =
       lft_new t z (λ ν. move t (1 ∷ []) $
       use1 𝓛
       (later (some (λ (δ : GName).
-      ‵ ((MutSlice ℓ (ν ∷ []) R).own_val (record { ref_ptr = (l, 0); ghost_name = δ; now = xs }) (slice_val (l, 0) (length xs) ∷ []))
+      ‵ ((MutSlice ℓ (ν ∷ []) R).own_val (record { ref_ptr = (l, 0); ghost_name = δ; now = xs })
+      (slice_val (l, 0) (length xs) ∷ []))
       ⊛ ‵ (flent (ν ∷ []) (Held R (length xs) l 0 δ)))))
       (lends_array 𝓛 R one mk n l ℓ (ν ∷ []) xs v is room) $ await t z $ pick t (λ δ. split t $ k ν δ))
 
@@ -143,6 +149,7 @@ module _ {M : Type 1} {𝓤 : Ura M} {𝓛 : Logic 𝓤} {K : Type 0} {Γ : List
   brought_home t z R one mk n l val tl ν δ zs m e k =
       lft_end t z $
       use3 𝓛
-      (later (some (λ (v : Val). ‵ ((Array R n).own_val zs (v ∷ [])) ⊛ ‵ (fat full_share (ty_array (lone R.mir) n) l 0 v))))
+      (later (some (λ (v : Val).
+      ‵ ((Array R n).own_val zs (v ∷ [])) ⊛ ‵ (fat full_share (ty_array (lone R.mir) n) l 0 v))))
       (array_back 𝓛 R one mk n l val tl (ν ∷ []) δ zs m e) $ await t z $ pick t (λ v. split t $
       facts t (Array R n) (Is (Array R n)) (shows 𝓛 (Array R n)) zs (v ∷ []) (λ is. k v is))

@@ -1,5 +1,5 @@
 // The input names (01, The farm file): their numbers, and the words as one text, with the length of each. Made by
-// docs/tables from the inputNames of specs/Find.antt.
+// docs/tables from the input_names of specs/Find.antt.
 
 pub const ANIMALCATEGORY: usize = 0;
 

@@ -1,18 +1,10 @@
 -- `book_totals::is_beyond` meets its contract: one of the totals from i on is beyond exactly where one of all is.
 -- Assumes nothing.
 use Prim.Native.Nat.{◌-◌, ◌≤◌}
-use mathlib.Core.Path.{◌≡◌, ap, ◌∙◌}
-use mathlib.Core.List.{List}
-use native.Mathlib.Omega.{arith}
+use mathlib.Core.Path.{◌≡◌}
 use lib.ListN.{length, drop}
-use lib.IntN.{ℤ, nat_abs}
-use borrow.Author.Rules.{rules}
-use Rattle.farm.proofs.Left.{length_mapped}
-use Rattle.cut_division.proofs.Signed.{back-mag}
 use Rattle.outputs.specs.Names.{totals}
-use Rattle.outputs.specs.Grams.{grams_at}
 use Rattle.books.specs.Rules.{any_beyond, beyond}
-use Rattle.book_totals.proofs.Beyond.{one-beyond, one-within, all-within}
 use Rattle.book_totals.proofs.is_beyond.Given as goal
 
 abbrev pub invariant-loop-i : goal.invariant-loop-i

@@ -3,12 +3,9 @@ use Prim.Native.Nat.{◌-◌, ◌≤◌}
 use mathlib.Core.Path.{◌≡◌}
 use lib.ListN.{length}
 use lib.IntN.{◌+ℤ◌, ◌-ℤ◌}
-use borrow.Author.Rules.{rules}
 use Rattle.outputs.specs.Names.{totals}
 use Rattle.outputs.specs.Grams.{grams_at}
-use Rattle.outputs.proofs.ByNumber.{Filled, fill_none, fill_one, fill_all}
-use Rattle.book_totals.proofs.Beyond.{within-most}
-use Rattle.book_totals.proofs.Parts.{reads_small, gave}
+use Rattle.outputs.proofs.ByNumber.{Filled}
 use Rattle.book_totals.proofs.moved_by.Given as goal
 
 abbrev pub invariant-loop-i : goal.invariant-loop-i

@@ -1,39 +1,28 @@
-use Prim.Native.Nat.{◌-◌, ◌≤◌, ◌<◌}
-use mathlib.Core.Logic.{⊎_elim}
+use Prim.Native.Nat.{ℕ, ◌<◌}
 use mathlib.Core.Path.{◌≡◌}
 use mathlib.Core.Bool.{false}
 use mathlib.Core.List.{[]}
 use native.Mathlib.Omega.{arith}
-use lib.ListN.{length, get_or, take, drop}
+use lib.ListN.{get_or, take}
 use borrow.Author.Rules.{rules}
-use Rattle.base.specs.First.{first}
 use Rattle.farm.specs.Limits.{herds_most}
 use Rattle.inputs.specs.declared.Kind.TheVariants.{Roughage}
 use Rattle.farm.specs.declared.Herd.{Herd}
-use Rattle.farm.specs.declared.Checked.TheVariants.{Accepted}
-use Rattle.herd_tests.specs.Tests.{labels_of, earlier_label, prints_of}
-use Rattle.checks.specs.Checks.{herds_tests, herds_of, check_farm}
+use Rattle.farm.specs.declared.Farm.{Farm}
+use Rattle.herd_tests.specs.Tests.{earlier_label}
 use Rattle.farm.proofs.Left.{length_mapped}
 use Rattle.herd_tests.proofs.PrintsSoFar.{prints-next, new-by_print, new-by-label}
 use Rattle.checks.proofs.HerdSteps.{farm_steps}
 use Rattle.checks.proofs.check_farm.Goals as goal
+use Rattle.checks.proofs.check_farm.Goals.{then-has_print+else-earlier_label, else-has_print}
 
 -- what stands at a place that an array does not have
 abbrev none : Herd
 none = record { label = record { bytes = []; len = 0 }; kind = Roughage; slots = [] }
 
 -- the label at i is that of no earlier herd: its print is none of theirs, or it is another label than theirs
-new : (w : tie.Joined3 invariant-loop decreases-loop) → let l = w.before.before.before.before.before.before.before.before in
-    earlier_label (take l.loop.i l.before.before.args.t1.herds)
-    (get_or l.before.before.args.t1.herds l.loop.i none).label ≡ false
-new w =
-    let p = w.before.before.before in
-    let l = p.before.before.before.before.before in
-    ⊎_elim (λ a. new-by-label _ _ a.2.ensures a.3.left)
-    (λ a. new-by_print l.before.before.args.t1.herds _ l.loop.prints l.loop.i l.loop.invariant.3
-    p.print-of.ensures w.before.has-print.ensures
-    a.left)
-    w.if3.branch
+abbrev IsNew : Farm → ℕ → Type 0
+IsNew f i = earlier_label (take i f.herds) (get_or f.herds i none).label ≡ false
 
 pub returns-then-count-gt-HERDS_MOST : goal.returns-then-count-gt-HERDS_MOST
 returns-then-count-gt-HERDS_MOST c = search (rules, farm_steps)
@@ -48,28 +37,32 @@ pub returns-then-earlier_label : goal.returns-then-earlier_label
 returns-then-earlier_label c = search (rules, farm_steps)
 
 pub loop-i-preserved : goal.loop-i-preserved
-loop-i-preserved c = let w = c in
-    let p = c in
-    let l = c in
-    let v = l.loop-i.invariant in
-    let b : l.loop-i.i < herds_most = omega (arith, l.loop-i-test.true, l.if-count-gt-HERDS_MOST.false) in (
+loop-i-preserved c =
+    let v = c.loop-i.invariant in
+    let b : c.loop-i.i < herds_most = omega (arith, c.loop-i-test.true, c.if-count-gt-HERDS_MOST.false) in
+    let new : IsNew c.args.farm c.loop-i.i = elim c.if-has_print.branch [
+      | then-has_print+else-earlier_label w ↦ new-by-label _ _ w.earlier_label.ensures w.if-earlier_label.false
+      | else-has_print w ↦
+          new-by_print c.args.farm.herds _ c.loop-i.prints c.loop-i.i v.3 c.print_of-print.ensures c.has_print.ensures
+          w.if-has_print.false
+    ] in (
       search rules,
       search rules,
       search rules,
-      prints-next _ _ _ v.3 v.2 v.1 b none p.print_of-print.ensures,
-      search (
-        rules,
-        farm_steps,
-        new w,
-        p.if-not-label_ok.false,
-        p.label_ok.ensures,
-        l.loop-i-test.true,
-        l.loop-i.invariant,
-      ),
+      prints-next _ _ _ v.3 v.2 v.1 b none c.print_of-print.ensures,
+      search (rules, farm_steps, new, c.if-not-label_ok.false, c.label_ok.ensures, c.loop-i-test.true, v),
     )
 
 pub returns-in-Refused : goal.returns-in-Refused
-returns-in-Refused c = search (rules, farm_steps, new c)
+returns-in-Refused c =
+    let v = c.loop-i.invariant in
+    let new : IsNew c.args.farm c.loop-i.i = elim c.if-has_print.branch [
+      | then-has_print+else-earlier_label w ↦ new-by-label _ _ w.earlier_label.ensures w.if-earlier_label.false
+      | else-has_print w ↦
+          new-by_print c.args.farm.herds _ c.loop-i.prints c.loop-i.i v.3 c.print_of-print.ensures c.has_print.ensures
+          w.if-has_print.false
+    ] in
+    search (rules, farm_steps, new)
 
 pub returns : goal.returns
 returns c = search (rules, farm_steps)

@@ -1,9 +1,5 @@
-use Prim.Native.Nat.{◌+◌, ◌≤◌}
-use mathlib.Core.Path.{◌≡◌}
 use native.Mathlib.Omega.{arith}
-use Rattle.decimal.specs.Writing.{width}
 use Rattle.decimal.proofs.Widths.{width_small, width_two, width_three, width-thousand}
-use borrow.Author.Rules.{rules}
 use Rattle.decimal.proofs.digits.Goals as goal
 
 pub loop-m-preserved : goal.loop-m-preserved

@@ -2,10 +2,7 @@
 -- Assumes nothing.
 use Prim.Native.Nat.{◌+◌, ◌≤◌}
 use mathlib.Core.Path.{◌≡◌}
-use native.Mathlib.Omega.{arith}
 use Rattle.decimal.specs.Writing.{width}
-use Rattle.decimal.proofs.Widths.{width_small, width_two, width_three, width-thousand}
-use borrow.Author.Rules.{rules}
 use Rattle.decimal.proofs.digits.Given as goal
 
 abbrev pub invariant-loop-m : goal.invariant-loop-m

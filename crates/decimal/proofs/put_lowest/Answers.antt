@@ -1,12 +1,10 @@
 use mathlib.Core.Path.{◌≡◌, sym, ap, ◌∙◌}
-use Prim.Native.Nat.{◌≤◌}
 use native.Mathlib.Omega.{arith}
-use lib.ListN.{length, length-set}
+use lib.ListN.{length-set}
 use lib.Seq.{sets}
 use Rattle.base.proofs.Writes.{wrote-keeps-length}
 use Rattle.decimal.specs.Writing.{lowest}
 use Rattle.decimal.proofs.Widths.{low-three, low_turn, lowest-length}
-use borrow.Author.Rules.{rules}
 use Rattle.decimal.proofs.put_lowest.Goals as goal
 
 pub loop-i-preserved : goal.loop-i-preserved

@@ -1,14 +1,10 @@
 -- `decimal::put_lowest` meets its contract. The invariant of both loops: storing the i lowest digits of m gives what
 -- storing those at the loop's start gives. Assumes nothing.
-use mathlib.Core.Path.{◌≡◌, sym, ap, ◌∙◌}
+use mathlib.Core.Path.{◌≡◌}
 use Prim.Native.Nat.{◌≤◌}
-use native.Mathlib.Omega.{arith}
-use lib.ListN.{length, length-set}
+use lib.ListN.{length}
 use lib.Seq.{sets}
-use Rattle.base.proofs.Writes.{wrote-keeps-length}
 use Rattle.decimal.specs.Writing.{lowest}
-use Rattle.decimal.proofs.Widths.{low-three, low_turn, lowest-length}
-use borrow.Author.Rules.{rules}
 use Rattle.decimal.proofs.put_lowest.Given as goal
 
 abbrev pub invariant-loop-i : goal.invariant-loop-i

@@ -1,7 +1,6 @@
 -- `decimal::put_three` meets its contract: the three digits, one after the other. Assumes nothing.
 use Rattle.base.proofs.Writes.{wrote_as, wrote-append}
 use Rattle.decimal.proofs.Widths.{three-are}
-use borrow.Author.Rules.{rules}
 use Rattle.decimal.proofs.put_three.Goals as goal
 
 pub returns : goal.returns

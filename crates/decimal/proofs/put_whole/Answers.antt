@@ -3,7 +3,6 @@
 use native.Mathlib.Omega.{arith}
 use Rattle.base.proofs.Writes.{wrote_as}
 use Rattle.decimal.proofs.Widths.{whole_is, whole_length}
-use borrow.Author.Rules.{rules}
 use Rattle.decimal.proofs.put_whole.Goals as goal
 
 pub put_lowest-requires : goal.put_lowest-requires

@@ -4,8 +4,6 @@ use Prim.Native.Nat.{◌-◌}
 use mathlib.Core.Path.{◌≡◌}
 use lib.ListN.{length, drop}
 use Rattle.field_ends.specs.Places.{quoted_from}
-use Rattle.field_ends.proofs.Scans.{quoted_steps}
-use borrow.Author.Rules.{rules}
 use Rattle.field_ends.proofs.quoted_end.Given as goal
 
 abbrev pub invariant-loop-i : goal.invariant-loop-i

@@ -1,17 +1,13 @@
-use Prim.Native.Nat.{◌-◌, ◌≤◌}
-use mathlib.Core.Path.{◌≡◌, refl}
+use mathlib.Core.Path.{refl}
 use native.Mathlib.Omega.{arith}
 use borrow.Author.Rules.{rules}
-use Rattle.base.proofs.ToCome.{ToCome}
-use Rattle.farm.specs.Limits.{slots}
 use Rattle.farm.proofs.Slots.{count_most}
 use Rattle.farm.proofs.Left.{length_mapped}
-use Rattle.file_text.specs.Files.{herd_file}
-use Rattle.file_text.proofs.HerdSteps.{rest_of, herd-begun, herd_steps}
+use Rattle.file_text.proofs.HerdSteps.{herd-begun, herd_steps}
 use Rattle.file_text.proofs.put_herd.Goals as goal
 
 pub loop-slot-init : goal.loop-slot-init
-loop-slot-init c = let herd = c.args.t3 in
+loop-slot-init c = let herd = c.args.herd in
     (search rules, omega (arith, count_most herd.kind), refl, herd-begun herd)
 
 pub put_record-next-requires : goal.put_record-next-requires

@@ -1,15 +1,11 @@
 -- `file_text::put_herd` meets its contract: each turn puts the record of the next input. The measure is how many are
 -- left. Assumes nothing.
 use Prim.Native.Nat.{◌-◌, ◌≤◌}
-use mathlib.Core.Path.{◌≡◌, refl}
-use native.Mathlib.Omega.{arith}
-use borrow.Author.Rules.{rules}
+use mathlib.Core.Path.{◌≡◌}
 use Rattle.base.proofs.ToCome.{ToCome}
 use Rattle.farm.specs.Limits.{slots}
-use Rattle.farm.proofs.Slots.{count_most}
-use Rattle.farm.proofs.Left.{length_mapped}
 use Rattle.file_text.specs.Files.{herd_file}
-use Rattle.file_text.proofs.HerdSteps.{rest_of, herd-begun, herd_steps}
+use Rattle.file_text.proofs.HerdSteps.{rest_of}
 use Rattle.file_text.proofs.put_herd.Given as goal
 
 abbrev pub invariant-loop-slot : goal.invariant-loop-slot

@@ -1,19 +1,15 @@
-use Prim.Native.Nat.{◌-◌, ◌≤◌}
-use mathlib.Core.Path.{◌≡◌, refl}
+use mathlib.Core.Path.{refl}
 use native.Mathlib.Omega.{arith}
-use lib.ListN.{drop}
 use borrow.Author.Rules.{rules}
-use Rattle.inputs.specs.Inputs.{rows_of}
-use Rattle.farm.specs.Limits.{slots}
 use Rattle.farm.proofs.Slots.{count_most}
-use Rattle.fits.specs.Fits.{unfit_one, unfit}
+use Rattle.fits.specs.Fits.{unfit}
 use Rattle.farm.proofs.Left.{length_mapped}
 use Rattle.fits.proofs.SlotSteps.{unfit_steps}
 use Rattle.fits.proofs.has_unfit.Goals as goal
 
 pub loop-i-init : goal.loop-i-init
 unfolding unfit
-loop-i-init c = (search rules, omega (arith, count_most c.args.t1.kind), refl, refl)
+loop-i-init c = (search rules, omega (arith, count_most c.args.h.kind), refl, refl)
 
 pub returns-then-not-fits_form : goal.returns-then-not-fits_form
 returns-then-not-fits_form c = search (rules, unfit_steps, length_mapped)

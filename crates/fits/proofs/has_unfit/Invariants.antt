@@ -1,15 +1,10 @@
 -- The loop keeps that one of the inputs from i on does not fit exactly where one of all does not. Assumes nothing.
 use Prim.Native.Nat.{◌-◌, ◌≤◌}
-use mathlib.Core.Path.{◌≡◌, refl}
-use native.Mathlib.Omega.{arith}
+use mathlib.Core.Path.{◌≡◌}
 use lib.ListN.{drop}
-use borrow.Author.Rules.{rules}
 use Rattle.inputs.specs.Inputs.{rows_of}
 use Rattle.farm.specs.Limits.{slots}
-use Rattle.farm.proofs.Slots.{count_most}
 use Rattle.fits.specs.Fits.{unfit_one, unfit}
-use Rattle.farm.proofs.Left.{length_mapped}
-use Rattle.fits.proofs.SlotSteps.{unfit_steps}
 use Rattle.fits.proofs.has_unfit.Given as goal
 
 abbrev pub invariant-loop-i : goal.invariant-loop-i

@@ -2,9 +2,7 @@
 use Prim.Native.Nat.{◌-◌, ◌≤◌}
 use mathlib.Core.Path.{◌≡◌}
 use lib.ListN.{take, drop}
-use borrow.Author.Rules.{rules}
 use Rattle.herd_tests.specs.Tests.{earlier_label}
-use Rattle.herd_tests.proofs.LabelSteps.{earlier_steps}
 use Rattle.herd_tests.proofs.earlier_label.Given as goal
 
 abbrev pub invariant-loop-i : goal.invariant-loop-i

@@ -4,9 +4,7 @@ use Prim.Native.Nat.{◌-◌, ◌≤◌}
 use mathlib.Core.Path.{◌≡◌}
 use mathlib.Core.Bool.{◌||◌}
 use lib.ListN.{take, drop}
-use borrow.Author.Rules.{rules}
 use Rattle.herd_tests.specs.Tests.{has_print}
-use Rattle.herd_tests.proofs.PrintSteps.{print_steps}
 use Rattle.herd_tests.proofs.has_print.Given as goal
 
 abbrev pub invariant-loop-i : goal.invariant-loop-i

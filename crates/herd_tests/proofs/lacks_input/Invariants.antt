@@ -1,15 +1,10 @@
 -- The loop keeps that one of the inputs from i on is missing exactly where one of all is. Assumes nothing.
 use Prim.Native.Nat.{◌-◌, ◌≤◌}
-use mathlib.Core.Path.{◌≡◌, refl}
-use native.Mathlib.Omega.{arith}
+use mathlib.Core.Path.{◌≡◌}
 use lib.ListN.{drop}
-use borrow.Author.Rules.{rules}
 use Rattle.inputs.specs.Inputs.{rows_of}
 use Rattle.farm.specs.Limits.{slots}
-use Rattle.farm.proofs.Slots.{count_most}
 use Rattle.herd_tests.specs.Tests.{lacks_one, lacks}
-use Rattle.farm.proofs.Left.{length_mapped}
-use Rattle.herd_tests.proofs.SlotSteps.{lacks_steps}
 use Rattle.herd_tests.proofs.lacks_input.Given as goal
 
 abbrev pub invariant-loop-i : goal.invariant-loop-i

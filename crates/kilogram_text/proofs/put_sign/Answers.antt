@@ -5,7 +5,6 @@ use native.Mathlib.Omega.{arith}
 use lib.ListN.{length}
 use Rattle.base.proofs.Writes.{wrote_as, wrote_nothing}
 use Rattle.kilogram_text.proofs.Signs.{sign_below, sign-none}
-use borrow.Author.Rules.{rules}
 use Rattle.kilogram_text.proofs.put_sign.Goals as goal
 
 pub put_byte-requires : goal.put_byte-requires

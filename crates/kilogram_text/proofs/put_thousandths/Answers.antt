@@ -3,7 +3,6 @@
 use native.Mathlib.Omega.{arith}
 use Rattle.base.proofs.Writes.{wrote_as, wrote-append}
 use Rattle.kilogram_text.proofs.Lengths.{thousandths-is, thousandths-length}
-use borrow.Author.Rules.{rules}
 use Rattle.kilogram_text.proofs.put_thousandths.Goals as goal
 
 pub put_whole-a-requires : goal.put_whole-a-requires

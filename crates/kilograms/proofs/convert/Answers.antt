@@ -1,10 +1,5 @@
 use borrow.Author.Rules.{rules}
-use Prim.Native.Nat.{◌≤◌, ◌-◌}
-use mathlib.Core.Path.{◌≡◌, sym, ◌∙◌}
-use mathlib.Core.List.{map}
-use lib.ListN.{length, drop}
-use lib.Seq.{sets}
-use Rattle.kilograms.specs.Kilograms.{in_kilograms}
+use mathlib.Core.Path.{sym, ◌∙◌}
 use Rattle.kilograms.proofs.Converting.{all_left, none_left, small, one-stored}
 use Rattle.kilograms.proofs.convert.Goals as goal
 

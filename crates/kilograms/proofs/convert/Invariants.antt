@@ -1,13 +1,11 @@
 -- `kilograms::convert` meets its contract. The invariant: storing the kilograms of the grams that are left gives the
 -- kilograms of all. Assumes nothing.
-use borrow.Author.Rules.{rules}
 use Prim.Native.Nat.{◌≤◌, ◌-◌}
-use mathlib.Core.Path.{◌≡◌, sym, ◌∙◌}
+use mathlib.Core.Path.{◌≡◌}
 use mathlib.Core.List.{map}
 use lib.ListN.{length, drop}
 use lib.Seq.{sets}
 use Rattle.kilograms.specs.Kilograms.{in_kilograms}
-use Rattle.kilograms.proofs.Converting.{all_left, none_left, small, one-stored}
 use Rattle.kilograms.proofs.convert.Given as goal
 
 abbrev pub invariant-loop-i : goal.invariant-loop-i

@@ -11,7 +11,7 @@ abbrev of_kilograms : List Float → TotalKilograms
 of_kilograms k = record { kilograms = k }
 
 pub convert-requires : goal.convert-requires
-convert-requires c = (c.requires, slice-aggregate-convert c)
+convert-requires c = (c.requires, search rules)
 
 pub returns : goal.returns
 returns c = ap of_kilograms c.convert.ensures

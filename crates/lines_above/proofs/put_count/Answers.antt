@@ -9,23 +9,17 @@ use Rattle.decimal.proofs.Widths.{whole-text}
 use borrow.Author.Rules.{rules}
 use Rattle.lines_above.proofs.put_count.Goals as goal
 
-short : (s : tie.Start) → length (whole_of s.args.count) ≤ digits_most
-short s = whole-text s.args.count (search rules)
-
-abbrev begin : tie.After-put → tie.Start
-begin a = a.before.before.before.before
-
 pub put_whole-b-requires : goal.put_whole-b-requires
-put_whole-b-requires c = omega (arith, short (begin c))
+put_whole-b-requires c =
+    let short : length (whole_of c.args.count) ≤ digits_most = whole-text c.args.count (search rules) in omega arith
 
 pub put-requires : goal.put-requires
-put-requires c = let w = c in
-    omega (arith, short (begin c))
+put-requires c =
+    let short : length (whole_of c.args.count) ≤ digits_most = whole-text c.args.count (search rules) in omega arith
 
 pub returns : goal.returns
-returns c = let e = c in
-    let w = c in
-    let a = c in (
-      wrote-append (wrote-append a.put-a.ensures w.put_whole-b.ensures) e.put.ensures,
-      omega (arith, short (begin a)),
+returns c =
+    let short : length (whole_of c.args.count) ≤ digits_most = whole-text c.args.count (search rules) in (
+      wrote-append (wrote-append c.put-a.ensures c.put_whole-b.ensures) c.put.ensures,
+      omega arith,
     )

@@ -7,10 +7,6 @@ use Rattle.lines_figures.proofs.FarmSteps.{Listing, has_room, asks, ends, farm_s
 use borrow.Author.Rules.{rules}
 use Rattle.lines_figures.proofs.put_farm.Goals as goal
 
--- how many herds the farm has room for
-long : (c : tie.Start invariant-loop decreases-loop) → length c.args.t2.herds ≡ herds_most
-long c = search (rules, length_mapped)
-
 pub loop-i-init : goal.loop-i-init
 loop-i-init c = search (rules, farm_steps, length_mapped)
 
@@ -18,18 +14,16 @@ pub figures-f-requires : goal.figures-f-requires
 figures-f-requires c = search (rules, farm_steps, length_mapped)
 
 pub put_herd_lines-at-requires : goal.put_herd_lines-at-requires
-put_herd_lines-at-requires c = let g = c in
-    let l = c in
-    let s = c in
-    has_room _ s.requires.0 _ s.requires.1 _ _ _ _ l.loop-i.invariant (long s) l.loop-i-test.true _ _
-    g.typed_of.ensures _ g.figures-f.ensures
+put_herd_lines-at-requires c =
+    let long : length c.args.farm.herds ≡ herds_most = search (rules, length_mapped) in
+    has_room _ c.requires.0 _ c.requires.1 _ _ _ _ c.loop-i.invariant long c.loop-i-test.true _ _
+    c.typed_of.ensures _ c.figures-f.ensures
 
 pub plus-sum-requires : goal.plus-sum-requires
-plus-sum-requires c = let g = c in
-    let l = c in
-    let s = c in
-    asks _ s.requires.0 _ s.requires.1 _ _ _ _ l.loop-i.invariant (long s) l.loop-i-test.true _ _
-    g.typed_of.ensures _ g.figures-f.ensures
+plus-sum-requires c =
+    let long : length c.args.farm.herds ≡ herds_most = search (rules, length_mapped) in
+    asks _ c.requires.0 _ c.requires.1 _ _ _ _ c.loop-i.invariant long c.loop-i-test.true _ _
+    c.typed_of.ensures _ c.figures-f.ensures
 
 pub loop-i-preserved : goal.loop-i-preserved
 loop-i-preserved c = search (rules, farm_steps, length_mapped)
@@ -44,8 +38,6 @@ pub shape_of-out : goal.shape_of-out
 shape_of-out c = search (rules, farm_steps, length_mapped)
 
 pub returns : goal.returns
-returns c = let w = c in
-    let l = c in
-    let s = c in
-    ends _ s.requires.0 _ s.requires.1 _ _ _ _ l.loop-i.invariant l.loop-i-test.false _
-    w.totals_from.ensures _ _ w.put_total_lines.ensures
+returns c =
+    ends _ c.requires.0 _ c.requires.1 _ _ _ _ c.loop-i.invariant c.loop-i-test.false _
+    c.totals_from.ensures _ _ c.put_total_lines.ensures

@@ -6,16 +6,11 @@ use borrow.Author.Rules.{rules}
 use Rattle.lines_outdoors.proofs.put_number.Goals as goal
 
 pub put_whole-requires : goal.put_whole-requires
-put_whole-requires c = (λ c κs.
-    let s = c in
-    omega (arith, whole-text s.args.n (search rules)))
+put_whole-requires c = omega (arith, whole-text c.args.n (search rules))
 
 pub returns : goal.returns
-returns c = (λ c.
-    let w = c in
-    let p = c in
-    let s = c in
+returns c =
     record {
-      wrote = wrote-append p.put-a.ensures w.put_whole.ensures;
-      short = omega (arith, whole-text s.args.n (search rules));
-    })
+      wrote = wrote-append c.put-a.ensures c.put_whole.ensures;
+      short = omega (arith, whole-text c.args.n (search rules));
+    }

@@ -7,4 +7,4 @@ pub returns-in-Because : goal.returns-in-Because
 returns-in-Because c = search (rules, wording_steps)
 
 pub returns-in-NoYard : goal.returns-in-NoYard
-returns-in-NoYard c = as-nothing _ _ _ _ _ c.enum_told-1.given.1
+returns-in-NoYard c = as-nothing _ _ _ _ _ c.in-NoYard.is

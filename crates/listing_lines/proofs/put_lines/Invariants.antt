@@ -1,15 +1,9 @@
 -- `listing_lines::put_lines` meets its contract: what is still to be written is the lines of the numbers that are
 -- left. Assumes nothing.
 use Prim.Native.Nat.{◌-◌, ◌≤◌}
-use native.Mathlib.Omega.{arith}
-use lib.ListN.{length, get_or, drop, length-take, length-drop}
-use mir.Facts.{to_z-of_z}
-use Rattle.base.specs.Part.{part}
-use Rattle.base.proofs.ToCome.{ToCome, begun}
-use Rattle.line_parts.proofs.Middles.{Stands, stands}
-use Rattle.listing_lines.specs.Numbered.{longest_middle, numbered}
-use Rattle.listing_lines.proofs.LineByLine.{line-room, line-put, all-put}
-use borrow.Author.Rules.{rules, sfits_of}
+use lib.ListN.{length, drop}
+use Rattle.base.proofs.ToCome.{ToCome}
+use Rattle.listing_lines.specs.Numbered.{numbered}
 use Rattle.listing_lines.proofs.put_lines.Given as goal
 
 abbrev pub invariant-loop-k : goal.invariant-loop-k

@@ -1,27 +1,25 @@
 -- `mend_writes::put_change` meets its contract: a kind and a place, or nothing. Assumes nothing.
-use Prim.Native.Nat.{◌+◌, ◌≤◌}
 use native.Mathlib.Omega.{arith}
 use lib.ListN.{length, length-set}
 use Rattle.mend_writes.proofs.Puts.{change_fits, put_steps}
 use borrow.Author.Rules.{rules}
 use Rattle.mend_writes.proofs.put_change.Goals as goal
 
-room : (c : tie.Then1) → let a = c.before.args in a.at + 2 ≤ length a.list.now
-room c =
-    let a = c.before.args in change_fits (length a.list.now) a.at a.place a.bare c.if1.true
-    c.before.requires
-
 pub offset_bounds-list-at : goal.offset_bounds-list-at
-offset_bounds-list-at c = let h = room c in search rules
+offset_bounds-list-at c =
+    let h = change_fits (length c.args.list.now) c.args.at c.args.place c.args.bare c.if-bare.true c.requires in search rules
 
 pub bounds-list-at : goal.bounds-list-at
-bounds-list-at c = let h = room c in search rules
+bounds-list-at c =
+    let h = change_fits (length c.args.list.now) c.args.at c.args.place c.args.bare c.if-bare.true c.requires in search rules
 
 pub offset_bounds-list-at-then-bare : goal.offset_bounds-list-at-then-bare
-offset_bounds-list-at-then-bare c = let h = room c in search rules
+offset_bounds-list-at-then-bare c =
+    let h = change_fits (length c.args.list.now) c.args.at c.args.place c.args.bare c.if-bare.true c.requires in search rules
 
 pub bounds-list-at-then-bare : goal.bounds-list-at-then-bare
-bounds-list-at-then-bare c = simp length-set (omega (arith, room c))
+bounds-list-at-then-bare c = simp length-set
+    (omega (arith, change_fits (length c.args.list.now) c.args.at c.args.place c.args.bare c.if-bare.true c.requires))
 
 pub returns-then-bare : goal.returns-then-bare
 returns-then-bare c = search (rules, put_steps)

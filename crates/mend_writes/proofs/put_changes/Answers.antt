@@ -1,6 +1,4 @@
-use Prim.Native.Nat.{◌-◌}
-use lib.ListN.{length}
-use Rattle.mend_writes.proofs.Steps.{Listing, list_steps}
+use Rattle.mend_writes.proofs.Steps.{list_steps}
 use borrow.Author.Rules.{rules}
 use Rattle.mend_writes.proofs.put_changes.Goals as goal
 

@@ -1,8 +1,7 @@
 -- `mend_writes::put_changes` meets its contract: what is still to be written is the changes from i on. Assumes nothing.
 use Prim.Native.Nat.{◌-◌}
 use lib.ListN.{length}
-use Rattle.mend_writes.proofs.Steps.{Listing, list_steps}
-use borrow.Author.Rules.{rules}
+use Rattle.mend_writes.proofs.Steps.{Listing}
 use Rattle.mend_writes.proofs.put_changes.Given as goal
 
 abbrev pub invariant-loop-i : goal.invariant-loop-i

@@ -1,6 +1,4 @@
-use Prim.Native.Nat.{◌-◌}
-use lib.ListN.{length}
-use Rattle.mend_writes.proofs.Steps.{Writing, text_steps}
+use Rattle.mend_writes.proofs.Steps.{text_steps}
 use borrow.Author.Rules.{rules}
 use Rattle.mend_writes.proofs.put_text.Goals as goal
 

@@ -2,8 +2,7 @@
 -- Assumes nothing.
 use Prim.Native.Nat.{◌-◌}
 use lib.ListN.{length}
-use Rattle.mend_writes.proofs.Steps.{Writing, text_steps}
-use borrow.Author.Rules.{rules}
+use Rattle.mend_writes.proofs.Steps.{Writing}
 use Rattle.mend_writes.proofs.put_text.Given as goal
 
 abbrev pub invariant-loop-i : goal.invariant-loop-i

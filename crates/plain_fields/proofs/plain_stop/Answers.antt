@@ -1,8 +1,3 @@
-use Prim.Native.Nat.{◌-◌}
-use mathlib.Core.Logic.{⊎_elim}
-use mathlib.Core.Path.{◌≡◌}
-use lib.ListN.{length, drop}
-use Rattle.plain_fields.specs.Places.{plain_stop}
 use Rattle.plain_fields.proofs.Scans.{stop_steps}
 use borrow.Author.Rules.{rules}
 use Rattle.plain_fields.proofs.plain_stop.Goals as goal
@@ -11,7 +6,7 @@ pub returns-then-ends_plain : goal.returns-then-ends_plain
 returns-then-ends_plain c = search (rules, stop_steps)
 
 pub loop-i-preserved : goal.loop-i-preserved
-loop-i-preserved c = ⊎_elim (λ w. search stop_steps) (λ w. search stop_steps) c.if-b-le44.branch
+loop-i-preserved c = search (rules, stop_steps)
 
 pub returns : goal.returns
 returns c = search (rules, stop_steps)

@@ -1,12 +1,9 @@
 -- `plain_fields::plain_stop` meets its contract. The invariant: the scan from i on stops where the whole does; the
 -- measure is what is left of the file. Assumes nothing.
 use Prim.Native.Nat.{◌-◌}
-use mathlib.Core.Logic.{⊎_elim}
 use mathlib.Core.Path.{◌≡◌}
 use lib.ListN.{length, drop}
 use Rattle.plain_fields.specs.Places.{plain_stop}
-use Rattle.plain_fields.proofs.Scans.{stop_steps}
-use borrow.Author.Rules.{rules}
 use Rattle.plain_fields.proofs.plain_stop.Given as goal
 
 abbrev pub invariant-loop-i : goal.invariant-loop-i

@@ -4,8 +4,6 @@ use mathlib.Core.Path.{◌≡◌}
 use lib.ListN.{length, drop}
 use Rattle.shown_bytes.specs.Shown.{worse}
 use Rattle.quoting.specs.Quoted.{form_from}
-use Rattle.quoting.proofs.Steps.{form_steps}
-use borrow.Author.Rules.{rules}
 use Rattle.quoting.proofs.form_of.Given as goal
 
 abbrev pub invariant-loop-i : goal.invariant-loop-i

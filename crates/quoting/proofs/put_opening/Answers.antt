@@ -5,7 +5,7 @@ use borrow.Author.Rules.{rules}
 use Rattle.quoting.proofs.put_opening.Goals as goal
 
 pub returns-in-Plain : goal.returns-in-Plain
-returns-in-Plain c = (no-opening _ _ _ c.enum_told-1.given.1, omega arith)
+returns-in-Plain c = (no-opening _ _ _ c.in-Plain.is, omega arith)
 
 pub returns-in-Quoted : goal.returns-in-Quoted
 returns-in-Quoted c = search (rules, quote_steps)

@@ -1,6 +1,5 @@
 -- `quoting::put_quoted` meets its contract: the quote, the bytes, the quote. Assumes nothing.
 use Rattle.quoting.proofs.Steps.{all-put}
-use borrow.Author.Rules.{rules}
 use Rattle.quoting.proofs.put_quoted.Goals as goal
 
 pub returns : goal.returns

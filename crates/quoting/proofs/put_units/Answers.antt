@@ -1,6 +1,4 @@
-use Prim.Native.Nat.{◌-◌}
-use lib.ListN.{length}
-use Rattle.quoting.proofs.Steps.{Putting, put_steps}
+use Rattle.quoting.proofs.Steps.{put_steps}
 use borrow.Author.Rules.{rules}
 use Rattle.quoting.proofs.put_units.Goals as goal
 

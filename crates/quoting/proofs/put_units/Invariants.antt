@@ -1,8 +1,7 @@
 -- `quoting::put_units` meets its contract: what is still to be shown is the name from i on. Assumes nothing.
 use Prim.Native.Nat.{◌-◌}
 use lib.ListN.{length}
-use Rattle.quoting.proofs.Steps.{Putting, put_steps}
-use borrow.Author.Rules.{rules}
+use Rattle.quoting.proofs.Steps.{Putting}
 use Rattle.quoting.proofs.put_units.Given as goal
 
 abbrev pub invariant-loop-i : goal.invariant-loop-i

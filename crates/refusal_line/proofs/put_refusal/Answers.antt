@@ -2,7 +2,6 @@
 use Rattle.base.proofs.Writes.{wrote-append}
 use Rattle.refusal_line.specs.Lines.{refusal_line}
 use native.Mathlib.Omega.{arith}
-use borrow.Author.Rules.{rules}
 use Rattle.refusal_line.proofs.put_refusal.Goals as goal
 
 pub returns : goal.returns

@@ -1,7 +1,4 @@
-use Prim.Native.Nat.{◌≤◌}
-use mathlib.Core.Path.{◌≡◌}
 use borrow.Author.Rules.{rules}
-use Rattle.shortest_numbers.specs.Shortest.{shortest}
 use Rattle.shortest_numbers.proofs.Steps.{zero_steps}
 use Rattle.shortest_numbers.proofs.put_shortest.Goals as goal
 

@@ -2,9 +2,7 @@
 -- end. The measure is how many decimals are left. Assumes nothing.
 use Prim.Native.Nat.{◌≤◌}
 use mathlib.Core.Path.{◌≡◌}
-use borrow.Author.Rules.{rules}
 use Rattle.shortest_numbers.specs.Shortest.{shortest}
-use Rattle.shortest_numbers.proofs.Steps.{zero_steps}
 use Rattle.shortest_numbers.proofs.put_shortest.Given as goal
 
 abbrev pub invariant-loop-left : goal.invariant-loop-left

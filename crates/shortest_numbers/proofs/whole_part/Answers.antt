@@ -1,5 +1,3 @@
-use Prim.Native.Nat.{◌/◌, ◌^◌}
-use mathlib.Core.Path.{◌≡◌}
 use borrow.Author.Rules.{rules}
 use Rattle.shortest_numbers.proofs.Steps.{part_steps}
 use Rattle.shortest_numbers.proofs.whole_part.Goals as goal

@@ -2,8 +2,6 @@
 -- left. Assumes nothing.
 use Prim.Native.Nat.{◌/◌, ◌^◌}
 use mathlib.Core.Path.{◌≡◌}
-use borrow.Author.Rules.{rules}
-use Rattle.shortest_numbers.proofs.Steps.{part_steps}
 use Rattle.shortest_numbers.proofs.whole_part.Given as goal
 
 abbrev pub invariant-loop-left : goal.invariant-loop-left

@@ -1,12 +1,8 @@
 use borrow.Author.Rules.{rules}
-use Prim.Native.Nat.{◌≤◌, ◌-◌}
-use mathlib.Core.Path.{◌≡◌}
 use lib.ListN.{length}
-use lib.IntN.{◌+ℤ◌}
 use Rattle.outputs.specs.Names.{rows}
-use Rattle.outputs.specs.Grams.{grams_at}
 use Rattle.outputs.proofs.Signed.{plus_fits, plus_is}
-use Rattle.outputs.proofs.ByNumber.{Filled, fill_none, fill_one, fill_all}
+use Rattle.outputs.proofs.ByNumber.{fill_none, fill_one, fill_all}
 use Rattle.sums.proofs.plus.Goals as goal
 
 pub loop-i-init : goal.loop-i-init

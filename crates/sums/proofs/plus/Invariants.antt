@@ -1,13 +1,11 @@
 -- `sums::plus` meets its contract: the loop fills the table number by number. Assumes nothing.
-use borrow.Author.Rules.{rules}
 use Prim.Native.Nat.{◌≤◌, ◌-◌}
 use mathlib.Core.Path.{◌≡◌}
 use lib.ListN.{length}
 use lib.IntN.{◌+ℤ◌}
 use Rattle.outputs.specs.Names.{rows}
 use Rattle.outputs.specs.Grams.{grams_at}
-use Rattle.outputs.proofs.Signed.{plus_fits, plus_is}
-use Rattle.outputs.proofs.ByNumber.{Filled, fill_none, fill_one, fill_all}
+use Rattle.outputs.proofs.ByNumber.{Filled}
 use Rattle.sums.proofs.plus.Given as goal
 
 abbrev pub invariant-loop-i : goal.invariant-loop-i

@@ -1,8 +1,4 @@
-use Prim.Native.Nat.{◌-◌}
-use mir.Syntax.{w64}
-use mir.Val.{to_z}
-use Rattle.outputs.specs.Grams.{total_at}
-use Rattle.sums.proofs.Addends.{Adding, begun, known, one-fits, one_more, all-added}
+use Rattle.sums.proofs.Addends.{begun, known, one-fits, one_more, all-added}
 use borrow.Author.Rules.{rules}
 use Rattle.sums.proofs.total.Goals as goal
 

@@ -1,15 +1,12 @@
 -- `sums::total` meets its contract: the sum so far and the addends that are left make the total. Assumes
 -- nothing.
 use Prim.Native.Nat.{◌-◌}
-use mir.Syntax.{w64}
-use mir.Val.{to_z}
 use Rattle.outputs.specs.Grams.{total_at}
-use Rattle.sums.proofs.Addends.{Adding, begun, known, one-fits, one_more, all-added}
-use borrow.Author.Rules.{rules}
+use Rattle.sums.proofs.Addends.{Adding}
 use Rattle.sums.proofs.total.Given as goal
 
 abbrev pub invariant-loop-k : goal.invariant-loop-k
-invariant-loop-k l = Adding l.f.grams (total_at l.f.grams l.t) l.end l.k (to_z w64 l.sum)
+invariant-loop-k l = Adding l.f.grams (total_at l.f.grams l.t) l.end l.k l.sum
 
 abbrev pub decreases-loop-k : goal.decreases-loop-k
 decreases-loop-k l = l.end - l.k

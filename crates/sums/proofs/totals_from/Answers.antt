@@ -1,10 +1,8 @@
-use Prim.Native.Nat.{◌-◌, ◌≤◌}
-use mathlib.Core.Path.{◌≡◌, ◌∙◌}
+use mathlib.Core.Path.{◌∙◌}
 use lib.ListN.{length}
 use Rattle.cut_division.proofs.Signed.{back-mag}
 use Rattle.outputs.specs.Names.{totals}
-use Rattle.outputs.specs.Grams.{total_at}
-use Rattle.outputs.proofs.ByNumber.{Filled, fill_none, fill_one, fill_all}
+use Rattle.outputs.proofs.ByNumber.{fill_none, fill_one, fill_all}
 use borrow.Author.Rules.{rules}
 use Rattle.sums.proofs.totals_from.Goals as goal
 
@@ -15,7 +13,7 @@ pub loop-t-preserved : goal.loop-t-preserved
 loop-t-preserved c = let l = c.loop-t in (
   search rules,
   search rules,
-  fill_one _ l.invariant.2 (search rules) (back-mag c.total.result c.total.type-inv ∙ c.total.ensures),
+  fill_one _ l.invariant.2 (search rules) (back-mag c.total.result c.total.type_inv ∙ c.total.ensures),
 )
 
 pub returns : goal.returns

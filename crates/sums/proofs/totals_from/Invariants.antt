@@ -1,12 +1,10 @@
 -- `sums::totals_from` meets its contract: the loop fills the table number by number. Assumes nothing.
 use Prim.Native.Nat.{◌-◌, ◌≤◌}
-use mathlib.Core.Path.{◌≡◌, ◌∙◌}
+use mathlib.Core.Path.{◌≡◌}
 use lib.ListN.{length}
-use Rattle.cut_division.proofs.Signed.{back-mag}
 use Rattle.outputs.specs.Names.{totals}
 use Rattle.outputs.specs.Grams.{total_at}
-use Rattle.outputs.proofs.ByNumber.{Filled, fill_none, fill_one, fill_all}
-use borrow.Author.Rules.{rules}
+use Rattle.outputs.proofs.ByNumber.{Filled}
 use Rattle.sums.proofs.totals_from.Given as goal
 
 abbrev pub invariant-loop-t : goal.invariant-loop-t

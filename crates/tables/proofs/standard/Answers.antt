@@ -1,6 +1,5 @@
 -- `tables::standard` meets its contract: the code's table is the definition's list. Assumes nothing.
 use mathlib.Core.Path.{refl}
-use borrow.Author.Rules.{rules}
 use Rattle.tables.specs.Standards.{standard_of}
 use Rattle.tables.proofs.Standards.{past-last}
 use Rattle.tables.proofs.standard.Goals as goal

@@ -3,23 +3,11 @@ use borrow.Author.Rules.{rules}
 use Rattle.value_texts.proofs.Puts.{value_steps}
 use Rattle.value_texts.proofs.put_value.Goals as goal
 
-pub enum_told-1 : goal.enum_told-1
-enum_told-1 c = search (rules, value_steps)
-
-pub enum_told-in-Standard : goal.enum_told-in-Standard
-enum_told-in-Standard c = search (rules, value_steps)
-
 pub put-requires : goal.put-requires
 put-requires c = search (rules, value_steps)
 
-pub enum_known-given : goal.enum_known-given
-enum_known-given c = search (rules, value_steps)
-
 pub put_number-requires : goal.put_number-requires
 put_number-requires c = search (rules, value_steps)
-
-pub enum_known-given-in-Signed-1 : goal.enum_known-given-in-Signed-1
-enum_known-given-in-Signed-1 c = search (rules, value_steps)
 
 pub overflow_cast-v : goal.overflow_cast-v
 overflow_cast-v c = search (rules, value_steps)
@@ -30,20 +18,11 @@ put_signed-requires c = search (rules, value_steps)
 pub returns-in-Missing : goal.returns-in-Missing
 returns-in-Missing c = search (rules, value_steps)
 
-pub shape_of-out-in-Standard : goal.shape_of-out-in-Standard
-shape_of-out-in-Standard c = search (rules, value_steps)
-
 pub returns-in-Standard : goal.returns-in-Standard
 returns-in-Standard c = search (rules, value_steps)
 
-pub shape_of-out-in-Value : goal.shape_of-out-in-Value
-shape_of-out-in-Value c = search (rules, value_steps)
-
 pub returns-in-Value : goal.returns-in-Value
 returns-in-Value c = search (rules, value_steps)
-
-pub shape_of-out-in-Signed : goal.shape_of-out-in-Signed
-shape_of-out-in-Signed c = search (rules, value_steps)
 
 pub returns-in-Signed : goal.returns-in-Signed
 returns-in-Signed c = search (rules, value_steps)

@@ -10,7 +10,8 @@ pub returns-in_default : goal.returns-in_default
 returns-in_default c = search (rules, value_steps)
 
 pub overflow_cast-result : goal.overflow_cast-result
-overflow_cast-result c = let small : c.place-1.given.0.0 < 256 = search (rules, name-small) in omega arith
+overflow_cast-result c =
+    let small : c.in-At.place < 256 = name-small _ _ c.find_name.ensures c.in-At.is in omega arith
 
 pub returns : goal.returns
 returns c = search (rules, value_steps)

@@ -6,17 +6,16 @@ use Rattle.farm.proofs.Left.{length_mapped}
 use Rattle.book_steps.proofs.ChangeSteps.{change_steps}
 use Rattle.book_steps.proofs.changes.replace.Goals as goal
 
-inside : (c : tie.After-place-of) → c.place_of.result < herds_most
-inside c = search (rules, change_steps, length_mapped)
-
 pub place_of-place-requires : goal.place_of-place-requires
 place_of-place-requires c = search (rules, change_steps)
 
 pub offset_bounds-farm-place : goal.offset_bounds-farm-place
-offset_bounds-farm-place c = search (rules, inside c)
+offset_bounds-farm-place c = let inside : c.place_of-place.result < herds_most = search (rules, change_steps, length_mapped) in
+    search (rules, inside)
 
 pub bounds-farm-place : goal.bounds-farm-place
-bounds-farm-place c = search (rules, inside c)
+bounds-farm-place c = let inside : c.place_of-place.result < herds_most = search (rules, change_steps, length_mapped) in
+    search (rules, inside)
 
 pub herd_totals-gone-requires : goal.herd_totals-gone-requires
 herd_totals-gone-requires c = search (rules, change_steps, length_mapped)

@@ -13,11 +13,10 @@ pub returns-in_default-read_number : goal.returns-in_default-read_number
 returns-in_default-read_number c = search (rules, hours_steps)
 
 pub overflow_add-pasture : goal.overflow_add-pasture
-overflow_add-pasture c = (λ c.
-    let yard : c.yard-1.given.0.0 ≤ 240 = search (rules, number_small) in
-    let pasture : c.pasture-1.given.0.0 ≤ 240 =
-    search (rules, number_small) in
-    omega arith)
+overflow_add-pasture c =
+    let yard : c.in-Value-read_number.yard ≤ 240 = search (rules, number_small) in
+    let pasture : c.in-Value.pasture ≤ 240 = search (rules, number_small) in
+    omega arith
 
 pub returns-then-pasture-yard-gt-HOURS_MOST : goal.returns-then-pasture-yard-gt-HOURS_MOST
 returns-then-pasture-yard-gt-HOURS_MOST c = search (rules, hours_steps)

@@ -7,12 +7,11 @@ use Rattle.kinds.specs.declared.HousingType.TheVariants.{
   SlurryLabelOpen,
   DeepLitter,
   Outdoor,
+}
 use Rattle.kinds.specs.Choices.{housing_at}
 use Rattle.kinds.proofs.Last.{is_last}
 use borrow.Author.Rules.{rules}
 use Rattle.kinds.proofs.choices.housing_at.Goals as goal
-
-}
 
 pub returns-then-place-eq0 : goal.returns-then-place-eq0
 unfolding housing_at

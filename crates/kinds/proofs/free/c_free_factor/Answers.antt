@@ -1,6 +1,5 @@
 -- `kinds::free::c_free_factor` meets its contract, by the sign. Assumes nothing.
 use native.Mathlib.Omega.{arith}
-use borrow.Author.Rules.{rules}
 use Rattle.kinds.proofs.Leaves.{size-le, left_below, left_above}
 use Rattle.kinds.proofs.free.c_free_factor.Goals as goal
 

@@ -4,8 +4,6 @@ use Prim.Native.Nat.{◌≤◌, ◌-◌}
 use mathlib.Core.Path.{◌≡◌}
 use lib.ListN.{length, drop}
 use Rattle.line_parts.specs.Fields.{has_comma}
-use Rattle.line_parts.proofs.LabelField.{comma_steps}
-use borrow.Author.Rules.{rules}
 use Rattle.line_parts.proofs.labels.has_comma.Given as goal
 
 abbrev pub invariant-loop-i : goal.invariant-loop-i

@@ -1,14 +1,9 @@
 -- `lines_cuts::lines::put_lines` meets its contract: what is still to be written is the records of the numbers that are
 -- left. Assumes nothing.
-use Prim.Native.Nat.{◌-◌, ◌≤◌, ◌<◌}
-use native.Mathlib.Omega.{arith}
-use lib.ListN.{length, get_or, drop}
-use Rattle.base.specs.Part.{part}
-use Rattle.base.proofs.ToCome.{ToCome, begun}
-use Rattle.line_parts.proofs.Middles.{Stands, stands}
+use Prim.Native.Nat.{◌-◌, ◌≤◌}
+use lib.ListN.{length, drop}
+use Rattle.base.proofs.ToCome.{ToCome}
 use Rattle.lines_cuts.specs.Numbered.{numbered}
-use Rattle.lines_cuts.proofs.LineByLine.{line-room, line-put, all-put}
-use borrow.Author.Rules.{rules}
 use Rattle.lines_cuts.proofs.lines.put_lines.Given as goal
 
 abbrev pub invariant-loop-k : goal.invariant-loop-k

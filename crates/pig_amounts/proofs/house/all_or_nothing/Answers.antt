@@ -1,6 +1,5 @@
 -- `pig_amounts::house::all_or_nothing` meets its contract: by its test. Assumes nothing.
 use native.Mathlib.Omega.{arith}
-use borrow.Author.Rules.{rules}
 use Rattle.pig_house.proofs.Fractions.{is_all}
 use Rattle.pig_amounts.proofs.house.all_or_nothing.Goals as goal
 

@@ -3,10 +3,6 @@ use borrow.Author.Rules.{rules}
 use Rattle.pig_house.proofs.Through.{scrubbed_steps}
 use Rattle.pig_amounts.proofs.scrubber.scrubbed_of.Goals as goal
 
-ef_housing-indoor-before-air-scrubber_requires :
-    tie.Need-ef-housing-indoor-before-air-scrubber-requires
-ef_housing-indoor-before-air-scrubber_requires c κs = search rules
-
 pub overflow_mul-share : goal.overflow_mul-share
 overflow_mul-share c = search (rules, scrubbed_steps)
 

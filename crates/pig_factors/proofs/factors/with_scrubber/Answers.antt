@@ -3,9 +3,5 @@ use borrow.Author.Rules.{rules}
 use Rattle.pig_house.proofs.Factor.{is_with_scrubber}
 use Rattle.pig_factors.proofs.factors.with_scrubber.Goals as goal
 
-ef_housing-indoor-before-air-scrubber_requires :
-    tie.Need-ef-housing-indoor-before-air-scrubber-requires
-ef_housing-indoor-before-air-scrubber_requires c κs = search rules
-
 pub returns : goal.returns
 returns c = search (rules, is_with_scrubber)

@@ -1,24 +1,12 @@
-use Prim.Native.Nat.{◌-◌}
-use mathlib.Core.Logic.{⊎_elim}
 use mathlib.Core.Path.{◌≡◌}
 use mathlib.Core.Bool.{false}
-use lib.ListN.{length, take}
+use lib.ListN.{take}
 use borrow.Author.Rules.{rules}
 use Rattle.herd_tests.specs.Tests.{earlier_label}
 use Rattle.herd_tests.proofs.PrintsSoFar.{new-by_print, new-by-label}
-use Rattle.reader.proofs.LoopSteps.{Reached, read_steps}
+use Rattle.reader.proofs.LoopSteps.{read_steps}
 use Rattle.reader.proofs.files.read_records.Goals as goal
-
--- the record's label is that of no earlier herd: its print is none of theirs, or it is another label than theirs
-new : (w : tie.Joined2 invariant-loop decreases-loop) → let q = w.before.before.before.before.before.before.before in
-    earlier_label (take q.before.loop.count q.before.loop.herds) q.read_at.result.herd.label ≡ false
-new w =
-    let p = w.before.before in
-    let l = p.before.before.before.before.before.before in
-    ⊎_elim (λ a. new-by-label _ _ a.1.ensures a.2.left)
-    (λ a. new-by_print l.loop.herds _ l.loop.prints l.loop.count l.loop.invariant.printed
-    p.print-of.ensures w.before.has-print.ensures a.left)
-    w.if2.branch
+use Rattle.reader.proofs.files.read_records.Goals.{then-has_print+else-earlier_label, else-has_print}
 
 pub loop-done-init : goal.loop-done-init
 loop-done-init c = search (rules, read_steps)
@@ -54,7 +42,15 @@ pub is_full-requires : goal.is_full-requires
 is_full-requires c = search (rules, read_steps)
 
 pub returns-then-is_full : goal.returns-then-is_full
-returns-then-is_full c = search (rules, read_steps, new c)
+returns-then-is_full c =
+    let l = c.loop-done in
+    let new : earlier_label (take l.count l.herds) c.read_at-read.result.herd.label ≡ false = elim c.if-has_print.branch [
+      | then-has_print+else-earlier_label w ↦ new-by-label _ _ w.earlier_label.ensures w.if-earlier_label.false
+      | else-has_print w ↦
+          new-by_print l.herds _ l.prints l.count l.invariant.printed c.print_of.ensures c.has_print.ensures
+          w.if-has_print.false
+    ] in
+    search (rules, read_steps, new)
 
 pub herds_so_far-count-requires-in-Begins : goal.herds_so_far-count-requires-in-Begins
 herds_so_far-count-requires-in-Begins c = search (rules, read_steps)
@@ -63,4 +59,12 @@ pub loop-done-smaller : goal.loop-done-smaller
 loop-done-smaller c = search (rules, read_steps)
 
 pub loop-done-preserved : goal.loop-done-preserved
-loop-done-preserved c = search (rules, read_steps, new c)
+loop-done-preserved c =
+    let l = c.loop-done in
+    let new : earlier_label (take l.count l.herds) c.read_at-read.result.herd.label ≡ false = elim c.if-has_print.branch [
+      | then-has_print+else-earlier_label w ↦ new-by-label _ _ w.earlier_label.ensures w.if-earlier_label.false
+      | else-has_print w ↦
+          new-by_print l.herds _ l.prints l.count l.invariant.printed c.print_of.ensures c.has_print.ensures
+          w.if-has_print.false
+    ] in
+    search (rules, read_steps, new)

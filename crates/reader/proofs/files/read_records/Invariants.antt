@@ -1,14 +1,8 @@
 -- `reader::files::read_records` meets its contract: the loop goes from one place that is reached to the next. The
 -- measure is the bytes left. Assumes nothing.
 use Prim.Native.Nat.{◌-◌}
-use mathlib.Core.Logic.{⊎_elim}
-use mathlib.Core.Path.{◌≡◌}
-use mathlib.Core.Bool.{false}
-use lib.ListN.{length, take}
-use borrow.Author.Rules.{rules}
-use Rattle.herd_tests.specs.Tests.{earlier_label}
-use Rattle.herd_tests.proofs.PrintsSoFar.{new-by_print, new-by-label}
-use Rattle.reader.proofs.LoopSteps.{Reached, read_steps}
+use lib.ListN.{length}
+use Rattle.reader.proofs.LoopSteps.{Reached}
 use Rattle.reader.proofs.files.read_records.Given as goal
 
 abbrev pub invariant-loop-done : goal.invariant-loop-done

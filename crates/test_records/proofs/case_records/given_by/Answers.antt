@@ -1,4 +1,4 @@
--- `test_records::records::given_by` is safe and ends: a number of six digits is an i32 on either side of zero.
+-- `test_records::case_records::given_by` is safe and ends: a number of six digits is an i32 on either side of zero.
 -- Assumes nothing.
 use Prim.Native.Nat.{ℕ, zero, suc, ◌<◌, ◌%◌}
 use native.Mathlib.Omega.{arith}
@@ -7,7 +7,7 @@ use lib.IntN.{pos, negsuc, ◌-ℤ◌, +ℤ_idl}
 use mir.Syntax.{w32}
 use mir.Val.{SFits, to_z}
 use mir.Facts.{to_z-of_z, sfits_lit}
-use Rattle.test_records.proofs.records.given_by.Goals as goal
+use Rattle.test_records.proofs.case_records.given_by.Goals as goal
 
 minus_fits : (n : ℕ) → n < 1000000 → SFits w32 (pos 0 -ℤ pos n)
 minus_fits zero h = sfits_lit tt
