@@ -5,4 +5,4 @@ use Rattle.farm.proofs.Left.{length_mapped}
 use Rattle.test_kilograms.proofs.of_file.Goals as goal
 
 pub bounds-f-i : goal.bounds-f-i
-bounds-f-i c = search (rules, length_mapped)
+bounds-f-i g c = search (rules, length_mapped)

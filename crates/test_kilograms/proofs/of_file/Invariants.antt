@@ -6,7 +6,7 @@ use Rattle.farm.proofs.Left.{length_mapped}
 use Rattle.test_kilograms.proofs.of_file.Given as goal
 
 abbrev pub invariant-loop-i : goal.invariant-loop-i
-invariant-loop-i l = l.i ≤ herds_most
+invariant-loop-i g l = l.i ≤ herds_most
 
 abbrev pub decreases-loop-i : goal.decreases-loop-i
-decreases-loop-i l = herds_most - l.i
+decreases-loop-i g l = herds_most - l.i

@@ -4,7 +4,7 @@ use borrow.Author.Rules.{rules}
 use Rattle.test_kilograms.proofs.of_totals.Given as goal
 
 abbrev pub invariant-loop-i : goal.invariant-loop-i
-invariant-loop-i l = l.i ≤ 18
+invariant-loop-i g l = l.i ≤ 18
 
 abbrev pub decreases-loop-i : goal.decreases-loop-i
-decreases-loop-i l = 18 - l.i
+decreases-loop-i g l = 18 - l.i

@@ -13,4 +13,4 @@ a-number (inf s) e = tt
 a-number (fin s m d) e = tt
 
 pub float_to_bits-x : goal.float_to_bits-x
-float_to_bits-x c = a-number c.args.x c.if-x.true
+float_to_bits-x g c = a-number c.args.x c.if-x.true

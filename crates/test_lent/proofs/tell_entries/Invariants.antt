@@ -5,7 +5,7 @@ use borrow.Author.Rules.{rules}
 use Rattle.test_lent.proofs.tell_entries.Given as goal
 
 abbrev pub invariant-loop-i : goal.invariant-loop-i
-invariant-loop-i l = (l.left ≤ l.i) × (l.i ≤ herds_most)
+invariant-loop-i g l = (l.left ≤ l.i) × (l.i ≤ herds_most)
 
 abbrev pub decreases-loop-i : goal.decreases-loop-i
-decreases-loop-i l = herds_most - l.i
+decreases-loop-i g l = herds_most - l.i

@@ -4,7 +4,7 @@ use borrow.Author.Rules.{rules}
 use Rattle.urvendlo.proofs.after_steps.Given as goal
 
 abbrev pub invariant-loop-left : goal.invariant-loop-left
-invariant-loop-left l = l.left ≤ l.initial.left
+invariant-loop-left g l = l.left ≤ l.initial.left
 
 abbrev pub decreases-loop-left : goal.decreases-loop-left
-decreases-loop-left l = l.left
+decreases-loop-left g l = l.left
