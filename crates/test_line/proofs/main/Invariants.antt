@@ -6,7 +6,7 @@ use borrow.Author.Rules.{rules}
 use Rattle.test_line.proofs.main.Given as goal
 
 abbrev pub invariant-loop-turns : goal.invariant-loop-turns
-invariant-loop-turns g l = 263000 ≡ length l.case
+invariant-loop-turns l = 263000 ≡ length l.case
 
 abbrev pub decreases-loop-turns : goal.decreases-loop-turns
-decreases-loop-turns g l = l.turns
+decreases-loop-turns l = l.turns

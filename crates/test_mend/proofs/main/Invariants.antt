@@ -6,7 +6,7 @@ use borrow.Author.Rules.{rules}
 use Rattle.test_mend.proofs.main.Given as goal
 
 abbrev pub invariant-loop-turns : goal.invariant-loop-turns
-invariant-loop-turns g l = (8192 ≡ length l.file) × (16384 ≡ length l.out) × (16384 ≡ length l.list)
+invariant-loop-turns l = (8192 ≡ length l.file) × (16384 ≡ length l.out) × (16384 ≡ length l.list)
 
 abbrev pub decreases-loop-turns : goal.decreases-loop-turns
-decreases-loop-turns g l = l.turns
+decreases-loop-turns l = l.turns
