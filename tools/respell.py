@@ -1,7 +1,7 @@
 #!/usr/bin/env python3
 """Brings the repository's own definitions and lemmas to the spelling of today's Rattle.
 
-usage: python3 tools/respell.py        at the top, once, after /opt/rattle/port/port.py
+usage: python3 tools/respell.py        at the top, once, after the kit's port/port.py
 
 tools/respelled.tsv has the names, old and new: words in snake case, a dash only between two names. Functions of src/,
 exported names, strings, inputs and outputs keep theirs. The texts of must-fail edits go over too, and the names that
