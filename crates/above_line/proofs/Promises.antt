@@ -14,7 +14,7 @@ use lib.Signed.{lt_z}
 use Rattle.cut_division.specs.Total as sums
 use Rattle.farm.specs.declared.Herd.{Herd}
 use Rattle.farm.specs.declared.Farm.{Farm}
-use Rattle.farm.specs.declared.Checked.TheVariants.{Accepted}
+use Rattle.farm.specs.Answers.{Accepted}
 use Rattle.checks.specs.Checks.{check_farm, herds_of}
 use Rattle.outputs.specs.Grams.{total}
 use Rattle.model.specs.Answers.{farm_answer}

@@ -14,7 +14,7 @@ use Rattle.cut_division.proofs.Signed.{abs_add}
 use Rattle.farm.specs.Limits.{herds_most}
 use Rattle.farm.specs.declared.Herd.{Herd}
 use Rattle.farm.specs.declared.Farm.{Farm}
-use Rattle.farm.specs.declared.Checked.TheVariants.{Accepted}
+use Rattle.farm.specs.Answers.{Accepted}
 use Rattle.checks.specs.Checks.{check_farm, herds_of}
 use Rattle.checks.proofs.Accepts.{farm-count}
 use Rattle.kinds.specs.declared.Inputs.{Inputs}

@@ -2,18 +2,14 @@
 // definitions in specs/ say which answer that is, and crate `farm_above` finds it.
 #![tactic(auto)]
 
-use farm::Refusal;
+use farm::Answer;
 
 // Yes or no, each with the number of herds that were added up.
-#[derive(Clone, Copy)]
+#[derive(Clone, Copy, Debug, PartialEq, Eq)]
 pub enum Above {
     Yes(usize),
     No(usize),
 }
 
 // The answer of a farm's record, or of a file.
-#[derive(Clone, Copy)]
-pub enum LineAnswer {
-    Screened(Above),
-    Refused(Refusal, usize),
-}
+pub type LineAnswer = Answer<Above>;

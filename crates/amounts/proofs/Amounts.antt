@@ -1,13 +1,16 @@
 -- A portion of an amount, and the rest of it: what the code's cut division needs, and that the TAN stays no more than
 -- the N. Assumes nothing.
-use mathlib.Core.Path.{◌≡◌, refl}
-use Prim.Native.Nat.{ℕ, ◌+◌, ◌-◌, ◌*◌, ◌/◌, ◌≤◌, ◌<◌, ◌^◌}
+use mathlib.Core.Path.{◌≡◌, refl, ◌∙◌}
+use mathlib.Core.Bool.{Bool, true, false, cond}
+use Prim.Native.Nat.{ℕ, ◌+◌, ◌-◌, ◌*◌, ◌/◌, ◌≤◌, ◌<◌, ◌^◌, min}
 use native.Mathlib.Nat.{mul-le-mul_left, le_refl, le_trans, add-mul-div_right, div-le_of_le-mul}
 use native.Mathlib.Omega.{arith}
+use lib.Dec.{ltb}
+use borrow.Author.Tests.{ltb-true, ltb-false}
 use mir.Syntax.{w64}
 use mir.Val.{Fits}
 use Rattle.cut_division.specs.declared.Quotient.{Quotient}
-use Rattle.cut_division.specs.Cut.{quotient_of}
+use Rattle.cut_division.specs.Cut.{quotient_of, least}
 use Rattle.cut_division.proofs.Products.{mul-fits}
 use Rattle.cut_division.proofs.Shares.{cut_mono, part-le, part_mono}
 use Rattle.amounts.specs.Units.{billionths}
@@ -75,6 +78,20 @@ module _ (n tan shares of : ℕ) (m : WithinMostN n tan) where
   pub modest-portion : (a b : Quotient) → PortionOf n shares of a → PortionOf tan shares of b
       → WithinMostN a.whole b.whole
   modest-portion a b p q = record { n_most = omega arith; tan_most = omega (arith, tan_in-n) }
+
+pub ruleset portions_steps = (modest-portion)
+
+-- ---- a ceiling: the smaller of the two, as the code's `min` finds it
+
+pub least-min : (a b : ℕ) → min a b ≡ least a b
+least-min a b = go (ltb b a) refl
+  where
+    go : (t : Bool) → ltb b a ≡ t → min a b ≡ cond t b a
+    go true e = omega (arith, ltb-true b a e)
+    go false e = omega (arith, ltb-false b a e)
+
+pub up_to_ceiling : (a b r : ℕ) → r ≡ min a b → UpTo b (least a b) r
+up_to_ceiling a b r e = record { is = e ∙ least-min a b; most = omega arith }
 
 -- ---- nor a smaller rest: by no more than it grew has its portion grown
 

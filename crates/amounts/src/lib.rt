@@ -26,13 +26,14 @@ pub const TEN_THOUSANDTHS: u64 = 10000;
 pub const BILLIONTHS: u64 = 1000000000;
 
 // A portion of the N, and the same of the TAN in it.
-#[derive(Clone, Copy)]
+#[derive(Clone, Copy, Debug, PartialEq, Eq)]
 pub struct Parts {
     pub n: Quotient,
     pub tan: Quotient,
 }
 
 // `shares` of the `of` that make the whole.
+#[tactic(auto, using(crate::proofs::Amounts::portion_steps))]
 pub fn portion(amount: u64, shares: u64, of: u64) -> Quotient
     requires { FitsPortion amount shares of }
     ensures { PortionOf amount shares of result }
@@ -40,7 +41,8 @@ pub fn portion(amount: u64, shares: u64, of: u64) -> Quotient
     cut_division::cut(amount * shares, of)
 }
 
-// The same of up to twice the shares that make the whole.
+// The same of up to twice the shares that make the whole: a function of its own, since it promises less.
+#[tactic(auto, using(crate::proofs::Amounts::twice_steps))]
 pub fn portion_to_twice(amount: u64, shares: u64, of: u64) -> Quotient
     requires { FitsPortionTwice amount shares of }
     ensures { PortionToTwice amount shares of result }
@@ -49,6 +51,7 @@ pub fn portion_to_twice(amount: u64, shares: u64, of: u64) -> Quotient
 }
 
 // "Done for N and for TAN" (01).
+#[tactic(auto, using(crate::proofs::Amounts::portions_steps))]
 pub fn portions(n: u64, tan: u64, shares: u64, of: u64) -> Parts
     requires { WithinMostN n tan × FitsPortion n shares of }
     ensures { PortionsOf n tan shares of result }

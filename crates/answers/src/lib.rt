@@ -5,28 +5,29 @@
 ghost use Rattle.std.specs.Prelude.{◌≡◌};
 ghost use Rattle.model.specs.Answers.{herd_answer, farm_answer};
 
-use farm::{Checked, Farm, Herd};
+use base::refusals::Refused;
+use farm::{Farm, Herd};
 use model::{FarmAnswer, HerdAnswer};
 
 pub fn herd_answer(h: Herd) -> HerdAnswer
     ensures { result ≡ herd_answer h }
 {
     match checks::check_herd(h) {
-        Checked::Accepted => {
+        Ok(()) => {
             let inputs = herd_inputs::typed_of(h);
             let figures = herd_figures::figures(inputs);
             HerdAnswer {
-                checked: Checked::Accepted,
+                checked: Ok(()),
                 figures,
                 kilograms: kilograms::kilograms_of(figures),
                 notes: herd_notes::notes_of(inputs),
                 cuts: herd_figures::cuts_of(inputs),
             }
         }
-        Checked::Refused(refusal, record) => {
+        Err(refused) => {
             let figures = sums::no_figures();
             HerdAnswer {
-                checked: Checked::Refused(refusal, record),
+                checked: Err(refused),
                 figures,
                 kilograms: kilograms::kilograms_of(figures),
                 notes: herd_notes::no_notes(),
@@ -40,18 +41,18 @@ pub fn farm_answer(farm: Farm) -> FarmAnswer
     ensures { result ≡ farm_answer farm }
 {
     match checks::check_farm(farm) {
-        Checked::Accepted => {
+        Ok(()) => {
             let totals = sums::totals_from(farm_sums::sum_of(farm));
             FarmAnswer {
-                checked: Checked::Accepted,
+                checked: Ok(()),
                 totals,
                 kilograms: kilograms::total_kilograms_of(totals),
             }
         }
-        Checked::Refused(refusal, record) => {
+        Err(refused) => {
             let totals = sums::totals_from(sums::no_figures());
             FarmAnswer {
-                checked: Checked::Refused(refusal, record),
+                checked: Err(refused),
                 totals,
                 kilograms: kilograms::total_kilograms_of(totals),
             }

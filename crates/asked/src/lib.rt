@@ -5,32 +5,34 @@ pub mod commands; // the commands of the program, by their pages of help
 
 ghost use Rattle.std.specs.Prelude.{◌≤◌, length};
 
-use digits::Number;
 use std::env::{Env, FillError};
-use wide_numbers::WideNumber;
-
-// The command that a word asks for, by the number of its page of help.
-#[derive(Clone, Copy)]
-pub enum Asked {
-    Page(usize),
-    Nothing,
-}
-
-// What a word says of a descriptor.
-#[derive(Clone, Copy)]
-pub enum Descriptor {
-    Of(i32),
-    Nothing,
-}
 
 // What the words behind a command say of the file: is it a cooperative's, where its name stands, and where the words
 // end that say so.
-#[derive(Clone, Copy)]
+#[derive(Clone, Copy, Debug, PartialEq, Eq)]
 pub struct File {
     pub cooperative: bool,
     pub name: usize,
     pub end: usize,
 }
+
+// The words that are options, and those of the command edit.
+pub const STATUS: &[u8] = b"--status-fd";
+
+pub const WORDS: &[u8] = b"--words";
+
+pub const COOPERATIVE: &[u8] = b"--cooperative";
+
+pub const FARM: &[u8] = b"--farm";
+
+pub const ADD: &[u8] = b"add";
+
+pub const REPLACE: &[u8] = b"replace";
+
+pub const REMOVE: &[u8] = b"remove";
+
+// The word for standard input.
+pub const INPUT: &[u8] = b"-";
 
 // Longer than any word that is asked for.
 const WORD_MOST: usize = 16;
@@ -46,39 +48,25 @@ const DESCRIPTOR_MOST: u32 = 1000000;
 
 // The number of the word behind this one.
 pub fn after(i: usize) -> usize {
-    if i == usize::MAX {
-        return i;
-    }
-    i + 1
+    i.saturating_add(1)
 }
 
 // Is there no such word?
 pub fn is_past(rt: &impl Env, i: usize) -> bool {
-    let mut none = [0u8; 0];
-    match rt.arg(i, &mut none) {
-        Ok(_) => false,
-        Err(FillError::NotPresent) => true,
-        Err(FillError::TooLong) => false,
-    }
+    matches!(rt.arg(i, &mut []), Err(FillError::NotPresent))
 }
 
 // How many words there are from this one on.
 pub fn count_from(rt: &impl Env, i: usize) -> usize {
-    let mut end = i;
-    while end < usize::MAX && !is_past(rt, end) {
-        end += 1;
-    }
-    end - i
+    (i..usize::MAX)
+        .take_while(|word| !is_past(rt, *word))
+        .count()
 }
 
 // Is it longer than a name may be?
 pub fn is_too_long(rt: &impl Env, i: usize) -> bool {
     let mut name = [0u8; NAME_MOST];
-    match rt.arg(i, &mut name) {
-        Ok(_) => false,
-        Err(FillError::NotPresent) => false,
-        Err(FillError::TooLong) => true,
-    }
+    matches!(rt.arg(i, &mut name), Err(FillError::TooLong))
 }
 
 // The bytes of a word, at the start of the buffer, and how many there are. Of a word that is not there none; nor of one
@@ -86,72 +74,36 @@ pub fn is_too_long(rt: &impl Env, i: usize) -> bool {
 pub fn word_at(rt: &impl Env, i: usize, into: &mut [u8]) -> usize
     ensures { result ≤ length into.new }
 {
-    match rt.arg(i, into) {
-        Ok(n) => n,
-        Err(_) => 0,
-    }
+    rt.arg(i, into).unwrap_or(0)
 }
 
-fn is_word(rt: &impl Env, i: usize, word: &[u8]) -> bool {
+pub fn is_word(rt: &impl Env, i: usize, word: &[u8]) -> bool {
     let mut given = [0u8; WORD_MOST];
     let n = word_at(rt, i, &mut given);
-    base::same(&given[..n], word)
-}
-
-pub fn is_status(rt: &impl Env, i: usize) -> bool {
-    is_word(rt, i, b"--status-fd")
-}
-
-pub fn is_words(rt: &impl Env, i: usize) -> bool {
-    is_word(rt, i, b"--words")
-}
-
-pub fn is_cooperative(rt: &impl Env, i: usize) -> bool {
-    is_word(rt, i, b"--cooperative")
-}
-
-pub fn is_farm(rt: &impl Env, i: usize) -> bool {
-    is_word(rt, i, b"--farm")
-}
-
-pub fn is_add(rt: &impl Env, i: usize) -> bool {
-    is_word(rt, i, b"add")
-}
-
-pub fn is_replace(rt: &impl Env, i: usize) -> bool {
-    is_word(rt, i, b"replace")
-}
-
-pub fn is_remove(rt: &impl Env, i: usize) -> bool {
-    is_word(rt, i, b"remove")
-}
-
-// Is it the word for standard input?
-pub fn is_input(rt: &impl Env, i: usize) -> bool {
-    is_word(rt, i, b"-")
+    &given[..n] == word
 }
 
 // The words from this one on: a name, and --cooperative before or behind it.
 pub fn file_at(rt: &impl Env, i: usize) -> File {
     let second = after(i);
-    if is_cooperative(rt, i) {
-        return File {
+    if is_word(rt, i, COOPERATIVE) {
+        File {
             cooperative: true,
             name: second,
             end: after(second),
-        };
-    }
-    if is_cooperative(rt, second) {
-        return File {
+        }
+    } else if is_word(rt, second, COOPERATIVE) {
+        File {
             cooperative: true,
             name: i,
             end: after(second),
-        };
-    }
-    File {
-        cooperative: false,
-        name: i,
-        end: second,
+        }
+    } else {
+        File {
+            cooperative: false,
+            name: i,
+            end: second,
+        }
     }
 }
 
@@ -159,50 +111,35 @@ pub fn file_at(rt: &impl Env, i: usize) -> File {
 fn is_named(word: &[u8], page: usize) -> bool {
     let names = texts::NAMES;
     let starts = texts::NAMES_STARTS;
-    if texts::PAGE_LAST < page {
-        return false;
-    }
-    base::same(word, base::part_of(&names, starts[page], starts[page + 1]))
+    page <= texts::PAGE_LAST && word == base::part_of(&names, starts[page], starts[page + 1])
 }
 
-// From the last page to the first.
-fn page_of(word: &[u8]) -> Asked {
-    let mut page = texts::PAGE_LAST + 1;
-    while 0 < page {
-        page -= 1;
-        if is_named(word, page) {
-            return Asked::Page(page);
-        }
-    }
-    Asked::Nothing
+// The command that a word names, by the number of its page of help. From the last page to the first.
+fn page_of(word: &[u8]) -> Option<usize> {
+    (0..=texts::PAGE_LAST)
+        .rev()
+        .find(|page| is_named(word, *page))
 }
 
-// The command that a word names.
-pub fn command_at(rt: &impl Env, i: usize) -> Asked {
+// The command that the word at i names.
+pub fn command_at(rt: &impl Env, i: usize) -> Option<usize> {
     let mut given = [0u8; WORD_MOST];
     let n = word_at(rt, i, &mut given);
     page_of(&given[..n])
 }
 
-fn descriptor_of(n: u32) -> Descriptor {
-    if DESCRIPTOR_MOST < n {
-        return Descriptor::Nothing;
-    }
-    Descriptor::Of(n as i32)
-}
-
 // The descriptor that a word names.
-pub fn descriptor_at(rt: &impl Env, i: usize) -> Descriptor {
+pub fn descriptor_at(rt: &impl Env, i: usize) -> Option<i32> {
     let mut given = [0u8; WORD_MOST];
     let n = word_at(rt, i, &mut given);
     match numbers::read_number(&given[..n], 0, DESCRIPTOR_MOST) {
-        Number::Value(n) => descriptor_of(n),
-        Number::Unreadable => Descriptor::Nothing,
+        Some(n) => i32::try_from(n).ok(),
+        None => None,
     }
 }
 
 // The number of grams that a word says; a word that is not there says none.
-pub fn grams_at(rt: &impl Env, i: usize) -> WideNumber {
+pub fn grams_at(rt: &impl Env, i: usize) -> Option<u64> {
     let mut given = [0u8; GRAMS_MOST];
     let n = word_at(rt, i, &mut given);
     wide_numbers::read_wide(&given[..n])

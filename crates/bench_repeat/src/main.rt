@@ -10,19 +10,19 @@ mod checksum; // the checksum of the answers
 mod steps; // steps on a farm with its totals
 
 ghost use Rattle.std.specs.Prelude.{◌≡◌, ◌≤◌, length};
-ghost use Rattle.farm.specs.declared.Checked.TheVariants.{Accepted};
 ghost use Rattle.checks.specs.Checks.{check_farm};
 ghost use Rattle.limits.specs.declared.Source.TheVariants.{Cooperative};
 ghost use Rattle.listing_room.specs.Bounds.{farm_room};
 ghost use Rattle.views.specs.Rooms.{output_room};
+ghost use Rattle.farm.specs.Answers.{Accepted};
 
 use above_line::Above;
+use base::refusals::Refused;
 use books::Step;
-use farm::{Checked, Farm, Given, Refusal};
+use farm::{Farm, Given, Refusal};
 use limits::Source;
 use std::io::Read;
 use views::View;
-use written::Written;
 
 // The mode, the letter, and how often.
 const HEAD: usize = 10;
@@ -44,73 +44,43 @@ enum Mode {
     Checks,
 }
 
-fn wide(b: u8) -> u64
-    ensures { result ≤ 255 }
-{
-    b as u64
-}
-
 fn with_digit(n: u64, b: u8) -> u64 {
-    n % 10000000 * 10 + wide(b) % 48
+    n % 10000000 * 10 + u64::from(b) % 48
 }
 
 fn times_of(digits: &[u8]) -> u64 {
-    let mut n = 0;
-    let mut i = 0;
-    while i < digits.len() {
-        n = with_digit(n, digits[i]);
-        i += 1;
-    }
-    n
+    digits.iter().fold(0, |n, b| with_digit(n, *b))
 }
 
 fn mode_of(s: &[u8]) -> Mode {
-    if base::same(s, b"r") {
-        return Mode::Reading;
+    match s {
+        b"r" => Mode::Reading,
+        b"l" => Mode::Listing,
+        b"n" => Mode::Line,
+        b"a" => Mode::Step(Step::Add),
+        b"p" => Mode::Step(Step::Replace),
+        b"m" => Mode::Step(Step::Remove),
+        b"A" => Mode::LentStep(Step::Add),
+        b"P" => Mode::LentStep(Step::Replace),
+        b"M" => Mode::LentStep(Step::Remove),
+        b"k" => Mode::Checks,
+        _ => Mode::Whole,
     }
-    if base::same(s, b"l") {
-        return Mode::Listing;
-    }
-    if base::same(s, b"n") {
-        return Mode::Line;
-    }
-    if base::same(s, b"a") {
-        return Mode::Step(Step::Add);
-    }
-    if base::same(s, b"p") {
-        return Mode::Step(Step::Replace);
-    }
-    if base::same(s, b"m") {
-        return Mode::Step(Step::Remove);
-    }
-    if base::same(s, b"A") {
-        return Mode::LentStep(Step::Add);
-    }
-    if base::same(s, b"P") {
-        return Mode::LentStep(Step::Replace);
-    }
-    if base::same(s, b"M") {
-        return Mode::LentStep(Step::Remove);
-    }
-    if base::same(s, b"k") {
-        return Mode::Checks;
-    }
-    Mode::Whole
 }
 
 fn source_of(letter: &[u8]) -> Source {
-    if base::same(letter, b"c") {
-        return Source::Cooperative;
+    match letter {
+        b"c" => Source::Cooperative,
+        _ => Source::StandardInput,
     }
-    Source::StandardInput
 }
 
 fn given_number(given: Given) -> u64 {
     match given {
         Given::Missing => 0,
         Given::Standard => 1,
-        Given::Value(v) => v as u64,
-        Given::Signed(v) => cut_division::magnitude(v as i64),
+        Given::Value(v) => u64::from(v),
+        Given::Signed(v) => u64::from(v.unsigned_abs()),
     }
 }
 
@@ -126,10 +96,9 @@ fn farm_sum(sum: u64, turn: u64, farm: Farm) -> u64 {
     }
     let h = farm.herds[i];
     let slot = h.slots[(turn % SLOTS_LEAST) as usize];
-    let given = slot.given;
     checksum::mixed(
         checksum::mixed(counted, h.label.len as u64),
-        given_number(given),
+        given_number(slot.given),
     )
 }
 
@@ -143,23 +112,22 @@ fn text_sum(sum: u64, turn: u64, out: &[u8], n: usize) -> u64 {
     if out.len() <= i {
         return counted;
     }
-    checksum::mixed(counted, wide(out[i]))
+    checksum::mixed(counted, u64::from(out[i]))
 }
 
 // One turn of reading, of the whole job, and of what comes after reading.
 fn read_sum(sum: u64, turn: u64, source: Source, file: &[u8]) -> u64 {
     let answer = farm_file::read(source, file);
-    let checked = answer.checked;
-    match checked {
-        Checked::Accepted => farm_sum(sum, turn, answer.farm),
-        Checked::Refused(refusal, record) => checksum::refusal_sum(sum, refusal, record),
+    match answer.checked {
+        Ok(()) => farm_sum(sum, turn, answer.farm),
+        Err(Refused(refusal, record)) => checksum::refusal_sum(sum, refusal, record),
     }
 }
 
 fn whole_sum(sum: u64, turn: u64, source: Source, file: &[u8], out: &mut [u8]) -> u64 {
     match calls::file_view(View::Figures, source, file, out) {
-        Written::Length(n) => text_sum(sum, turn, out, n),
-        Written::Refused(refusal, record) => checksum::refusal_sum(sum, refusal, record),
+        Ok(n) => text_sum(sum, turn, out, n),
+        Err(Refused(refusal, record)) => checksum::refusal_sum(sum, refusal, record),
     }
 }
 
@@ -174,28 +142,23 @@ fn line_sum(sum: u64, farm: Farm) -> u64
     requires { check_farm farm ≡ Accepted }
 {
     match farm_above::above(farm, 0) {
-        Above::Yes(count) => checksum::mixed(sum, count as u64),
-        Above::No(count) => checksum::mixed(sum, count as u64),
+        Above::Yes(count) | Above::No(count) => checksum::mixed(sum, count as u64),
     }
 }
 
 // The turns count down.
 fn repeat_reading(times: u64, source: Source, file: &[u8]) -> u64 {
     let mut sum = 0;
-    let mut turn = times;
-    while turn > 0 {
+    for turn in (1..=times).rev() {
         sum = read_sum(sum, turn, source, file);
-        turn -= 1;
     }
     sum
 }
 
 fn repeat_whole(times: u64, source: Source, file: &[u8], out: &mut [u8]) -> u64 {
     let mut sum = 0;
-    let mut turn = times;
-    while turn > 0 {
+    for turn in (1..=times).rev() {
         sum = whole_sum(sum, turn, source, file, out);
-        turn -= 1;
     }
     sum
 }
@@ -204,10 +167,8 @@ fn repeat_listing(times: u64, farm: Farm, out: &mut [u8]) -> u64
     requires { (check_farm farm ≡ Accepted) × (farm_room farm.count ≤ length out.old) }
 {
     let mut sum = 0;
-    let mut turn = times;
-    while turn > 0 {
+    for turn in (1..=times).rev() {
         sum = listing_sum(sum, turn, farm, out);
-        turn -= 1;
     }
     sum
 }
@@ -216,10 +177,8 @@ fn repeat_line(times: u64, farm: Farm) -> u64
     requires { check_farm farm ≡ Accepted }
 {
     let mut sum = 0;
-    let mut turn = times;
-    while turn > 0 {
+    for _ in 0..times {
         sum = line_sum(sum, farm);
-        turn -= 1;
     }
     sum
 }
@@ -229,28 +188,22 @@ fn listed(times: u64, source: Source, file: &[u8], out: &mut [u8]) -> u64
     requires { output_room Cooperative ≤ length out.old }
 {
     let answer = farm_file::read(source, file);
-    let checked = answer.checked;
-    match checked {
-        Checked::Accepted => repeat_listing(times, answer.farm, out),
-        Checked::Refused(refusal, record) => checksum::refusal_sum(0, refusal, record),
+    match answer.checked {
+        Ok(()) => repeat_listing(times, answer.farm, out),
+        Err(Refused(refusal, record)) => checksum::refusal_sum(0, refusal, record),
     }
 }
 
 fn screened(times: u64, source: Source, file: &[u8]) -> u64 {
     let answer = farm_file::read(source, file);
-    let checked = answer.checked;
-    match checked {
-        Checked::Accepted => repeat_line(times, answer.farm),
-        Checked::Refused(refusal, record) => checksum::refusal_sum(0, refusal, record),
+    match answer.checked {
+        Ok(()) => repeat_line(times, answer.farm),
+        Err(Refused(refusal, record)) => checksum::refusal_sum(0, refusal, record),
     }
 }
 
-fn room() -> [u8; calls::COOPERATIVE_VIEW_ROOM] {
-    [0u8; calls::COOPERATIVE_VIEW_ROOM]
-}
-
 fn repeated(mode: Mode, times: u64, source: Source, file: &[u8]) -> u64 {
-    let mut out = room();
+    let mut out: [u8; calls::COOPERATIVE_VIEW_ROOM] = base::room();
     match mode {
         Mode::Whole => repeat_whole(times, source, file, &mut out),
         Mode::Reading => repeat_reading(times, source, file),
@@ -260,10 +213,6 @@ fn repeated(mode: Mode, times: u64, source: Source, file: &[u8]) -> u64 {
         Mode::LentStep(step) => steps::lent(times, source, file, step),
         Mode::Checks => steps::checks_alone(times, source, file),
     }
-}
-
-fn input_room() -> [u8; INPUT_MOST] {
-    [0u8; INPUT_MOST]
 }
 
 // Reads until the buffer is full, the input ends or a read fails: how many bytes it now has.
@@ -282,7 +231,7 @@ fn read_full(reader: &mut impl Read, into: &mut [u8]) -> usize
 }
 
 fn main(rt: HostRuntime) {
-    let mut input = input_room();
+    let mut input: [u8; INPUT_MOST] = base::room();
     let n = read_full(&mut rt.reader(), &mut input);
     let mode = mode_of(base::part_of(&input, 0, 1));
     let source = source_of(base::part_of(&input, 1, 2));

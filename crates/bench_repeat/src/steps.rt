@@ -2,8 +2,9 @@
 // and every turn takes the same step on that farm, by value or through a lent array. The checks of the farm's record,
 // which each step begins with, are repeated by themselves too, so that a step's own cost is what is over.
 use crate::checksum;
+use base::refusals::Refused;
 use books::{Book, Decided, Step};
-use farm::{Checked, Farm, HERDS_MOST, Herd, herds, labels};
+use farm::{Farm, HERDS_MOST, Herd, herds, labels};
 use limits::Source;
 use outputs::{Totals, total_names};
 use step_answer::files;
@@ -12,27 +13,17 @@ use step_answer::files;
 
 fn herd_at(farm: Farm, place: usize) -> Herd {
     if HERDS_MOST <= place {
-        return herds::no_herd();
+        herds::no_herd()
+    } else {
+        farm.herds[place]
     }
-    farm.herds[place]
-}
-
-fn last_place(farm: Farm) -> usize {
-    if farm.count == 0 {
-        return 0;
-    }
-    farm.count - 1
 }
 
 // The herd under a label that no herd of the files has.
 fn renamed(h: Herd) -> Herd {
-    let kind = h.kind;
-    let slots = h.slots;
-    Herd {
-        label: labels::label_of(b"new"),
-        kind,
-        slots,
-    }
+    let mut herd = h;
+    herd.label = labels::label_of(b"new");
+    herd
 }
 
 // What takes longest: a herd is added whose label no other has, the last is replaced, whose label is found behind all
@@ -40,7 +31,7 @@ fn renamed(h: Herd) -> Herd {
 fn handed(farm: Farm, step: Step) -> Herd {
     match step {
         Step::Add => renamed(herd_at(farm, 0)),
-        Step::Replace => herd_at(farm, last_place(farm)),
+        Step::Replace => herd_at(farm, farm.count.saturating_sub(1)),
         Step::Remove => herd_at(farm, 0),
     }
 }
@@ -49,8 +40,8 @@ fn handed(farm: Farm, step: Step) -> Herd {
 
 fn decided_number(decided: Decided) -> u64 {
     match decided {
-        Decided::Done => 0,
-        Decided::Refused(refusal) => books::numbers::number_of(refusal),
+        Ok(()) => 0,
+        Err(refusal) => books::numbers::number_of(refusal),
     }
 }
 
@@ -63,10 +54,7 @@ fn step_sum(sum: u64, turn: u64, decided: Decided, count: usize, totals: Totals)
 
 fn value_sum(sum: u64, turn: u64, farm: Farm, totals: Totals, step: Step, h: Herd) -> u64 {
     let after = book_steps::step(farm, HERDS_MOST, totals, step, h);
-    let decided = after.decided;
-    let farm_after = after.farm;
-    let totals_after = after.totals;
-    step_sum(sum, turn, decided, farm_after.count, totals_after)
+    step_sum(sum, turn, after.decided, after.farm.count, after.totals)
 }
 
 fn lent_sum(
@@ -77,18 +65,20 @@ fn lent_sum(
     step: Step,
     h: Herd,
 ) -> u64 {
-    let through = test_books::step_through(herds, book, step, h);
-    let answer = through.answer;
-    let decided = answer.decided;
-    let book_after = answer.book;
-    let totals_after = book_after.totals;
-    step_sum(sum, turn, decided, book_after.count, totals_after)
+    let answer = test_books::step_through(herds, book, step, h).answer;
+    step_sum(
+        sum,
+        turn,
+        answer.decided,
+        answer.book.count,
+        answer.book.totals,
+    )
 }
 
 fn check_sum(sum: u64, farm: Farm) -> u64 {
     match checks::check_farm(farm) {
-        Checked::Accepted => checksum::mixed(sum, farm.count as u64),
-        Checked::Refused(refusal, record) => checksum::refusal_sum(sum, refusal, record),
+        Ok(()) => checksum::mixed(sum, farm.count as u64),
+        Err(Refused(refusal, record)) => checksum::refusal_sum(sum, refusal, record),
     }
 }
 
@@ -96,30 +86,24 @@ fn check_sum(sum: u64, farm: Farm) -> u64 {
 
 fn repeat_value(times: u64, farm: Farm, totals: Totals, step: Step, h: Herd) -> u64 {
     let mut sum = 0;
-    let mut turn = times;
-    while turn > 0 {
+    for turn in (1..=times).rev() {
         sum = value_sum(sum, turn, farm, totals, step, h);
-        turn -= 1;
     }
     sum
 }
 
 fn repeat_lent(times: u64, herds: [Herd; HERDS_MOST], book: Book, step: Step, h: Herd) -> u64 {
     let mut sum = 0;
-    let mut turn = times;
-    while turn > 0 {
+    for turn in (1..=times).rev() {
         sum = lent_sum(sum, turn, herds, book, step, h);
-        turn -= 1;
     }
     sum
 }
 
 fn repeat_checks(times: u64, farm: Farm) -> u64 {
     let mut sum = 0;
-    let mut turn = times;
-    while turn > 0 {
+    for _ in 0..times {
         sum = check_sum(sum, farm);
-        turn -= 1;
     }
     sum
 }
@@ -128,24 +112,20 @@ fn repeat_checks(times: u64, farm: Farm) -> u64 {
 
 pub fn by_value(times: u64, source: Source, file: &[u8], step: Step) -> u64 {
     let opened = files::open(source, file);
-    let farm = opened.farm;
-    let totals = opened.totals;
-    let h = handed(farm, step);
-    repeat_value(times, farm, totals, step, h)
+    let h = handed(opened.farm, step);
+    repeat_value(times, opened.farm, opened.totals, step, h)
 }
 
 pub fn lent(times: u64, source: Source, file: &[u8], step: Step) -> u64 {
     let opened = files::open(source, file);
-    let farm = opened.farm;
-    let totals = opened.totals;
-    let count = farm.count;
-    let herds = farm.herds;
-    let h = handed(farm, step);
-    repeat_lent(times, herds, Book { count, totals }, step, h)
+    let h = handed(opened.farm, step);
+    let book = Book {
+        count: opened.farm.count,
+        totals: opened.totals,
+    };
+    repeat_lent(times, opened.farm.herds, book, step, h)
 }
 
 pub fn checks_alone(times: u64, source: Source, file: &[u8]) -> u64 {
-    let opened = files::open(source, file);
-    let farm = opened.farm;
-    repeat_checks(times, farm)
+    repeat_checks(times, files::open(source, file).farm)
 }

@@ -2,13 +2,13 @@
 -- nothing.
 use Prim.Native.Nat.{ℕ, suc, ◌+◌, ◌-◌, ◌≤◌, ◌<◌}
 use mathlib.Core.Path.{◌≡◌, refl, ap, ◌∙◌}
-use mathlib.Core.List.{List, [], ◌∷◌, ◌++◌, append-nil}
+use mathlib.Core.List.{List, [], ◌∷◌, ◌++◌}
 use native.Mathlib.Omega.{arith}
-use lib.ListN.{length, take, drop, set, length-append, length-drop, drop_of_length-le}
+use lib.ListN.{length, take, drop, set, length-append, length-drop}
 use lib.Seq.{sets, set-set, set_comm, take-add, take-length, length-take-le}
 use Rattle.base.specs.Part.{part}
 use Rattle.base.specs.Wrote.{Wrote}
-use Rattle.base.proofs.Writes.{sets_join, wrote_as, wrote_in_front}
+use Rattle.base.proofs.Writes.{sets_join, wrote_as}
 use Rattle.blocks.specs.Blocks.{block}
 
 set_before : (l : List ℕ) (i j v : ℕ) (a : List ℕ) → i < j → set (sets l j a) i v ≡ sets (set l i v) j a
@@ -36,18 +36,6 @@ wrote-over {old} {mid} {new} {at} {k} {p} {q} a b c v w n h =
           (sets_join old at a c);
       past = omega (arith, w.past, length-append a c);
     }
-
--- an array that a block fills is the block
-pub block-is : (t : List ℕ) (k : ℕ) {old new : List ℕ} {q : ℕ} → Wrote old 0 (take (k + block - k) (drop k t)) new q
-    → length old ≡ block → k + block ≤ length t
-    → new ≡ part t k (k + block)
-unfolding part
-block-is t k {old} w n h =
-    let b : k + block - k ≡ block = omega arith in
-    let l : length (take (k + block - k) (drop k t)) ≡ block =
-    rw b (length-take-le block (drop k t) (omega (arith, length-drop k t))) in
-    let f : length old ≤ length (take (k + block - k) (drop k t)) = omega arith in
-    wrote_in_front w (omega arith) ∙ rw (drop_of_length-le old f, append-nil)
 
 -- of a text j bytes were written, and then the block from k on
 block-put : (t : List ℕ) (j k : ℕ) {old mid new : List ℕ} {at p q : ℕ} → Wrote old at (take j t) mid p

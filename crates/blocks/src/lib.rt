@@ -1,4 +1,4 @@
-// A text copied a block at a time: 16 bytes by way of an array of their own, which the compiler moves at once.
+// A text copied a block at a time: 16 bytes, which the compiler moves at once.
 #![tactic(auto)]
 
 ghost use Rattle.std.specs.Prelude.{◌+◌, ◌≤◌, length};
@@ -13,10 +13,7 @@ fn put_block(out: &mut [u8], at: usize, t: &[u8], k: usize) -> usize
     requires { (k + block ≤ length t.now) × (at + block ≤ length out.old) }
     ensures { Wrote out.old at (part t.now k (k + block)) out.new result }
 {
-    let mut bytes = [0u8; BLOCK];
-    let end = k + BLOCK;
-    base::put(&mut bytes, 0, &t[k..end]);
-    base::put(out, at, &bytes)
+    base::put(out, at, &t[k..k + BLOCK])
 }
 
 // Copies t, of at most three blocks, into out from `at` on, and gives the place past it. The last block overlaps the

@@ -7,8 +7,8 @@ use mathlib.Core.List.{List, [], map}
 use lib.ListN.{length, take}
 use Rattle.farm.specs.declared.Herd.{Herd}
 use Rattle.farm.specs.declared.Farm.{Farm}
-use Rattle.farm.specs.declared.Checked.TheVariants.{Accepted}
 use Rattle.farm.specs.Limits.{herds_most}
+use Rattle.farm.specs.Answers.{Accepted}
 use Rattle.limits.specs.declared.Limits.{Limits}
 use Rattle.checks.specs.Checks.{herds_of, check_farm}
 use Rattle.reader.specs.declared.FileAnswer.{FileAnswer}
@@ -97,15 +97,14 @@ pub ruleset file_steps = (file-passes, file-small, file-read)
 
 -- ---- the call
 
-pub follows : (s : List ℕ) (old : List Herd) (b : Read) (f : Farm) (t : BookAnswer) (new : List Herd)
-    → IsRead (length old) s b → f ≡ b.answer.farm → new ≡ laid (herds_of f) old → t ≡ told_of b
-    → ReadsBook s old t new
-follows s old b f t new is ef en et =
+pub follows : (s : List ℕ) (old : List Herd) (b : Read) (t : BookAnswer) (new : List Herd)
+    → IsRead (length old) s b → new ≡ laid (herds_of b.answer.farm) old → t ≡ told_of b → ReadsBook s old t new
+follows s old b t new is en et =
     let told = ap (λ (a : FileAnswer). a.farm.count) is.answer ∙ (read-fine (length old) s).count in
     record {
       checked = ap (λ (x : BookAnswer). x.checked) et ∙ ap (λ (a : FileAnswer). a.checked) is.answer;
       book = ap (λ (x : BookAnswer). x.book) et ∙ book-is told is.totals;
-      array = en ∙ ap (λ (g : Farm). laid (herds_of g) old) (ef ∙ ap (λ (a : FileAnswer). a.farm) is.answer);
+      array = en ∙ ap (λ (a : FileAnswer). laid (herds_of a.farm) old) is.answer;
     }
 
 -- ---- what it means: reading has given what `read_into` gives, and the book is that of the array's first entries

@@ -6,12 +6,12 @@ ghost use Rattle.std.specs.Prelude.{◌≡◌, []};
 ghost use Rattle.book_file.specs.Books.{book_of, ReadsBook, IsRead, told_of};
 
 use books::Book;
-use farm::{Checked, Farm, Herd};
+use farm::{Checked, Herd};
 use outputs::Totals;
 use reader::FileAnswer;
 
 // What reading into an array gives: the refusal and the book of no herds, or the book of the file's.
-#[derive(Clone, Copy)]
+#[derive(Clone, Copy, Debug, PartialEq, Eq)]
 pub struct BookAnswer {
     pub checked: Checked,
     pub book: Book,
@@ -40,30 +40,20 @@ fn read_for(s: &[u8], len: usize) -> Read
     ensures { IsRead len s.now result }
 {
     let answer = lent_file::read_for(s, len);
-    let farm = answer.farm;
-    let totals = sums::totals_from(farm_sums::sum_of(farm));
-    Read { answer, totals }
-}
-
-fn farm_of(read: Read) -> Farm
-    ensures { result ≡ read.answer.farm }
-{
-    let answer = read.answer;
-    answer.farm
+    Read {
+        answer,
+        totals: sums::totals_from(farm_sums::sum_of(answer.farm)),
+    }
 }
 
 fn told(read: Read) -> BookAnswer
     ensures { result ≡ told_of read }
 {
-    let answer = read.answer;
-    let farm = answer.farm;
-    let checked = answer.checked;
-    let totals = read.totals;
     BookAnswer {
-        checked,
+        checked: read.answer.checked,
         book: Book {
-            count: farm.count,
-            totals,
+            count: read.answer.farm.count,
+            totals: read.totals,
         },
     }
 }
@@ -74,7 +64,6 @@ pub fn read_book(s: &[u8], herds: &mut [Herd]) -> BookAnswer
     ensures { ReadsBook s.now herds.old result herds.new }
 {
     let read = read_for(s, herds.len());
-    let farm = farm_of(read);
-    lent::store(herds, farm);
+    lent::store(herds, read.answer.farm);
     told(read)
 }

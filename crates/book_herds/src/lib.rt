@@ -14,16 +14,12 @@ pub fn place_of(farm: Farm, l: Label) -> usize
     requires { farm.count ≤ herds_most }
     ensures { result ≡ place_of (herds_of farm) l }
 {
-    let count = farm.count;
-    let mut i = 0;
-    while i < count {
-        let h = farm.herds[i];
-        if labels::same_label(h.label, l) {
+    for i in 0..farm.count {
+        if labels::same_label(farm.herds[i].label, l) {
             return i;
         }
-        i += 1;
     }
-    count
+    farm.count
 }
 
 // The farm with this herd as its last.
@@ -31,12 +27,11 @@ pub fn added(farm: Farm, h: Herd) -> Farm
     requires { farm.count < herds_most }
     ensures { HerdsAre (herds_of farm ++ (h ∷ [])) result }
 {
-    let count = farm.count;
     let mut herds = farm.herds;
-    herds[count] = h;
+    herds[farm.count] = h;
     Farm {
         herds,
-        count: count + 1,
+        count: farm.count + 1,
     }
 }
 
@@ -45,10 +40,12 @@ pub fn replaced_at(farm: Farm, place: usize, h: Herd) -> Farm
     requires { (place < farm.count) × (farm.count ≤ herds_most) }
     ensures { HerdsAre (set (herds_of farm) place h) result }
 {
-    let count = farm.count;
     let mut herds = farm.herds;
     herds[place] = h;
-    Farm { herds, count }
+    Farm {
+        herds,
+        count: farm.count,
+    }
 }
 
 // The farm without the herd at the place; those behind it move up by one.
@@ -58,11 +55,8 @@ pub fn removed_at(farm: Farm, place: usize) -> Farm
 {
     let last = farm.count - 1;
     let mut herds = farm.herds;
-    let mut i = place;
-    while i < last {
-        let next = herds[i + 1];
-        herds[i] = next;
-        i += 1;
+    for i in place..last {
+        herds[i] = herds[i + 1];
     }
     Farm { herds, count: last }
 }

@@ -1,4 +1,5 @@
 -- The steps of the rules, each in the form that a place of the code wants. Assumes nothing.
+use Rattle.std.specs.Prelude.{Err}
 use Prim.Native.Nat.{ℕ, ◌≤◌, ◌<◌, min}
 use mathlib.Core.Path.{◌≡◌, refl, sym, ap, ◌∙◌}
 use mathlib.Core.Bool.{Bool, true, false, not}
@@ -7,14 +8,14 @@ use lib.Dec.{leb}
 use lib.ListN.{length, length-take}
 use borrow.Author.Tests.{le-leb, lt-leb, leb-true, leb-false}
 use Rattle.base.specs.First.{first}
+use Rattle.base.specs.declared.refusals.Refused.{Refused}
 use Rattle.farm.specs.Limits.{herds_most}
 use Rattle.farm.specs.declared.Herd.{Herd}
 use Rattle.farm.specs.declared.Farm.{Farm}
 use Rattle.farm.specs.declared.Refusal.{Refusal}
 use Rattle.farm.specs.declared.Refusal.TheVariants.{BadLabel}
-use Rattle.farm.specs.declared.Checked.{Checked}
-use Rattle.farm.specs.declared.Checked.TheVariants as checks
 use Rattle.farm.specs.Labels.{label_ok}
+use Rattle.farm.specs.Answers.{Accepted, Checked}
 use Rattle.herd_tests.specs.Tests.{earlier_label}
 use Rattle.checks.specs.Checks.{check_farm, herds_of}
 use Rattle.checks.proofs.Accepts.{farm-count}
@@ -22,9 +23,7 @@ use Rattle.outputs.specs.declared.Totals.{Totals}
 use Rattle.books.specs.declared.Step.{Step}
 use Rattle.books.specs.declared.Step.TheVariants.{Add, Replace, Remove}
 use Rattle.books.specs.declared.StepRefusal.TheVariants.{Record, TotalTooLarge}
-use Rattle.books.specs.declared.Decided.{Decided}
-use Rattle.books.specs.declared.Decided.TheVariants.{Done, Refused}
-use Rattle.books.specs.Rules.{beyond, rules, tests, decided_of}
+use Rattle.books.specs.Rules.{beyond, rules, tests, decided_of, Decided, Done}
 use Rattle.book_rules.specs.Parts.{add_tests, replace_tests, remove_tests}
 
 -- ---- whether there is room
@@ -50,21 +49,21 @@ module _ (f : Farm) (room : ℕ) (t : Totals) (step : Step) (h : Herd) where
   ruled s = first (tests s (rules room h (herds_of f) t)) Done
 
   module _ (b : Bool) (e : b ≡ beyond t) where
-    beyond_so : (s : Step) → beyond t ≡ true → Refused TotalTooLarge ≡ ruled s
+    beyond_so : (s : Step) → beyond t ≡ true → Err TotalTooLarge ≡ ruled s
     beyond_so Add q = rw q
     beyond_so Replace q = rw q
     beyond_so Remove q = rw q
 
-    pub total-beyond : b ≡ true → Refused TotalTooLarge ≡ ruled step
+    pub total-beyond : b ≡ true → Err TotalTooLarge ≡ ruled step
     total-beyond q = beyond_so step (sym e ∙ q)
 
     module _ (within : b ≡ false) (ok : Bool) (o : ok ≡ label_ok h.label) where
-      label_so : (s : Step) → beyond t ≡ false → not (label_ok h.label) ≡ true → Refused (Record BadLabel) ≡ ruled s
+      label_so : (s : Step) → beyond t ≡ false → not (label_ok h.label) ≡ true → Err (Record BadLabel) ≡ ruled s
       label_so Add p q = rw (p, q)
       label_so Replace p q = rw (p, q)
       label_so Remove p q = rw (p, q)
 
-      pub label-bad : not ok ≡ true → Refused (Record BadLabel) ≡ ruled step
+      pub label-bad : not ok ≡ true → Err (Record BadLabel) ≡ ruled step
       label-bad q = label_so step (sym e ∙ within) (sym (ap not o) ∙ q)
 
       module _ (good : not ok ≡ false) (present : Bool) (p : present ≡ earlier_label (herds_of f) h.label)
@@ -90,15 +89,14 @@ module _ (f : Farm) (room : ℕ) (t : Totals) (step : Step) (h : Herd) where
   -- ---- the farm's record
 
   module _ (k : Checked) (e : k ≡ check_farm f) where
-    pub record_room_lem : k ≡ checks.Accepted → f.count ≤ herds_most
+    pub record_room_lem : k ≡ Accepted → f.count ≤ herds_most
     record_room_lem q = farm-count f (sym e ∙ q)
 
-    pub record_good : k ≡ checks.Accepted → {r : Decided} → r ≡ ruled step → r ≡ decided_of f room t step h
+    pub record_good : k ≡ Accepted → {r : Decided} → r ≡ ruled step → r ≡ decided_of f room t step h
     unfolding decided_of
     record_good q p = p ∙ (rw (decided_of, sym e, q))
 
-    pub record_bad : {refusal : Refusal} {at_record : ℕ} → k ≡ checks.Refused refusal at_record
-        → Refused (Record refusal) ≡ decided_of f room t step h
+    pub record_bad : {why : Refused Refusal} → k ≡ Err why → Err (Record why.0) ≡ decided_of f room t step h
     unfolding decided_of
     record_bad q = rw (decided_of, sym e, q)
 

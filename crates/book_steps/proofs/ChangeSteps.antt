@@ -11,15 +11,15 @@ use Rattle.base.proofs.Each.{each-get_or}
 use Rattle.farm.specs.Limits.{herds_most}
 use Rattle.farm.specs.declared.Herd.{Herd}
 use Rattle.farm.specs.declared.Farm.{Farm}
-use Rattle.farm.specs.declared.Checked.TheVariants.{Accepted}
+use Rattle.farm.specs.Answers.{Accepted}
 use Rattle.herd_tests.specs.Tests.{earlier_label}
 use Rattle.checks.specs.Checks.{check_herd, herds_of}
 use Rattle.checks.proofs.Accepts.{farm-count, farm-each}
 use Rattle.outputs.specs.declared.Totals.{Totals}
 use Rattle.books.specs.declared.Step.{Step}
 use Rattle.books.specs.declared.Step.TheVariants.{Add, Replace, Remove}
-use Rattle.books.specs.declared.Decided.TheVariants.{Done}
 use Rattle.books.specs.Steps.{named, herds_after, brings, takes}
+use Rattle.books.specs.Rules.{Done}
 use Rattle.book_herds.specs.Places.{place_of, without, HerdsAre}
 use Rattle.book_totals.specs.Parts.{TotalsOf, moved_by}
 use Rattle.book_totals.proofs.Parts.{is-moved}

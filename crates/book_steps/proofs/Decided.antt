@@ -1,5 +1,6 @@
 -- What is known of a step that is done: no rule holds that is of it. And what a step gives, done or refused. Assumes
 -- nothing.
+use Rattle.std.specs.Prelude.{Err}
 use Prim.Native.Nat.{ℕ, ◌<◌, min}
 use mathlib.Core.Path.{◌≡◌, refl, sym, ap, ◌∙◌}
 use mathlib.Core.Bool.{Bool, true, false, not, ◌&&◌}
@@ -14,10 +15,9 @@ use Rattle.base.proofs.Clash.{clash}
 use Rattle.farm.specs.Limits.{herds_most}
 use Rattle.farm.specs.declared.Herd.{Herd}
 use Rattle.farm.specs.declared.Farm.{Farm}
-use Rattle.farm.specs.declared.Checked.{Checked}
-use Rattle.farm.specs.declared.Checked.TheVariants as checks
 use Rattle.farm.specs.Labels.{label_ok}
 use Rattle.farm.specs.Herds.{no_farm}
+use Rattle.farm.specs.Answers.{Accepted, Checked}
 use Rattle.herd_tests.specs.Tests.{lacks, earlier_label}
 use Rattle.fits.specs.Fits.{unfit}
 use Rattle.checks.specs.Checks.{check_herd, check_farm, herds_of}
@@ -26,10 +26,8 @@ use Rattle.outputs.specs.declared.Totals.{Totals}
 use Rattle.books.specs.declared.Step.{Step}
 use Rattle.books.specs.declared.Step.TheVariants.{Add, Replace, Remove}
 use Rattle.books.specs.declared.StepRefusal.{StepRefusal}
-use Rattle.books.specs.declared.Decided.{Decided}
-use Rattle.books.specs.declared.Decided.TheVariants.{Done, Refused}
 use Rattle.books.specs.declared.Stepped.{Stepped}
-use Rattle.books.specs.Rules.{beyond, Rule, rules, is_of, tests, decided_after, decided_of}
+use Rattle.books.specs.Rules.{beyond, Rule, rules, is_of, tests, decided_after, decided_of, Decided, Done}
 use Rattle.books.specs.Answers.{StepsTo}
 use Rattle.book_steps.specs.Changes.{Sound, Changed}
 
@@ -44,20 +42,20 @@ passed step [] e = none
 passed step (r ∷ rs) e = go (is_of r.steps step && r.holds) refl e (passed step rs)
   where
     go : (t : Bool) → (is_of r.steps step && r.holds) ≡ t
-        → pick t (Refused r.refusal) (first (tests step rs) Done) ≡ Done
+        → pick t (Err r.refusal) (first (tests step rs) Done) ≡ Done
         → (first (tests step rs) Done ≡ Done → Passed step rs) → Passed step (r ∷ rs)
     go true q e rest = clash cc
     go false q e rest = more q (rest e)
 
 -- the inputs of a herd with a good label
 good-herd : (h : Herd) → not (label_ok h.label) ≡ false → lacks h ≡ false → unfit h ≡ false
-    → check_herd h ≡ checks.Accepted
+    → check_herd h ≡ Accepted
 unfolding check_herd
 good-herd h l m u = rw (check_herd, l, m, u)
 
 module _ (f : Farm) (room : ℕ) (t : Totals) (h : Herd) where
   record Free (step : Step) : Type 0 where
-    pub accepted : check_farm f ≡ checks.Accepted
+    pub accepted : check_farm f ≡ Accepted
     pub none-holds : Passed step (rules room h (herds_of f) t)
 
   free : (step : Step) → decided_of f room t step h ≡ Done → Free step
@@ -66,8 +64,8 @@ module _ (f : Farm) (room : ℕ) (t : Totals) (h : Herd) where
     where
       go : (k : Checked) → check_farm f ≡ k
           → decided_after k (first (tests step (rules room h (herds_of f) t)) Done) ≡ Done → Free step
-      go checks.Accepted q e = record { accepted = q; none-holds = passed step (rules room h (herds_of f) t) e }
-      go (checks.Refused refusal at_record) q e = clash cc
+      go Accepted q e = record { accepted = q; none-holds = passed step (rules room h (herds_of f) t) e }
+      go (Err refused) q e = clash cc
 
   within : (step : Step) → Passed step (rules room h (herds_of f) t) → beyond t ≡ false
   within Add (more p ps) = p
@@ -99,10 +97,10 @@ module _ (f : Farm) (room : ℕ) (t : Totals) (h : Herd) where
                     farm-count f g.accepted,
                   )
 
-      pub fits-added : check_herd h ≡ checks.Accepted
+      pub fits-added : check_herd h ≡ Accepted
       fits-added = go (as_step Add p).none-holds
         where
-          go : Passed Add (rules room h (herds_of f) t) → check_herd h ≡ checks.Accepted
+          go : Passed Add (rules room h (herds_of f) t) → check_herd h ≡ Accepted
           go (more a (more b (more c (more x (more y (more m (more u none))))))) = good-herd h b m u
 
     module _ (p : step ≡ Replace) where
@@ -112,10 +110,10 @@ module _ (f : Farm) (room : ℕ) (t : Totals) (h : Herd) where
           go : Passed Replace (rules room h (herds_of f) t) → earlier_label (herds_of f) h.label ≡ true
           go (more a (more b (more c ps))) = not-false (earlier_label (herds_of f) h.label) c
 
-      pub fits_replaced : check_herd h ≡ checks.Accepted
+      pub fits_replaced : check_herd h ≡ Accepted
       fits_replaced = go (as_step Replace p).none-holds
         where
-          go : Passed Replace (rules room h (herds_of f) t) → check_herd h ≡ checks.Accepted
+          go : Passed Replace (rules room h (herds_of f) t) → check_herd h ≡ Accepted
           go (more a (more b (more c (more x (more y (more m (more u none))))))) = good-herd h b m u
 
     pub present-removed : step ≡ Remove → earlier_label (herds_of f) h.label ≡ true
@@ -136,8 +134,8 @@ module _ (f : Farm) (room : ℕ) (t : Totals) (h : Herd) where
           totals = rw (sym e, q, p) c.totals;
         }
 
-    pub steps-refused : (refusal : StepRefusal) (g : Farm) → d ≡ Refused refusal → g ≡ no_farm
-        → StepsTo f room t step h (record { decided = Refused refusal; farm = g; totals = t })
+    pub steps-refused : (refusal : StepRefusal) (g : Farm) → d ≡ Err refusal → g ≡ no_farm
+        → StepsTo f room t step h (record { decided = Err refusal; farm = g; totals = t })
     steps-refused refusal g q n =
         record {
           decided = sym q ∙ e;

@@ -3,13 +3,12 @@
 use Rattle.std.specs.Prelude.{◌≡◌, false, length}
 use Rattle.farm.specs.declared.Herd.{Herd}
 use Rattle.farm.specs.declared.Farm.{Farm}
-use Rattle.farm.specs.declared.Checked.TheVariants.{Accepted}
+use Rattle.farm.specs.Answers.{Accepted}
 use Rattle.checks.specs.Checks.{check_farm, herds_of}
 use Rattle.outputs.specs.declared.Totals.{Totals}
 use Rattle.books.specs.declared.Step.{Step}
-use Rattle.books.specs.declared.Decided.TheVariants.{Done}
 use Rattle.books.specs.declared.Stepped.{Stepped}
-use Rattle.books.specs.Rules.{beyond}
+use Rattle.books.specs.Rules.{beyond, Done}
 use Rattle.books.specs.Steps.{herds_after, totals_after}
 
 -- a farm that the checks accept, and totals within 16's bounds

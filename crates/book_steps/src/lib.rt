@@ -4,7 +4,7 @@
 
 ghost use Rattle.books.specs.Answers.{StepsTo};
 
-use books::{Decided, Step, Stepped};
+use books::{Step, Stepped};
 use farm::{Farm, Herd, herds};
 use outputs::Totals;
 
@@ -14,15 +14,14 @@ pub mod changes; // what each step makes of a farm and its totals
 pub fn step(farm: Farm, room: usize, totals: Totals, step: Step, h: Herd) -> Stepped
     ensures { StepsTo farm room totals step h result }
 {
-    let decided = book_rules::decide(farm, room, totals, step, h);
-    match decided {
-        Decided::Done => match step {
+    match book_rules::decide(farm, room, totals, step, h) {
+        Ok(()) => match step {
             Step::Add => changes::add(farm, totals, h),
             Step::Replace => changes::replace(farm, totals, h),
             Step::Remove => changes::remove(farm, totals, h),
         },
-        Decided::Refused(refusal) => Stepped {
-            decided: Decided::Refused(refusal),
+        Err(refusal) => Stepped {
+            decided: Err(refusal),
             farm: herds::no_farm(),
             totals,
         },

@@ -14,7 +14,7 @@ use Rattle.base.proofs.Each.{each_of}
 use Rattle.cut_division.proofs.Signed.{fits_abs, back, abs_add, abs_sub}
 use Rattle.cut_division.proofs.Totals.{signed_total-same}
 use Rattle.farm.specs.declared.Herd.{Herd}
-use Rattle.farm.specs.declared.Checked.TheVariants.{Accepted}
+use Rattle.farm.specs.Answers.{Accepted}
 use Rattle.checks.specs.Checks.{check_herd}
 use Rattle.kinds.specs.declared.Inputs.{Inputs}
 use Rattle.kinds.specs.Sound.{Sound}
@@ -97,7 +97,8 @@ module _ (x y z : ℤ) (hx : nat_abs x ≤ total_most) (hy : nat_abs y ≤ part_
   less-is : to_z w64 (of_z w64 (to_z w64 (of_z w64 x) -ℤ to_z w64 (of_z w64 y))) ≡ x -ℤ y
   less-is = rw (back x (omega arith), back y (omega arith)) (back (x -ℤ y) (omega (arith, less-small)))
 
-  pub more-fits : SFits w64 (to_z w64 (of_z w64 (to_z w64 (of_z w64 x) -ℤ to_z w64 (of_z w64 y))) +ℤ to_z w64 (of_z w64 z))
+  pub more-fits : SFits w64
+      (to_z w64 (of_z w64 (to_z w64 (of_z w64 x) -ℤ to_z w64 (of_z w64 y))) +ℤ to_z w64 (of_z w64 z))
   more-fits = rw (less-is, back z (omega arith)) (fits_abs _ all_small)
 
   pub more-is : to_z w64 (of_z w64 (to_z w64 (of_z w64 (to_z w64 (of_z w64 x) -ℤ to_z w64 (of_z w64 y)))
@@ -113,14 +114,16 @@ module _ (a : List ℤ) (n : ℕ) where
   pub part-read : (k : ℕ) → GramsTo part_most a → part_most ≤ k → nat_abs (to_z w64 (of_z w64 (grams_at a n))) ≤ k
   part-read k s b = omega (arith, read_small part_most (omega arith) s)
 
-pub total-read : (t : Totals) (n : ℕ) → beyond t ≡ false → nat_abs (to_z w64 (of_z w64 (grams_at t.grams n))) ≤ total_most
+pub total-read : (t : Totals) (n : ℕ) → beyond t ≡ false
+    → nat_abs (to_z w64 (of_z w64 (grams_at t.grams n))) ≤ total_most
 total-read t n e = read_small t.grams n total_most (omega arith) (within-most t e)
 
 pub ruleset reads_small = (part-read, total-read)
 
 -- ---- one total moved, of what was read
 
-module _ {a b c : List ℤ} (ta : GramsTo total_most a) (tb : GramsTo part_most b) (tc : GramsTo part_most c) (n : ℕ) where
+module _ {a b c : List ℤ} (ta : GramsTo total_most a) (tb : GramsTo part_most b) (tc : GramsTo part_most c)
+    (n : ℕ) where
   abbrev x : ℤ
   x = grams_at a n
 

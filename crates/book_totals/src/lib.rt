@@ -3,11 +3,11 @@
 #![tactic(auto)]
 
 ghost use Rattle.std.specs.Prelude.{◌≤◌, ◌≡◌, false, [], ◌∷◌, nat_abs, ◌+ℤ◌, ◌-ℤ◌};
-ghost use Rattle.farm.specs.declared.Checked.TheVariants.{Accepted};
 ghost use Rattle.checks.specs.Checks.{check_herd};
 ghost use Rattle.outputs.specs.Grams.{GramsTo};
 ghost use Rattle.books.specs.Rules.{total_most, beyond};
 ghost use Rattle.book_totals.specs.Parts.{part_most, TotalsOf, moved_by};
+ghost use Rattle.farm.specs.Answers.{Accepted};
 
 use books::TOTAL_MOST;
 use farm::Herd;
@@ -17,13 +17,10 @@ use outputs::{Totals, total_names};
 pub fn is_beyond(t: Totals) -> bool
     ensures { result ≡ beyond t }
 {
-    let mut i = 0;
-    while i < total_names::COUNT {
-        let g = t.grams[i];
+    for g in t.grams {
         if TOTAL_MOST < cut_division::magnitude(g) {
             return true;
         }
-        i += 1;
     }
     false
 }
@@ -57,13 +54,8 @@ pub fn moved_by(t: Totals, gone: Totals, come: Totals) -> Totals
     ensures { result.grams ≡ moved_by t gone come }
 {
     let mut r = t;
-    let mut i = 0;
-    while i < total_names::COUNT {
-        let x = t.grams[i];
-        let y = gone.grams[i];
-        let z = come.grams[i];
-        r.grams[i] = exchanged(x, y, z);
-        i += 1;
+    for i in 0..total_names::COUNT {
+        r.grams[i] = exchanged(t.grams[i], gone.grams[i], come.grams[i]);
     }
     r
 }

@@ -1,16 +1,17 @@
 -- 02, W11, Refusals: "in order: 01's for a farm record, 16 a stored total beyond 10,000,000,000,000 grams above or
 -- below zero, 4 bad label, 15 label not present (replace, remove), 8 label present (add), 9 farm full (add), 12, 7
 -- (add, replace); record 0 in all." To be believed.
+use Rattle.std.specs.Prelude.{Err}
 use Rattle.std.specs.Prelude.{ℕ, min, Bool, true, false, not, ◌&&◌, ◌||◌, List, [], ◌∷◌, length, leb, ltb, ℤ, nat_abs}
+use Rattle.std.specs.Prelude.{Result, Ok, Err, ⊤}
 use Rattle.base.specs.First.{Test, ◌when◌, first}
 use Rattle.farm.specs.declared.Herd.{Herd}
 use Rattle.farm.specs.declared.Farm.{Farm}
 use Rattle.farm.specs.declared.Refusal.TheVariants.{BadLabel, BadValue, EarlierLabel, NoRoomForHerd, InputMissing}
-use Rattle.farm.specs.declared.Checked.{Checked}
-use Rattle.farm.specs.declared.Checked.TheVariants as checks
 use Rattle.farm.specs.Refusals as farms
 use Rattle.farm.specs.Limits.{herds_most}
 use Rattle.farm.specs.Labels.{label_ok}
+use Rattle.farm.specs.Answers.{Accepted, Checked}
 use Rattle.herd_tests.specs.Tests.{lacks, earlier_label}
 use Rattle.fits.specs.Fits.{unfit}
 use Rattle.checks.specs.Checks.{check_farm, herds_of}
@@ -19,8 +20,13 @@ use Rattle.books.specs.declared.Step.{Step}
 use Rattle.books.specs.declared.Step.TheVariants.{Add, Replace, Remove}
 use Rattle.books.specs.declared.StepRefusal.{StepRefusal}
 use Rattle.books.specs.declared.StepRefusal.TheVariants.{Record, NotPresent, TotalTooLarge}
-use Rattle.books.specs.declared.Decided.{Decided}
-use Rattle.books.specs.declared.Decided.TheVariants.{Done, Refused}
+
+-- what was decided of a step: it was done, or why nothing was changed
+abbrev pub Decided : Type 0
+Decided = Result ⊤ StepRefusal
+
+pattern abbrev pub Done : Decided
+Done = Ok tt
 
 abbrev pub number : StepRefusal → ℕ
 number (Record refusal) = farms.number refusal
@@ -80,13 +86,13 @@ is_of (s ∷ steps) step = same s step || is_of steps step
 
 abbrev pub tests : Step → List Rule → List (Test Decided)
 tests step [] = []
-tests step (r ∷ rs) = Refused r.refusal when (is_of r.steps step && r.holds) ∷ tests step rs
+tests step (r ∷ rs) = Err r.refusal when (is_of r.steps step && r.holds) ∷ tests step rs
 
 -- ---- what is decided: 01's refusals of the farm's record first, then the rules
 
 abbrev pub decided_after : Checked → Decided → Decided
-decided_after checks.Accepted d = d
-decided_after (checks.Refused refusal record') d = Refused (Record refusal)
+decided_after Accepted d = d
+decided_after (Err refused) d = Err (Record refused.0)
 
 unfoldable pub decided_of : Farm → ℕ → Totals → Step → Herd → Decided
 decided_of f room t step h = decided_after (check_farm f) (first (tests step (rules room h (herds_of f) t)) Done)

@@ -8,7 +8,7 @@ use outputs::Totals;
 pub mod numbers; // the refusals' numbers
 
 // How many herds the farm has, and what their figures come to.
-#[derive(Clone, Copy)]
+#[derive(Clone, Copy, Debug, PartialEq, Eq)]
 pub struct Book {
     pub count: usize,
     pub totals: Totals,
@@ -16,7 +16,7 @@ pub struct Book {
 
 // What is done with the herd that a step names: it is put in as the last, in the place of the one of its label, or
 // taken out.
-#[derive(Clone, Copy)]
+#[derive(Clone, Copy, Debug, PartialEq, Eq)]
 pub enum Step {
     Add,
     Replace,
@@ -24,22 +24,18 @@ pub enum Step {
 }
 
 // What is wrong: one of 01's refusals, a label that no herd has, or a total that is larger than any farm's.
-#[derive(Clone, Copy)]
+#[derive(Clone, Copy, Debug, PartialEq, Eq)]
 pub enum StepRefusal {
     Record(Refusal),
     NotPresent,
     TotalTooLarge,
 }
 
-// What was decided of a step: it was done, or nothing was changed.
-#[derive(Clone, Copy)]
-pub enum Decided {
-    Done,
-    Refused(StepRefusal),
-}
+// What was decided of a step: it was done, or why nothing was changed.
+pub type Decided = Result<(), StepRefusal>;
 
 // What a step is answered with: what was decided, and the book afterwards.
-#[derive(Clone, Copy)]
+#[derive(Clone, Copy, Debug, PartialEq, Eq)]
 pub struct StepAnswer {
     pub decided: Decided,
     pub book: Book,

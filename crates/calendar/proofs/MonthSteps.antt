@@ -3,14 +3,13 @@
 use Prim.Native.Nat.{ℕ, zero, suc, ◌+◌, ◌<◌, ◌≤◌}
 use mathlib.Core.Path.{◌≡◌, refl, sym, ap, ◌∙◌}
 use mathlib.Core.Bool.{Bool, true, false}
-use mathlib.Core.List.{List, ◌∷◌}
-use lib.ListN.{get_or, get_or-eq_default}
+use mathlib.Core.List.{◌∷◌}
+use lib.ListN.{get_or}
 use borrow.Author.Tests.{lt-ltb, le-ltb}
 use Rattle.calendar.specs.declared.Date.{Date}
-use Rattle.calendar.specs.declared.Due.{Due}
-use Rattle.calendar.specs.declared.Due.TheVariants.{NewYear, On, Nothing}
-use Rattle.calendar.specs.Calendar.{date, is_leap, months_of, days_in, same_day, same_date}
-use Rattle.calendar.specs.Following.{is_due, due_after}
+use Rattle.calendar.specs.declared.Due.TheVariants.{On, Nothing}
+use Rattle.calendar.specs.Calendar.{date, is_leap, months_of, days_in}
+use Rattle.calendar.specs.Following.{due_after}
 
 -- ---- months
 
@@ -37,11 +36,7 @@ pub month_is : (y m : ℕ) → (m ≡ 2 → ⊥) → get_or (0 ∷ months_of fal
 unfolding days_in
 month_is y m n = alike (is_leap y) m n
 
-pub month_none : (y m : ℕ) → 12 < m → 0 ≡ days_in y m
-unfolding days_in
-month_none y m h = sym (get_or-eq_default (0 ∷ months_of (is_leap y)) 0 h)
-
-pub ruleset month_steps = (february-long, february-short, february-is, month_is, month_none)
+pub ruleset month_steps = (february-long, february-short, february-is, month_is)
 
 -- ---- what is due
 
@@ -58,14 +53,4 @@ module _ (d : Date) {n : ℕ} (q : n ≡ days_in d.year d.month) where
   unfolding due_after
   due-nothing h k = simp (due_after, sym q, le-ltb d.day n h, le-ltb d.month 12 k)
 
-module _ {due : Due} (d : Date) where
-  pub due-new-year : {r : Bool} → due ≡ NewYear → r ≡ same_day 1 1 d → r ≡ is_due due d
-  due-new-year e q = q ∙ ap (λ (x : Due). is_due x d) (sym e)
-
-  pub due-on : {r : Bool} {x : Date} → due ≡ On x → r ≡ same_date x d → r ≡ is_due due d
-  due-on e q = q ∙ ap (λ (x : Due). is_due x d) (sym e)
-
-  pub due-never : due ≡ Nothing → false ≡ is_due due d
-  due-never e = ap (λ (x : Due). is_due x d) (sym e)
-
-pub ruleset due_steps = (due_in_month, due_in_next, due-nothing, due-new-year, due-on, due-never)
+pub ruleset due_steps = (due_in_month, due_in_next, due-nothing)

@@ -6,7 +6,7 @@ ghost use Rattle.std.specs.Prelude.{◌≡◌};
 ghost use Rattle.calendar.specs.Calendar.{is_leap, days_in, same_day, same_date, is_leap_day};
 ghost use Rattle.calendar.specs.Following.{is_due, due_after};
 
-#[derive(Clone, Copy)]
+#[derive(Clone, Copy, Debug, PartialEq, Eq)]
 pub struct Date {
     pub year: u32,
     pub month: u32,
@@ -14,7 +14,7 @@ pub struct Date {
 }
 
 // Which date may come next: 1 January of any year, this one, or none any more.
-#[derive(Clone, Copy)]
+#[derive(Clone, Copy, Debug, PartialEq, Eq)]
 pub enum Due {
     NewYear,
     On(Date),
@@ -33,58 +33,48 @@ const LEAP_DAY: u32 = 29;
 // The days of a common year's months, by their numbers; there is no month 0.
 const DAYS: [u32; 13] = [0, 31, 28, 31, 30, 31, 30, 31, 31, 30, 31, 30, 31];
 
+#[tactic(auto, using(base::proofs::Picks::picks), unfolding(crate::specs::Calendar::is_leap))]
 pub fn is_leap(year: u32) -> bool
     ensures { result ≡ is_leap year }
 {
-    if year % 400 == 0 {
-        return true;
-    }
-    if year % 100 == 0 {
-        return false;
-    }
-    year % 4 == 0
+    year % 400 == 0 || year % 100 != 0 && year % 4 == 0
 }
 
 // How many days February has.
+#[tactic(auto, using(crate::proofs::MonthSteps::month_steps))]
 fn days_in_february(year: u32) -> u32
     ensures { result ≡ days_in year 2 }
 {
     if is_leap(year) {
-        return LEAP_DAY;
+        LEAP_DAY
+    } else {
+        LEAP_DAY - 1
     }
-    LEAP_DAY - 1
 }
 
 // How many days a month has.
+#[tactic(auto, using(crate::proofs::MonthSteps::month_steps))]
 pub fn days_in(year: u32, month: u32) -> u32
     ensures { result ≡ days_in year month }
 {
     if month == FEBRUARY {
-        return days_in_february(year);
+        days_in_february(year)
+    } else {
+        DAYS.get(month as usize).copied().unwrap_or(0)
     }
-    if month <= DECEMBER {
-        return DAYS[month as usize];
-    }
-    0
 }
 
 // Is it this day of this month, in any year?
 fn same_day(month: u32, day: u32, d: Date) -> bool
     ensures { result ≡ same_day month day d }
 {
-    if d.month != month {
-        return false;
-    }
-    d.day == day
+    d.month == month && d.day == day
 }
 
 pub fn same_date(a: Date, b: Date) -> bool
     ensures { result ≡ same_date a b }
 {
-    if b.year != a.year {
-        return false;
-    }
-    same_day(a.month, a.day, b)
+    a == b
 }
 
 // Is it a 29 February?
@@ -105,22 +95,22 @@ pub fn is_due(due: Due, d: Date) -> bool
 }
 
 // What is due past a date of the year.
+#[tactic(auto, using(crate::proofs::MonthSteps::due_steps))]
 pub fn due_after(d: Date) -> Due
     ensures { result ≡ due_after d }
 {
     if d.day < days_in(d.year, d.month) {
-        return Due::On(Date {
-            year: d.year,
-            month: d.month,
+        Due::On(Date {
             day: d.day + 1,
-        });
-    }
-    if d.month < DECEMBER {
-        return Due::On(Date {
-            year: d.year,
+            ..d
+        })
+    } else if d.month < DECEMBER {
+        Due::On(Date {
             month: d.month + 1,
             day: 1,
-        });
+            ..d
+        })
+    } else {
+        Due::Nothing
     }
-    Due::Nothing
 }

@@ -8,7 +8,6 @@ ghost use Rattle.std.specs.Prelude.{◌≡◌};
 ghost use Rattle.contracts.specs.Listings.{Called, file_herd_call, file_totals_call, file_call};
 ghost use Rattle.contracts.specs.Reasons.{file_reason};
 
-use farm::Checked;
 use limits::Source;
 use reasons::ReasonAnswer;
 use views::{View, farms};
@@ -42,17 +41,11 @@ pub fn file_herd_reason(source: Source, s: &[u8], number: usize) -> ReasonAnswer
     ensures { result ≡ file_reason source s.now number }
 {
     let answer = farm_file::read(source, s);
-    let checked = answer.checked;
-    match checked {
-        Checked::Accepted => {
-            let farm = answer.farm;
-            if number < farm.count {
-                let h = farm.herds[number];
-                return herd_reason(h);
-            }
-            ReasonAnswer::NoHerd
-        }
-        Checked::Refused(refusal, record) => ReasonAnswer::Refused(refusal, record),
+    answer.checked?;
+    if number < answer.farm.count {
+        herd_reason(answer.farm.herds[number])
+    } else {
+        Ok(None)
     }
 }
 
@@ -68,17 +61,11 @@ pub fn file_herd_view(
         out.old out.new result }
 {
     let answer = farm_file::read(source, s);
-    let checked = answer.checked;
-    match checked {
-        Checked::Accepted => {
-            let farm = answer.farm;
-            if farm.count <= number {
-                return Written::Length(0);
-            }
-            let h = farm.herds[number];
-            herd_view(view, h, out)
-        }
-        Checked::Refused(refusal, record) => Written::Refused(refusal, record),
+    answer.checked?;
+    if answer.farm.count <= number {
+        Ok(0)
+    } else {
+        herd_view(view, answer.farm.herds[number], out)
     }
 }
 
@@ -87,11 +74,8 @@ pub fn file_totals_listing(source: Source, s: &[u8], out: &mut [u8]) -> Written
     ensures { Called (file_totals_call source s.now) out.old out.new result }
 {
     let answer = farm_file::read(source, s);
-    let checked = answer.checked;
-    match checked {
-        Checked::Accepted => herd_calls::totals_by_value(answer.farm, out),
-        Checked::Refused(refusal, record) => Written::Refused(refusal, record),
-    }
+    answer.checked?;
+    herd_calls::totals_by_value(answer.farm, out)
 }
 
 // What the view lists of a whole file: herd after herd, and behind the figures the totals. It is put straight into a
@@ -100,18 +84,13 @@ pub fn file_view(view: View, source: Source, s: &[u8], out: &mut [u8]) -> Writte
     ensures { Called (file_call source view s.now) out.old out.new result }
 {
     let answer = farm_file::read(source, s);
-    let checked = answer.checked;
-    match checked {
-        Checked::Accepted => {
-            if farms::has_limit(view) {
-                return view_calls::accepted_view(view, answer.farm, out);
-            }
-            let room = answer.farm.count * views::HERD_ROOM + views::BEHIND_ROOM;
-            if room <= out.len() {
-                return Written::Length(farms::put_view(out, answer.farm, view));
-            }
-            view_writing::write_view(out, answer.farm, view)
-        }
-        Checked::Refused(refusal, record) => Written::Refused(refusal, record),
+    answer.checked?;
+    let room = answer.farm.count * views::HERD_ROOM + views::BEHIND_ROOM;
+    if farms::has_limit(view) {
+        view_calls::accepted_view(view, answer.farm, out)
+    } else if room <= out.len() {
+        Ok(farms::put_view(out, answer.farm, view))
+    } else {
+        view_writing::write_view(out, answer.farm, view)
     }
 }

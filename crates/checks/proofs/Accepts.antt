@@ -10,6 +10,7 @@ use Rattle.base.specs.First.{Test, ◌when◌, first}
 use Rattle.base.proofs.Clash.{clash}
 use Rattle.base.specs.Each.{Each, none, more}
 use Rattle.base.proofs.Each.{each_of, each_map}
+use Rattle.base.specs.Refused.{refuse}
 use Rattle.inputs.specs.Inputs.{Row, rows_of}
 use Rattle.farm.specs.Limits.{herds_most}
 use Rattle.farm.specs.declared.Label.{Label}
@@ -17,11 +18,10 @@ use Rattle.farm.specs.declared.Slot.{Slot}
 use Rattle.farm.specs.declared.Herd.{Herd}
 use Rattle.farm.specs.declared.Farm.{Farm}
 use Rattle.farm.specs.declared.Refusal.TheVariants.{BadLabel}
-use Rattle.farm.specs.declared.Checked.{Checked}
-use Rattle.farm.specs.declared.Checked.TheVariants.{Accepted, Refused}
 use Rattle.farm.specs.Labels.{label_ok, same_label}
 use Rattle.farm.specs.Herds.{is_missing}
 use Rattle.farm.specs.Refusals.{Says, accepts, says, HerdSays, FarmSays}
+use Rattle.farm.specs.Answers.{Accepted, Checked}
 use Rattle.fits.specs.Fits.{fits, unfit_one, unfit}
 use Rattle.herd_tests.specs.Tests.{lacks_one, lacks, has_label}
 use Rattle.checks.specs.Checks.{input_tests, herd_tests, herds_tests, check_herd, herds_of, farm_tests, check_farm}
@@ -187,7 +187,7 @@ module _ (P : Says → Type 0) (accepted : P accepts) where
 
 pub herd-says : (h : Herd) → HerdSays (says (check_herd h))
 unfolding check_herd
-herd-says h = first_says HerdSays HerdSays.fine {ls = Refused BadLabel 0 when not (label_ok h.label) ∷ input_tests h}
+herd-says h = first_says HerdSays HerdSays.fine {ls = refuse BadLabel 0 when not (label_ok h.label) ∷ input_tests h}
     (more HerdSays.label (more HerdSays.missing (more HerdSays.value none)))
 
 herds_say : (before : List Label) (hs : List Herd) → Each (λ l. FarmSays (says l.answer)) (herds_tests before hs)

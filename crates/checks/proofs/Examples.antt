@@ -4,6 +4,7 @@ use mathlib.Core.Path.{◌≡◌, refl}
 use mathlib.Core.List.{List, [], ◌∷◌, map}
 use lib.IntN.{pos}
 use Rattle.base.specs.Text.{bytes}
+use Rattle.base.specs.Refused.{refuse}
 use Rattle.inputs.specs.declared.Kind.{Kind}
 use Rattle.inputs.specs.declared.Kind.TheVariants.{Cattle, DairyCow}
 use Rattle.farm.specs.declared.Given.{Given}
@@ -11,8 +12,8 @@ use Rattle.farm.specs.declared.Given.TheVariants.{Standard, Value, Signed}
 use Rattle.farm.specs.declared.Slot.{Slot}
 use Rattle.farm.specs.declared.Herd.{Herd}
 use Rattle.farm.specs.declared.Refusal.TheVariants.{BadValue}
-use Rattle.farm.specs.declared.Checked.TheVariants.{Accepted, Refused}
 use Rattle.farm.specs.Labels.{label_of, byte_ok, label_ok}
+use Rattle.farm.specs.Answers.{Accepted}
 use Rattle.herd_tests.specs.Tests.{lacks}
 use Rattle.fits.specs.Fits.{unfit}
 use Rattle.checks.specs.Checks.{check_herd}
@@ -42,6 +43,6 @@ herds =
     ∷ []
 
 pub standard_in_record : map check_herd herds
-    ≡ Accepted ∷ Accepted ∷ Refused BadValue 0 ∷ Refused BadValue 0 ∷ Refused BadValue 0 ∷ []
+    ≡ Accepted ∷ Accepted ∷ refuse BadValue 0 ∷ refuse BadValue 0 ∷ refuse BadValue 0 ∷ []
 unfolding check_herd lacks unfit label_ok label_of byte_ok
 standard_in_record = refl

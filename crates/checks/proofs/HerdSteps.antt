@@ -1,4 +1,5 @@
 -- The steps of the checks of a herd and of a farm, each in the form that a place of the code wants. Assumes nothing.
+use Rattle.std.specs.Prelude.{Err}
 use Prim.Native.Nat.{ℕ, ◌+◌, ◌≤◌, ◌<◌}
 use mathlib.Core.Path.{◌≡◌, sym, ap, ◌∙◌}
 use mathlib.Core.Bool.{Bool, true, false, not}
@@ -8,20 +9,21 @@ use native.Mathlib.Omega.{arith}
 use lib.ListN.{length, get_or, take, drop}
 use lib.Seq.{take-suc}
 use borrow.Author.Tests.{lt-ltb, le-ltb}
+use Rattle.base.specs.declared.refusals.Refused.{Refused}
 use Rattle.base.specs.Pick.{pick}
 use Rattle.base.specs.First.{first}
 use Rattle.base.proofs.Picks.{flag_true, flag_false}
 use Rattle.base.specs.Each.{Each, none, more}
+use Rattle.base.specs.Refused.{refuse}
 use Rattle.farm.specs.Limits.{herds_most}
 use Rattle.farm.specs.declared.Label.{Label}
 use Rattle.farm.specs.declared.Herd.{Herd}
 use Rattle.farm.specs.declared.Farm.{Farm}
 use Rattle.farm.specs.declared.Refusal.{Refusal}
 use Rattle.farm.specs.declared.Refusal.TheVariants.{BadLabel, EarlierLabel, NoRoomForHerd}
-use Rattle.farm.specs.declared.Checked.{Checked}
-use Rattle.farm.specs.declared.Checked.TheVariants.{Accepted, Refused}
 use Rattle.farm.specs.Labels.{label_ok}
 use Rattle.farm.proofs.Left.{taken_at, taken-end}
+use Rattle.farm.specs.Answers.{Accepted, Checked}
 use Rattle.herd_tests.specs.Tests.{labels_of, earlier_label}
 use Rattle.checks.specs.Checks.{input_tests, herd_tests, herds_tests, herds_of, check_farm}
 use Rattle.checks.proofs.Tests.{first-append, Refusing, refusing, quiet-passes, accepted-quiet, refused-first}
@@ -47,7 +49,7 @@ pub herd-refusing : (earlier : List Label) (h : Herd) → Each Refusing (herd_te
 herd-refusing earlier h = more refusing (more refusing (inputs-refusing h))
 
 module _ (f : Farm) where
-  pub no_room : herds_most < f.count → Refused NoRoomForHerd 0 ≡ check_farm f
+  pub no_room : herds_most < f.count → refuse NoRoomForHerd 0 ≡ check_farm f
   unfolding check_farm
   no_room h = simp (lt-ltb herds_most f.count h)
 
@@ -55,7 +57,8 @@ module _ (f : Farm) where
   unfolding check_farm
   farm-start h = simp (le-ltb herds_most f.count h)
 
-  module _ (i : ℕ) (inv : first (herds_tests (labels_of (take i f.herds)) (drop i (herds_of f))) Accepted ≡ check_farm f)
+  module _ (i : ℕ)
+      (inv : first (herds_tests (labels_of (take i f.herds)) (drop i (herds_of f))) Accepted ≡ check_farm f)
     where
       module _ (long : length f.herds ≡ herds_most) (room : f.count ≤ herds_most) (b : i < f.count) (d : Herd) where
         abbrev h : Herd
@@ -82,12 +85,12 @@ module _ (f : Farm) where
             ∙ inv
 
         module _ (ok : Bool) (o : ok ≡ label_ok h.label) where
-          pub herd-labelled_badly : ok ≡ false → Refused BadLabel 0 ≡ check_farm f
+          pub herd-labelled_badly : ok ≡ false → refuse BadLabel 0 ≡ check_farm f
           herd-labelled_badly t = sym (rw (sym o, t)) ∙ next-herd
 
           module _ (good : ok ≡ true) where
             pub herd-labelled-again : (r : Bool) → r ≡ earlier_label (take i f.herds) h.label → r ≡ true
-                → Refused EarlierLabel 0 ≡ check_farm f
+                → refuse EarlierLabel 0 ≡ check_farm f
             unfolding earlier_label
             herd-labelled-again r e t = sym (rw (sym o, good, sym e ∙ t)) ∙ next-herd
 
@@ -100,8 +103,7 @@ module _ (f : Farm) where
               pub herd-accepted : r ≡ Accepted → after ≡ check_farm f
               herd-accepted t = sym (quiet-passes (accepted-quiet (inputs-refusing h) (sym e ∙ t)) after) ∙ own
 
-              pub herd-refused : {refusal : Refusal} {place : ℕ} → r ≡ Refused refusal place
-                  → Refused refusal place ≡ check_farm f
+              pub herd-refused : {why : Refused Refusal} → r ≡ Err why → Err why ≡ check_farm f
               herd-refused t = sym (refused-first (inputs-refusing h) (sym e ∙ t) after) ∙ own
 
       pub herds-accepted : f.count ≤ i → Accepted ≡ check_farm f

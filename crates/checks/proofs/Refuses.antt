@@ -12,21 +12,22 @@ use lib.Dec.{ltb}
 use lib.ListN.{length, get_or, take, drop, length-drop}
 use lib.Seq.{take-suc}
 use borrow.Author.Tests.{ltb-true, ltb-false}
+use Rattle.base.proofs.SameRefused.{same-refusal, same-record}
 use Rattle.base.specs.Pick.{pick}
 use Rattle.base.specs.First.{first}
 use Rattle.base.proofs.Clash.{clash}
+use Rattle.base.specs.Refused.{refuse}
 use Rattle.inputs.specs.Inputs.{Row, rows_of, last_of, form_of}
 use Rattle.farm.specs.declared.Label.{Label}
 use Rattle.farm.specs.declared.Herd.{Herd}
 use Rattle.farm.specs.declared.Farm.{Farm}
 use Rattle.farm.specs.declared.Refusal.{Refusal}
 use Rattle.farm.specs.declared.Refusal.TheVariants.{BadLabel, BadValue, EarlierLabel, NoRoomForHerd, InputMissing}
-use Rattle.farm.specs.declared.Checked.{Checked}
-use Rattle.farm.specs.declared.Checked.TheVariants.{Accepted, Refused}
 use Rattle.farm.specs.Limits.{herds_most}
 use Rattle.farm.specs.Labels.{label_ok}
 use Rattle.farm.specs.Herds.{no_herd}
 use Rattle.farm.proofs.Left.{left_at}
+use Rattle.farm.specs.Answers.{Accepted, Checked}
 use Rattle.herd_tests.specs.Tests.{lacks, has_label, labels_of}
 use Rattle.fits.specs.Fits.{unfit}
 use Rattle.first_refusal.proofs.Order.{Order, by_turn, one-of-first}
@@ -109,7 +110,7 @@ late h l = absurd (omega arith)
 data Result (before : List Herd) (h : Herd) (z : Checked) : Checked → Type 0 where
   quiet : ((refusal : Refusal) → Applies before h refusal → ⊥) → Result before h z z
   gives : {refusal : Refusal} {t : ℕ} → Turn refusal t → Applies before h refusal → NoneBelow before h t
-      → Result before h z (Refused refusal 0)
+      → Result before h z (refuse refusal 0)
 
 module _ (before : List Herd) (h : Herd) where
   abbrev rows : List Row
@@ -133,8 +134,8 @@ module _ (before : List Herd) (h : Herd) where
     where
       go : (a b c d : Bool) → label_ok h.label ≡ a → has_label (labels_of before) h.label ≡ b → lacks h ≡ c
           → unfit h ≡ d
-          → Result before h z (pick (not a) (Refused BadLabel 0) (pick b (Refused EarlierLabel 0)
-          (pick c (Refused InputMissing 0) (pick d (Refused BadValue 0) z))))
+          → Result before h z (pick (not a) (refuse BadLabel 0) (pick b (refuse EarlierLabel 0)
+          (pick c (refuse InputMissing 0) (pick d (refuse BadValue 0) z))))
       go false b c d ea eb ec ed =
           gives Turn.label (Applies.bad_label ea)
           (none_below 1 (late (omega arith)) (late (omega arith)) (late (omega arith)) (late (omega arith)))
@@ -167,7 +168,7 @@ Clean all k = (i : ℕ) (refusal : Refusal) → i < k → i < length all → At 
 data Results (all : List Herd) : Checked → Type 0 where
   all_quiet : Clean all (length all) → Results all Accepted
   given : {refusal : Refusal} {i t : ℕ} → i < length all → Turn refusal t → At all i refusal → Clean all i
-      → NoneBelow (take i all) (get_or all i no_herd) t → Results all (Refused refusal 0)
+      → NoneBelow (take i all) (get_or all i no_herd) t → Results all (refuse refusal 0)
 
 module _ (all : List Herd) where
   module _ (k : ℕ) (clean : Clean all k) where
@@ -252,7 +253,7 @@ record_gets (herd h) = by-herds (herd h) only-herds (results (h ∷ []))
 record_gets (farm f) = go (ltb herds_most f.count) refl
   where
     go : (t : Bool) → ltb herds_most f.count ≡ t
-        → RecordGets (farm f) (pick t (Refused NoRoomForHerd 0) (first (herds_tests [] (herds_of f)) Accepted))
+        → RecordGets (farm f) (pick t (refuse NoRoomForHerd 0) (first (herds_tests [] (herds_of f)) Accepted))
     go true e =
         let many = ltb-true herds_most f.count e in
         gets_refusal (record {
@@ -277,14 +278,14 @@ one-first a b =
 -- ---- the theorems
 
 pub record_refused : (x : Handed) (n : ℕ) (refusal : Refusal)
-    → (check_of x ≡ Refused refusal n) ↔ (FirstOfRecord x refusal × (n ≡ 0))
+    → (check_of x ≡ refuse refusal n) ↔ (FirstOfRecord x refusal × (n ≡ 0))
 record_refused x n refusal = (told (record_gets x), found (record_gets x))
   where
-    told : {c : Checked} → RecordGets x c → c ≡ Refused refusal n → FirstOfRecord x refusal × (n ≡ 0)
+    told : {c : Checked} → RecordGets x c → c ≡ refuse refusal n → FirstOfRecord x refusal × (n ≡ 0)
     told (fine none) e = clash cc
-    told (gets_refusal {refusal = f} first) e = let p : f ≡ refusal = cc in let q : n ≡ 0 = cc in (rw p at first, q)
+    told (gets_refusal {refusal = f} first) e = (rw (same-refusal e) at first, sym (same-record e))
 
-    found : {c : Checked} → RecordGets x c → FirstOfRecord x refusal × (n ≡ 0) → c ≡ Refused refusal n
+    found : {c : Checked} → RecordGets x c → FirstOfRecord x refusal × (n ≡ 0) → c ≡ refuse refusal n
     found (fine none) w = absurd (none w.0.place refusal w.0.is_first.applies)
     found (gets_refusal {refusal = f} y) w = let p = one-first y w.0 in rw (p, w.1)
 

@@ -1,16 +1,18 @@
 -- Lists of tests that refuse: what it means that none of them holds, and what the first that holds gives. Assumes
 -- nothing.
+use Rattle.std.specs.Prelude.{Err}
 use Prim.Native.Nat.{ℕ}
 use mathlib.Core.Path.{◌≡◌, refl, ap}
 use mathlib.Core.Bool.{Bool, true, false, ◌||◌}
 use mathlib.Core.List.{List, [], ◌∷◌, ◌++◌}
+use Rattle.base.specs.declared.refusals.Refused.{Refused}
 use Rattle.base.specs.Pick.{pick}
 use Rattle.base.specs.First.{Test, ◌when◌, first}
 use Rattle.base.proofs.Clash.{clash}
 use Rattle.base.specs.Each.{Each, none, more}
+use Rattle.base.specs.Refused.{refuse}
 use Rattle.farm.specs.declared.Refusal.{Refusal}
-use Rattle.farm.specs.declared.Checked.{Checked}
-use Rattle.farm.specs.declared.Checked.TheVariants.{Accepted, Refused}
+use Rattle.farm.specs.Answers.{Accepted, Checked}
 
 -- of two tests neither holds
 pub neither : (a b : Bool) → (a || b) ≡ false → (a ≡ false) × (b ≡ false)
@@ -24,7 +26,7 @@ first-append (l ∷ a) b z = ap (pick l.holds l.answer) (first-append a b z)
 
 -- a test that refuses
 pub data Refusing : Test Checked → Type 0 where
-  refusing : {refusal : Refusal} {place : ℕ} {t : Bool} → Refusing (Refused refusal place when t)
+  refusing : {why : Refused Refusal} {t : Bool} → Refusing (Err why when t)
 
 -- none of the tests holds
 abbrev pub Quiet : List (Test Checked) → Type 0
@@ -38,22 +40,22 @@ quiet-passes (more e q) z = rw e (quiet-passes q z)
 -- tests that refuse accept only where none holds
 pub accepted-quiet : {ls : List (Test Checked)} → Each Refusing ls → first ls Accepted ≡ Accepted → Quiet ls
 accepted-quiet none e = none
-accepted-quiet (more {l = ls} (refusing {refusal} {place} {t}) rs) e = go t e (accepted-quiet rs)
+accepted-quiet (more {l = ls} (refusing {why} {t}) rs) e = go t e (accepted-quiet rs)
   where
-    go : (t : Bool) → pick t (Refused refusal place) (first ls Accepted) ≡ Accepted
-        → (first ls Accepted ≡ Accepted → Quiet ls) → Quiet (Refused refusal place when t ∷ ls)
+    go : (t : Bool) → pick t (Err why) (first ls Accepted) ≡ Accepted
+        → (first ls Accepted ≡ Accepted → Quiet ls) → Quiet (Err why when t ∷ ls)
     go true h rest = clash cc
     go false h rest = more refl (rest h)
 
 -- and a refusal is given whatever stands behind them
-pub refused-first : {ls : List (Test Checked)} {refusal : Refusal} {place : ℕ} → Each Refusing ls
-    → first ls Accepted ≡ Refused refusal place → (z : Checked) → first ls z ≡ Refused refusal place
+pub refused-first : {ls : List (Test Checked)} {why : Refused Refusal} → Each Refusing ls
+    → first ls Accepted ≡ Err why → (z : Checked) → first ls z ≡ Err why
 refused-first none e z = cc
-refused-first {refusal} {place} (more {l = ls} (refusing {refusal = f} {place = p} {t}) rs) e z =
+refused-first {why} (more {l = ls} (refusing {why = f} {t}) rs) e z =
     go t e (λ h. refused-first rs h z)
   where
-    go : (t : Bool) → pick t (Refused f p) (first ls Accepted) ≡ Refused refusal place
-        → (first ls Accepted ≡ Refused refusal place → first ls z ≡ Refused refusal place)
-        → pick t (Refused f p) (first ls z) ≡ Refused refusal place
+    go : (t : Bool) → pick t (Err f) (first ls Accepted) ≡ Err why
+        → (first ls Accepted ≡ Err why → first ls z ≡ Err why)
+        → pick t (Err f) (first ls z) ≡ Err why
     go true h rest = h
     go false h rest = rest h

@@ -8,14 +8,14 @@ use Rattle.farm.specs.declared.Herd.{Herd}
 use Rattle.farm.specs.declared.Farm.{Farm}
 use Rattle.farm.specs.declared.Refusal.{Refusal}
 use Rattle.farm.specs.declared.Refusal.TheVariants.{BadLabel, BadValue, EarlierLabel, NoRoomForHerd, InputMissing}
-use Rattle.farm.specs.declared.Checked.{Checked}
-use Rattle.farm.specs.declared.Checked.TheVariants.{Accepted, Refused}
 use Rattle.farm.specs.Limits.{herds_most}
 use Rattle.farm.specs.Labels.{label_ok, same_label}
 use Rattle.farm.specs.Herds.{no_slot, no_herd}
+use Rattle.farm.specs.Answers.{Accepted, Checked}
 use Rattle.first_refusal.specs.First.{FirstOf}
 use Rattle.fits.specs.Fits.{OutOfRange}
 use Rattle.checks.specs.Checks.{check_herd, herds_of, check_farm}
+use Rattle.base.specs.Refused.{refuse}
 
 -- ---- 4, 8, 12, 7, of the herd h that stands behind these
 
@@ -74,4 +74,4 @@ pub record FirstOfRecord (x : Handed) (refusal : Refusal) : Type 0 where
 -- what its checks say: that none applies; or the first, "always with record 0"
 pub data RecordGets (x : Handed) : Checked → Type 0 where
   fine : ((place : ℕ) (refusal : Refusal) → AppliesAt x place refusal → ⊥) → RecordGets x Accepted
-  gets_refusal : {refusal : Refusal} → FirstOfRecord x refusal → RecordGets x (Refused refusal 0)
+  gets_refusal : {refusal : Refusal} → FirstOfRecord x refusal → RecordGets x (refuse refusal 0)

@@ -1,6 +1,7 @@
 // A text to a descriptor that the command line names by its number. Where that is closed, or takes nothing, there is
 // nobody to tell.
 use crate::Surroundings;
+use message_lines::Line;
 use std::fs;
 use std::fs::OpenOptions;
 use std::io::{Error, ErrorKind, Result, Write};
@@ -10,16 +11,15 @@ const OUTPUT: i32 = 1;
 
 const ERROR: i32 = 2;
 
-// Longer than any path of a descriptor.
-const PATH_MOST: usize = 64;
-
 // Who has a descriptor open for writing has this right on its path.
 const WRITER: u32 = 0o200;
 
-// The path by which the system opens a descriptor's file once more, and its length.
-fn put_path(path: &mut [u8], fd: i32) -> usize {
-    let a = message_lines::add(path, 0, b"/proc/self/fd/");
-    message_lines::add_number(path, a, fd.unsigned_abs() as u64)
+// The path by which the system opens a descriptor's file once more.
+fn path_of(fd: i32) -> Line {
+    let mut path = Line::new();
+    path.add(b"/proc/self/fd/");
+    path.add_number(u64::from(fd.unsigned_abs()));
+    path
 }
 
 // Is the descriptor open for writing? The file itself may well be written, where the descriptor only reads it.
@@ -38,9 +38,8 @@ fn append(rt: &impl Surroundings, path: &str, text: &[u8]) -> Result<()> {
 }
 
 fn write_by_path(rt: &impl Surroundings, fd: i32, text: &[u8]) {
-    let mut path = [0u8; PATH_MOST];
-    let n = put_path(&mut path, fd);
-    if let Ok(path) = str::from_utf8(base::part_of(&path, 0, n)) {
+    let path = path_of(fd);
+    if let Ok(path) = str::from_utf8(path.said()) {
         let _ = append(rt, path, text);
     }
 }

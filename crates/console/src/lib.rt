@@ -16,7 +16,7 @@ pub trait Surroundings: Env + Files + Input + Print + Tell {}
 impl Surroundings for HostRuntime {}
 
 // How a run ended: the answer was printed, the file was refused, or neither.
-#[derive(Clone, Copy)]
+#[derive(Clone, Copy, Debug, PartialEq, Eq)]
 pub enum Ended {
     Printed,
     Refused,

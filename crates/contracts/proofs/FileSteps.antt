@@ -1,5 +1,7 @@
 -- The steps of the writing calls on a file: a farm that is read passes the record checks, so what the calls on its
 -- records give is what the calls on the file give. Assumes nothing.
+use Rattle.base.specs.declared.refusals.Refused.{Refused}
+use Rattle.std.specs.Prelude.{Ok, Err}
 use Prim.Native.Nat.{ℕ, zero, suc, ◌+◌, ◌*◌, ◌<◌, ◌≤◌}
 use mathlib.Core.Path.{◌≡◌, refl, sym, ap, ◌∙◌}
 use mathlib.Core.Bool.{Bool, false}
@@ -12,14 +14,14 @@ use mir.Syntax.{w64}
 use mir.Val.{Fits}
 use Rattle.base.specs.Wrote.{Wrote}
 use Rattle.base.proofs.Each.{each-get_or}
+use Rattle.base.specs.Refused.{refuse}
 use Rattle.farm.specs.Limits.{herds_most}
 use Rattle.farm.specs.declared.Herd.{Herd}
 use Rattle.farm.specs.declared.Farm.{Farm}
 use Rattle.farm.specs.declared.Refusal.{Refusal}
-use Rattle.farm.specs.declared.Checked.{Checked}
-use Rattle.farm.specs.declared.Checked.TheVariants as checks
 use Rattle.checks.specs.Checks.{check_herd, check_farm, herds_of}
 use Rattle.farm.specs.Herds.{no_herd}
+use Rattle.farm.specs.Answers.{Accepted, Checked}
 use Rattle.checks.proofs.Accepts.{farm-count, farm-each}
 use Rattle.limits.specs.declared.Source.{Source}
 use Rattle.limits.specs.Limits.{limits_of}
@@ -28,9 +30,7 @@ use Rattle.reader.specs.Files.{read_of, accepted}
 use Rattle.rules_theorems.proofs.Allowed.{allowed-fit}
 use Rattle.rules_theorems.proofs.Accepts.{accepts-exactly}
 use Rattle.rules_theorems.proofs.Passing.{accepted-passes}
-use Rattle.written.specs.declared.Written.{Written}
-use Rattle.written.specs.declared.Written.TheVariants.{Length, Refused}
-use Rattle.written.specs.Answer.{leaves, answers, Answered}
+use Rattle.written.specs.Answer.{leaves, answers, Answered, Written}
 use Rattle.written.proofs.Answers.{written}
 use Rattle.views.specs.declared.View.{View}
 use Rattle.views.specs.Views.{viewed, has_limit}
@@ -51,19 +51,19 @@ empty-leaves : (old : List ℕ) → old ≡ leaves [] old
 unfolding leaves
 empty-leaves old = rw (le-leb 0 (length old) (omega arith))
 
-empty-answers : (old : List ℕ) → Length 0 ≡ answers [] old
+empty-answers : (old : List ℕ) → Ok 0 ≡ answers [] old
 unfolding answers
 empty-answers old = rw (le-leb 0 (length old) (omega arith))
 
 module _ (source : Source) (s : List ℕ) (a : FileAnswer) (q : a ≡ read_of (limits_of source) s) where
-  module _ (e : a.checked ≡ checks.Accepted) where
+  module _ (e : a.checked ≡ Accepted) where
     pub as-accepted : read_of (limits_of source) s ≡ accepted a.farm
     as-accepted = sym q ∙ as_is a.checked e
       where
-        as_is : (k : Checked) → k ≡ checks.Accepted → record { checked = k; farm = a.farm } ≡ accepted a.farm
+        as_is : (k : Checked) → k ≡ Accepted → record { checked = k; farm = a.farm } ≡ accepted a.farm
         as_is k w = rw w
 
-    pub passes : check_farm a.farm ≡ checks.Accepted
+    pub passes : check_farm a.farm ≡ Accepted
     passes = accepted-passes source s a.farm as-accepted
 
     long : length a.farm.herds ≡ herds_most
@@ -82,7 +82,7 @@ module _ (source : Source) (s : List ℕ) (a : FileAnswer) (q : a ≡ read_of (l
         → get_or a.farm.herds i d ≡ get_or a.farm.herds i no_herd
     herd-at i d h = inside a.farm.herds i d no_herd (omega (arith, long, farm-count a.farm passes))
 
-    herd-passes : (i : ℕ) (d : Herd) → i < a.farm.count → check_herd (get_or a.farm.herds i d) ≡ checks.Accepted
+    herd-passes : (i : ℕ) (d : Herd) → i < a.farm.count → check_herd (get_or a.farm.herds i d) ≡ Accepted
     herd-passes i d h =
         let l : i < length (herds_of a.farm) =
         omega (arith, length-take a.farm.count a.farm.herds, long, farm-count a.farm passes) in
@@ -101,7 +101,7 @@ module _ (source : Source) (s : List ℕ) (a : FileAnswer) (q : a ≡ read_of (l
         }
 
     pub is-past-herds : (v : View) (i : ℕ) (old : List ℕ) → a.farm.count ≤ i
-        → Called (file_herd_call source v s i) old old (Length 0)
+        → Called (file_herd_call source v s i) old old (Ok 0)
     unfolding file_herd_call
     is-past-herds v i old h =
         record {
@@ -141,24 +141,25 @@ module _ (source : Source) (s : List ℕ) (a : FileAnswer) (q : a ≡ read_of (l
 
     pub is-file-put : (v : View) (b : Bool) → b ≡ has_limit v → b ≡ false → (old new : List ℕ) (r : ℕ)
         → view_room a.farm.count ≤ length old → Wrote old 0 (viewed v a.farm) new r
-        → r ≤ view_room a.farm.count → Called (file_call source v s) old new (Length r)
-    is-file-put v b is t old new r room w h = is-file_view v b is t old new (Length r) (written refl w (omega arith))
+        → r ≤ view_room a.farm.count → Called (file_call source v s) old new (Ok r)
+    is-file-put v b is t old new r room w h = is-file_view v b is t old new (Ok r) (written refl w (omega arith))
 
-  module _ (refusal : Refusal) (at_record : ℕ) (e : a.checked ≡ checks.Refused refusal at_record) (old : List ℕ) where
-    pub refusing : (read_of (limits_of source) s).checked ≡ checks.Refused refusal at_record
+  module _ (why : Refused Refusal) (e : a.checked ≡ Err why) (old : List ℕ) where
+    pub refusing : (read_of (limits_of source) s).checked ≡ Err why
     refusing = rw q at e
 
-    pub is-herd_unread : (v : View) (i : ℕ) → Called (file_herd_call source v s i) old old (Refused refusal at_record)
+    pub is-herd_unread : (v : View) (i : ℕ) (r : Written) → r ≡ Err why
+        → Called (file_herd_call source v s i) old old r
     unfolding file_herd_call
-    is-herd_unread v i = record { buffer = rw refusing; answer = rw refusing }
+    is-herd_unread v i r same = record { buffer = rw refusing; answer = rw refusing same }
 
-    pub is-totals_unread : Called (file_totals_call source s) old old (Refused refusal at_record)
+    pub is-totals_unread : (r : Written) → r ≡ Err why → Called (file_totals_call source s) old old r
     unfolding file_totals_call
-    is-totals_unread = record { buffer = rw refusing; answer = rw refusing }
+    is-totals_unread r same = record { buffer = rw refusing; answer = rw refusing same }
 
-    pub is_view_unread : (v : View) → Called (file_call source v s) old old (Refused refusal at_record)
+    pub is_view_unread : (v : View) (r : Written) → r ≡ Err why → Called (file_call source v s) old old r
     unfolding file_call
-    is_view_unread v = record { buffer = rw refusing; answer = rw refusing }
+    is_view_unread v r same = record { buffer = rw refusing; answer = rw refusing same }
 
 pub ruleset file_steps =
     (in_array, place-fits, is-file-herd, is-past-herds, is-file-totals, is-herd_unread, is-totals_unread)

@@ -1,5 +1,6 @@
 -- The calls that write what a file's farm has do what the rules ask: the first refusal, or the very view of the herd or
 -- of the farm, or the totals, or that a file would be too long; and so what the program prints. Assumes nothing.
+use Rattle.std.specs.Prelude.{Ok}
 use Prim.Native.Nat.{ℕ, ◌-◌, ◌<◌}
 use mathlib.Core.Path.{◌≡◌, refl, ap, ◌∙◌}
 use mathlib.Core.List.{List, ◌++◌, map}
@@ -8,14 +9,15 @@ use native.Mathlib.Omega.{arith}
 use borrow.Author.Tests.{lt-ltb, le-ltb, le-leb, lt-leb}
 use lib.ListN.{length, get_or, replicate}
 use Rattle.base.specs.Wrote.{Wrote}
+use Rattle.base.specs.Refused.{refuse}
 use Rattle.farm.specs.declared.Herd.{Herd}
 use Rattle.farm.specs.declared.Farm.{Farm}
 use Rattle.farm.specs.declared.Refusal.{Refusal}
 use Rattle.farm.specs.declared.Refusal.TheVariants.{FileTooLong}
-use Rattle.farm.specs.declared.Checked.TheVariants as checks
 use Rattle.farm.specs.Refusals.{number}
 use Rattle.farm.specs.Limits.{herds_most}
 use Rattle.farm.specs.Herds.{no_herd}
+use Rattle.farm.specs.Answers.{Accepted}
 use Rattle.checks.specs.Checks.{herds_of, check_farm}
 use Rattle.limits.specs.declared.Source.{Source}
 use Rattle.limits.specs.declared.Source.TheVariants.{Cooperative}
@@ -29,9 +31,7 @@ use Rattle.rules_theorems.proofs.Passing.{accepted-passes}
 use Rattle.rules_theorems.proofs.Refuses.{first-refusal}
 use Rattle.outputs.specs.Grams.{totals_of}
 use Rattle.model.specs.Answers.{herd_figures, farm_answer}
-use Rattle.written.specs.declared.Written.{Written}
-use Rattle.written.specs.declared.Written.TheVariants.{Length}
-use Rattle.written.specs.Answer.{leaves, answers}
+use Rattle.written.specs.Answer.{leaves, answers, Written}
 use Rattle.refusal_line.specs.Lines.{refusal_line}
 use Rattle.listing.specs.Listing.{totals_listing}
 use Rattle.lines_figures.specs.Lines.{farm_listing}
@@ -54,13 +54,14 @@ pub at-inside : {hs : List Herd} {i : ℕ} {h : Herd} → At hs i h → i < leng
 at-inside here = omega arith
 at-inside (there a) = omega (arith, at-inside a)
 
-pub at-is : {hs : List Herd} {i : ℕ} {h : Herd} → At hs i h → (rest : List Herd) (d : Herd) → get_or (hs ++ rest) i d ≡ h
+pub at-is : {hs : List Herd} {i : ℕ} {h : Herd} → At hs i h → (rest : List Herd) (d : Herd)
+    → get_or (hs ++ rest) i d ≡ h
 at-is here rest d = refl
 at-is (there a) rest d = at-is a rest d
 
 -- ---- what a view lists of a farm that the checks accept, by its herds
 
-pub viewed-is : (v : View) (f : Farm) → check_farm f ≡ checks.Accepted → viewed v f ≡ view_text v (herds_of f)
+pub viewed-is : (v : View) (f : Farm) → check_farm f ≡ Accepted → viewed v f ≡ view_text v (herds_of f)
 unfolding viewed farm_listing herd_text
 viewed-is Figures f e = rw (farm_figured f e)
 viewed-is Notes f e = refl
@@ -71,7 +72,7 @@ viewed-is File f e = refl
 
 -- ---- a view within its limit, or beyond it
 
-pub in_limit : (v : View) (f : Farm) → InLimit v (viewed v f) → view_checked v f ≡ checks.Accepted
+pub in_limit : (v : View) (f : Farm) → InLimit v (viewed v f) → view_checked v f ≡ Accepted
 unfolding view_checked file_checked allowed
 in_limit Figures f h = refl
 in_limit Notes f h = refl
@@ -81,14 +82,14 @@ in_limit Sentences f h = refl
 in_limit File f h = rw (le-ltb cooperative_bytes (length (viewed File f)) (h refl))
 
 pub beyond : (f : Farm) → (allowed Cooperative).bytes < length (viewed File f)
-    → view_checked File f ≡ checks.Refused FileTooLong 0
+    → view_checked File f ≡ refuse FileTooLong 0
 unfolding view_checked file_checked allowed
 beyond f h = rw (lt-ltb cooperative_bytes (length (viewed File f)) h)
 
 -- ---- a file that keeps the rules
 
 abbrev writes : List ℕ → Call
-writes l = record { checked = checks.Accepted; listing = l }
+writes l = record { checked = Accepted; listing = l }
 
 module _ (source : Source) {s : List ℕ} {f : Farm} (k : KeepsRules (allowed source) s f) where
   abbrev hs : List Herd
@@ -111,11 +112,11 @@ module _ (source : Source) {s : List ℕ} {f : Farm} (k : KeepsRules (allowed so
   view_is : (v : View) → viewed v (farm_of hs) ≡ view_text v hs
   view_is v = viewed-is v (farm_of hs) (accepted-passes source s (farm_of hs) read_as) ∙ ap (view_text v) (herds-of hs)
 
-  within : (v : View) → InLimit v (view_text v hs) → view_checked v (farm_of hs) ≡ checks.Accepted
+  within : (v : View) → InLimit v (view_text v hs) → view_checked v (farm_of hs) ≡ Accepted
   within v h = in_limit v (farm_of hs) (rw (view_is v) h)
 
   over : (allowed Cooperative).bytes < length (view_text File hs)
-      → view_checked File (farm_of hs) ≡ checks.Refused FileTooLong 0
+      → view_checked File (farm_of hs) ≡ refuse FileTooLong 0
   over h = beyond (farm_of hs) (rw (view_is File) h)
 
   -- what the call's contract says of it
@@ -126,7 +127,7 @@ module _ (source : Source) {s : List ℕ} {f : Farm} (k : KeepsRules (allowed so
   accepting the_totals = rw read_as (ap writes totals-are)
   accepting (the_whole v h) = rw (read_as, within v h) (ap writes (view_is v))
 
-  passing : {c : FileCall} → Passes hs c → (call_of source c s).checked ≡ checks.Refused FileTooLong 0
+  passing : {c : FileCall} → Passes hs c → (call_of source c s).checked ≡ refuse FileTooLong 0
   unfolding file_call
   passing (the_file h) = rw read_as (over h)
 
@@ -144,7 +145,7 @@ module _ (source : Source) {s : List ℕ} {n : ℕ} {refusal : Refusal} (r : Fir
   pub read-not : read_of (limits_of source) s ≡ refused n refusal
   read-not = (first-refusal source s n refusal).1 r
 
-  refusing : (c : FileCall) → (call_of source c s).checked ≡ checks.Refused refusal n
+  refusing : (c : FileCall) → (call_of source c s).checked ≡ refuse refusal n
   unfolding file_herd_call file_totals_call file_call
   refusing (of_herd v i) = rw read-not
   refusing of_totals = rw read-not
@@ -180,6 +181,6 @@ file-printed {source} {v = v} (the_refusal x) w =
     (rw (printed-refusal source x v) at w.bytes, rw (read-not source x) at w.ended)
 file-printed {source} {v = v} (the_view k h) w =
     let b = rw (printed_view source k v h) at w.bytes in
-    (b, (rw (read_as source k, within source k v h) at w.ended) ∙ ap Length (b.past ∙ zero-add _))
+    (b, (rw (read_as source k, within source k v h) at w.ended) ∙ ap Ok (b.past ∙ zero-add _))
 file-printed {source} (too_long k (the_file h)) w =
     (rw (printed-over source k (the_file h)) at w.bytes, rw (read_as source k, over source k h) at w.ended)

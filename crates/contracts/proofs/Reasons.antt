@@ -1,4 +1,6 @@
 -- 02, W2, the reason of a herd of a file: the steps of the code, and that it is what the rules ask. Assumes nothing.
+use Rattle.base.specs.declared.refusals.Refused.{Refused}
+use Rattle.std.specs.Prelude.{None, Ok, Err}
 use Prim.Native.Nat.{ℕ, ◌≤◌, ◌<◌}
 use mathlib.Core.Path.{◌≡◌, ap, ◌∙◌}
 use mathlib.Core.List.{List, []}
@@ -6,23 +8,22 @@ use lib.ListN.{length, get_or}
 use borrow.Author.Tests.{lt-ltb, le-ltb}
 use Rattle.farm.specs.declared.Herd.{Herd}
 use Rattle.farm.specs.declared.Refusal.{Refusal}
-use Rattle.farm.specs.declared.Checked.TheVariants as checks
 use Rattle.farm.specs.Herds.{no_herd}
+use Rattle.farm.specs.Answers.{Accepted}
 use Rattle.limits.specs.declared.Source.{Source}
 use Rattle.limits.specs.Limits.{limits_of}
 use Rattle.reader.specs.declared.FileAnswer.{FileAnswer}
 use Rattle.reader.specs.Files.{read_of}
-use Rattle.reasons.specs.declared.ReasonAnswer.{ReasonAnswer}
-use Rattle.reasons.specs.declared.ReasonAnswer.TheVariants.{NoHerd, Refused}
-use Rattle.reasons.specs.Answers.{reason_answer}
+use Rattle.reasons.specs.Answers.{reason_answer, ReasonAnswer}
 use Rattle.contracts.specs.Reasons.{file_reason, ReasonByTheRules}
 use Rattle.contracts.proofs.FileSteps.{in_array, place-fits, as-accepted, herd-at, refusing}
 use Rattle.contracts.proofs.Files.{at-inside, at-is, places, read_as, read-not}
+use Rattle.base.specs.Refused.{refuse}
 
 -- ---- the code's steps
 
 module _ (source : Source) (s : List ℕ) (a : FileAnswer) (q : a ≡ read_of (limits_of source) s) where
-  module _ (e : a.checked ≡ checks.Accepted) (i : ℕ) where
+  module _ (e : a.checked ≡ Accepted) (i : ℕ) where
     pub is-file-reason : (d : Herd) (r : ReasonAnswer) → i < a.farm.count
         → r ≡ reason_answer (get_or a.farm.herds i d) → r ≡ file_reason source s i
     unfolding file_reason
@@ -30,14 +31,14 @@ module _ (source : Source) (s : List ℕ) (a : FileAnswer) (q : a ≡ read_of (l
         er ∙ rw (as-accepted source s a q e, lt-ltb i a.farm.count h)
         (ap reason_answer (herd-at source s a q e i d h))
 
-    pub is-no-herd : a.farm.count ≤ i → NoHerd ≡ file_reason source s i
+    pub is-no-herd : a.farm.count ≤ i → Ok None ≡ file_reason source s i
     unfolding file_reason
     is-no-herd h = rw (as-accepted source s a q e, le-ltb i a.farm.count h)
 
-  pub is_unread : (refusal : Refusal) (at_record i : ℕ) → a.checked ≡ checks.Refused refusal at_record
-      → Refused refusal at_record ≡ file_reason source s i
+  pub is_unread : (why : Refused Refusal) (i : ℕ) (r : ReasonAnswer) → a.checked ≡ Err why → r ≡ Err why
+      → r ≡ file_reason source s i
   unfolding file_reason
-  is_unread refusal at_record i e = rw (refusing source s a q refusal at_record e [])
+  is_unread why i r e same = rw (refusing source s a q why e []) same
 
 pub ruleset file_reason_steps = (in_array, place-fits, is-file-reason, is-no-herd, is_unread)
 

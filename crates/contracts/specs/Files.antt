@@ -2,7 +2,7 @@
 -- `rules_theorems`) and not by how it is read: the first refusal, or what the view lists of the herds that its records
 -- say, or their totals; and where the view is a file that would be too long, refusal 1. proofs/Files.antt shows that
 -- the calls do exactly that. To be believed.
-use Rattle.std.specs.Prelude.{ℕ, suc, ◌≤◌, ◌<◌, ◌≡◌, List, [], ◌∷◌, ◌++◌, map, length, drop}
+use Rattle.std.specs.Prelude.{ℕ, suc, ◌≤◌, ◌<◌, ◌≡◌, List, [], ◌∷◌, ◌++◌, map, length, drop, Ok}
 use Rattle.refusal_line.specs.Lines.{refusal_line}
 use Rattle.farm.specs.declared.Herd.{Herd}
 use Rattle.farm.specs.declared.Farm.{Farm}
@@ -16,14 +16,14 @@ use Rattle.rules_theorems.specs.Refusals.{First}
 use Rattle.typed_inputs.specs.Typed.{typed_of}
 use Rattle.outputs.specs.Grams.{totals_of}
 use Rattle.herd.specs.Herd.{figures_of}
-use Rattle.written.specs.declared.Written.{Written}
-use Rattle.written.specs.declared.Written.TheVariants.{Length, Refused}
 use Rattle.line_parts.specs.Fields.{each}
 use Rattle.listing.specs.Listing.{totals_listing}
 use Rattle.views.specs.declared.View.{View}
 use Rattle.views.specs.declared.View.TheVariants.{Figures, Notes, Cuts, Reasons, Sentences, File}
 use Rattle.views.specs.Views.{herd_text}
 use Rattle.contracts.specs.Listings.{Call, file_herd_call, file_totals_call, file_call}
+use Rattle.base.specs.Refused.{refuse}
+use Rattle.written.specs.Answer.{Written}
 
 -- the calls, each with its contract
 pub data FileCall : Type 0 where
@@ -74,20 +74,20 @@ pub data Passes (hs : List Herd) : FileCall → Type 0 where
 -- ---- what a call on a file s, from this source, leaves and says
 
 pub record ByTheRules (source : Source) (s : List ℕ) (c : FileCall) (old new : List ℕ) (r : Written) : Type 0 where
-  pub refused : {n : ℕ} {refusal : Refusal} → First (allowed source) s n refusal → (new ≡ old) × (r ≡ Refused refusal n)
+  pub refused : {n : ℕ} {refusal : Refusal} → First (allowed source) s n refusal → (new ≡ old) × (r ≡ refuse refusal n)
   pub listed : {f : Farm} {l : List ℕ} (k : KeepsRules (allowed source) s f) → Lists k.says.herds c l
-      → length l ≤ length old → (new ≡ l ++ drop (length l) old) × (r ≡ Length (length l))
+      → length l ≤ length old → (new ≡ l ++ drop (length l) old) × (r ≡ Ok (length l))
   pub too_short : {f : Farm} {l : List ℕ} (k : KeepsRules (allowed source) s f) → Lists k.says.herds c l
-      → length old < length l → (new ≡ old) × (r ≡ Refused BufferTooShort 0)
+      → length old < length l → (new ≡ old) × (r ≡ refuse BufferTooShort 0)
   pub too_long : {f : Farm} (k : KeepsRules (allowed source) s f) → Passes k.says.herds c
-      → (new ≡ old) × (r ≡ Refused FileTooLong 0)
+      → (new ≡ old) × (r ≡ refuse FileTooLong 0)
 
 -- ---- what a command that asks for this view prints for a file, and how the run ended
 
 pub data Prints (source : Source) (s : List ℕ) (v : View) : List ℕ → Written → Type 0 where
   the_refusal : {n : ℕ} {refusal : Refusal} → First (allowed source) s n refusal
-      → Prints source s v (refusal_line (number refusal) n) (Refused refusal n)
+      → Prints source s v (refusal_line (number refusal) n) (refuse refusal n)
   the_view : {f : Farm} (k : KeepsRules (allowed source) s f) → InLimit v (view_text v k.says.herds)
-      → Prints source s v (view_text v k.says.herds) (Length (length (view_text v k.says.herds)))
+      → Prints source s v (view_text v k.says.herds) (Ok (length (view_text v k.says.herds)))
   too_long : {f : Farm} (k : KeepsRules (allowed source) s f) → Passes k.says.herds (of_all v)
-      → Prints source s v (refusal_line (number FileTooLong) 0) (Refused FileTooLong 0)
+      → Prints source s v (refusal_line (number FileTooLong) 0) (refuse FileTooLong 0)

@@ -2,21 +2,18 @@
 -- so does 1 where a farm's file would be too long (02, W12). 01: "13 belongs to the writing calls alone, one a herd and
 -- one for the totals." "Only then 13." "A herd call asked for a herd past the last of an accepted farm has an empty
 -- listing: length 0, nothing written."
-use Rattle.std.specs.Prelude.{ℕ, ◌≡◌, List, [], get_or, ltb}
+use Rattle.std.specs.Prelude.{ℕ, ◌≡◌, List, [], get_or, ltb, Err}
 use Rattle.base.specs.Pick.{pick}
 use Rattle.farm.specs.declared.Herd.{Herd}
 use Rattle.farm.specs.declared.Farm.{Farm}
-use Rattle.farm.specs.declared.Checked.{Checked}
-use Rattle.farm.specs.declared.Checked.TheVariants as checks
 use Rattle.checks.specs.Checks.{check_herd, check_farm}
 use Rattle.farm.specs.Herds.{no_herd}
+use Rattle.farm.specs.Answers.{Accepted, Checked}
 use Rattle.model.specs.Answers.{farm_answer}
 use Rattle.limits.specs.declared.Source.{Source}
 use Rattle.limits.specs.Limits.{limits_of}
 use Rattle.reader.specs.Files.{read_of}
-use Rattle.written.specs.declared.Written.{Written}
-use Rattle.written.specs.declared.Written.TheVariants.{Refused}
-use Rattle.written.specs.Answer.{leaves, answers}
+use Rattle.written.specs.Answer.{leaves, answers, Written}
 use Rattle.listing.specs.Listing.{totals_listing}
 use Rattle.views.specs.declared.View.{View}
 use Rattle.views.specs.Views.{herd_text, viewed, view_checked, checked_for}
@@ -29,13 +26,13 @@ pub record Call : Type 0 where
 
 -- the buffer afterwards
 abbrev pub left : Checked → List ℕ → List ℕ → List ℕ
-left checks.Accepted listing old = leaves listing old
-left (checks.Refused refusal at) listing old = old
+left Accepted listing old = leaves listing old
+left (Err refused) listing old = old
 
 -- the answer
 abbrev pub answer_of : Checked → List ℕ → List ℕ → Written
-answer_of checks.Accepted listing old = answers listing old
-answer_of (checks.Refused refusal at) listing old = Refused refusal at
+answer_of Accepted listing old = answers listing old
+answer_of (Err refused) listing old = Err refused
 
 pub record Called (c : Call) (old new : List ℕ) (r : Written) : Type 0 where
   pub buffer : new ≡ left c.checked c.listing old

@@ -80,7 +80,8 @@ module _ {s : List ℕ} {at : ℕ} {f : Fields} {X : Step} (g : Going s at f X) 
   row-broken e = rw (row_from, sym q ∙ e) at (a_turn g).goes
 
 -- the field after a comma begins past this one, and within the file; there are no more fields than bytes were passed
-module _ (s : List ℕ) (at : ℕ) (r : FieldEnd) (p : Place) (n : ℕ) (q : r ≡ field_from at (drop at s)) (h : at ≤ length s)
+module _ (s : List ℕ) (at : ℕ) (r : FieldEnd) (p : Place) (n : ℕ) (q : r ≡ field_from at (drop at s))
+    (h : at ≤ length s)
     (e : r ≡ ends.Comma p n) where
   pub next_fits : n ≤ length s
   next_fits = (comma_in s at h (sym q ∙ e)).fits

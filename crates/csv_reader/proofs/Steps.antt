@@ -140,7 +140,8 @@ module _ (s : List ℕ) (lo : ℕ) (below : lo < length s) where
 -- what each outcome says of the file
 pub data Says (s : List ℕ) (at : ℕ) : Step → Type 0 where
   found : {f : Fields} {n : ReaderPlace} → ReadAs s at f n → Says s at (Record f n)
-  broken : at < length s → at_start (drop at s) ≡ Row.broken → reading_of (drop at s) ≡ Reading.broken → Says s at Broken
+  broken : at < length s → at_start (drop at s) ≡ Row.broken → reading_of (drop at s) ≡ Reading.broken
+      → Says s at Broken
   ended : length s ≤ at → Says s at End
 
 module _ (s : List ℕ) (at : ℕ) where

@@ -15,7 +15,7 @@ ghost use Rattle.csv_reader.specs.Places.{no_fields, and_field, step_of};
 use plain_fields::{FieldEnd, Place};
 
 // A record's fields: how many there are, and where the first four stand. A field that is not there has an empty place.
-#[derive(Clone, Copy)]
+#[derive(Clone, Copy, Debug, PartialEq, Eq)]
 pub struct Fields {
     pub count: usize,
     pub first: Place,
@@ -25,13 +25,13 @@ pub struct Fields {
 }
 
 // A reader's place in the file.
-#[derive(Clone, Copy)]
+#[derive(Clone, Copy, Debug, PartialEq, Eq)]
 pub struct ReaderPlace {
     pub at: usize,
 }
 
 // What reading at a place finds: a record, and the place past it; a broken record; or the end of the file.
-#[derive(Clone, Copy)]
+#[derive(Clone, Copy, Debug, PartialEq, Eq)]
 pub enum Step {
     Record(Fields, ReaderPlace),
     Broken,
@@ -42,10 +42,7 @@ pub enum Step {
 fn placed(n: usize, k: usize, p: Place, old: Place) -> Place
     ensures { result ≡ (if n is k then p else old) }
 {
-    if n == k {
-        return p;
-    }
-    old
+    if n == k { p } else { old }
 }
 
 impl Fields {

@@ -54,7 +54,8 @@ module _ {A : Type 0} where
   pub signed_total_cons : (f : A → ℤ) (a : A) (l : List A) → signed_total f (a ∷ l) ≡ f a +ℤ signed_total f l
   signed_total_cons f a l = from_start f (pos 0 +ℤ f a) l ∙ ap (λ (z : ℤ). z +ℤ signed_total f l) (+ℤ_idl (f a))
 
-  signed_total_plus : (f g : A → ℤ) (l : List A) → signed_total (λ a. f a +ℤ g a) l ≡ signed_total f l +ℤ signed_total g l
+  signed_total_plus : (f g : A → ℤ) (l : List A)
+      → signed_total (λ a. f a +ℤ g a) l ≡ signed_total f l +ℤ signed_total g l
   signed_total_plus f g [] = refl
   signed_total_plus f g (a ∷ l) =
       signed_total_cons (λ b. f b +ℤ g b) a l
@@ -71,7 +72,8 @@ module _ {A : Type 0} where
   pub signed_total-same : {f g : A → ℤ} {l : List A} → Each (λ a. f a ≡ g a) l → signed_total f l ≡ signed_total g l
   signed_total-same none = refl
   signed_total-same {f} {g} (more {a} {l} e es) =
-      signed_total_cons f a l ∙ ap (λ (z : ℤ). z +ℤ signed_total f l) e ∙ ap (λ (z : ℤ). g a +ℤ z) (signed_total-same es)
+      signed_total_cons f a l ∙ ap (λ (z : ℤ). z +ℤ signed_total f l) e
+      ∙ ap (λ (z : ℤ). g a +ℤ z) (signed_total-same es)
       ∙ sym (signed_total_cons g a l)
 
   -- the order does not count

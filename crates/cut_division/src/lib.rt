@@ -5,7 +5,7 @@ ghost use Rattle.std.specs.Prelude.{◌≡◌, ◌+◌, ◌<◌, ◌^◌, pos, n
 ghost use Rattle.cut_division.specs.Cut.{quotient_of, ◌cut_by◌, Divides, undivided};
 
 // What a cut division hands back: the quotient, rounded down, what was cut off, and the divisor.
-#[derive(Clone, Copy)]
+#[derive(Clone, Copy, Debug, PartialEq, Eq)]
 pub struct Quotient {
     pub whole: u64,
     pub cut_off: u64,
@@ -58,8 +58,5 @@ pub fn plus(a: i64, b: i64) -> i64
 pub fn magnitude(g: i64) -> u64
     ensures { result ≡ nat_abs g }
 {
-    if 0 <= g {
-        return g as u64;
-    }
-    (0 - (g + 1)) as u64 + 1
+    g.unsigned_abs()
 }

@@ -14,16 +14,12 @@ use Rattle.amounts.specs.Arithmetic.{cutting}
 use Rattle.amounts.specs.Dividing.{Divided, Left, uncut, worth, dividing}
 use Rattle.kinds.specs.declared.HousingType.{HousingType}
 use Rattle.kinds.specs.declared.HousingType.TheVariants as housed
-use Rattle.kinds.specs.declared.AirScrubber.{AirScrubber}
-use Rattle.kinds.specs.declared.AirScrubber.TheVariants as scrubber
 use Rattle.kinds.specs.declared.Pigs.{Pigs}
 use Rattle.kinds.specs.declared.Inputs.{Inputs}
 use Rattle.kinds.specs.declared.Inputs.TheVariants as kinds
 use Rattle.pasture.specs.Pasture.{pigs_into_grazing}
-use Rattle.pig_house.specs.Parameters.{share_liquid}
 use Rattle.pig_house.specs.PigHouse.{
   all_or_nothing,
-  kept_by,
   ef_housing_indoor_before_air_scrubber,
   ef_housing_indoor,
   ef_housing_grazing,

@@ -152,7 +152,8 @@ module _ (f : String → Division) where
   named [] t h = absurd h
   named (u ∷ us) t h = at_first (eqt t u) t u us refl h (named us t)
 
-  all_named : (d : Division) (ts us : List String) → T (all (is_name us) ts) → d is_one_of map f ts → d is_one_of map f us
+  all_named : (d : Division) (ts us : List String) → T (all (is_name us) ts) → d is_one_of map f ts
+      → d is_one_of map f us
   all_named d [] us h m = elim m [ ]
   all_named d (t ∷ ts) us h m =
       go t d (both_left (is_name us t) (all (is_name us) ts) h)
@@ -206,7 +207,8 @@ found (kinds.Pigs p) = pigs-found p.housing_type p.air_scrubber p
 
 -- ---- made and carried
 
-pub every-division : (i : Inputs) (d : Division) → d is_one_of divisions_made i ↔ d is_one_of divisions_carried i (cuts_of i)
+pub every-division : (i : Inputs) (d : Division)
+    → d is_one_of divisions_made i ↔ d is_one_of divisions_carried i (cuts_of i)
 every-division i d = (
   λ m. rw (cuts-named i) (all_named (under i) d (ways_of i) (made_names i) (found i).1 (rw (found i).0 at m)),
   λ m. rw (found i).0 (all_named (under i) d (made_names i) (ways_of i) (found i).2 (rw (cuts-named i) at m)),

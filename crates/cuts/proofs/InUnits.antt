@@ -16,7 +16,7 @@ use Rattle.kinds.specs.declared.Inputs.TheVariants as kinds
 use Rattle.pasture.specs.Pasture.{roughage_grazing_time}
 use Rattle.pig_house.specs.Parameters.{share_liquid}
 use Rattle.cuts.specs.Herd.{made_names, cuts_of}
-use Rattle.cuts.specs.Divisions.{Named, carried, cuts_carried}
+use Rattle.cuts.specs.Divisions.{carried, cuts_carried}
 use Rattle.cuts.specs.InUnits.{cuts_in_units}
 use Rattle.cuts.proofs.AddUp.{cuts-named}
 use Rattle.cuts.proofs.Agree.{shared-whole}

@@ -6,7 +6,7 @@
 pub mod names; // the names by number
 
 // What was cut off, and by what was divided, by the number of the name.
-#[derive(Clone, Copy)]
+#[derive(Clone, Copy, Debug, PartialEq, Eq)]
 pub struct Cuts {
     pub cut_off: [u64; names::COUNT],
     pub divisor: [u64; names::COUNT],

@@ -1,9 +1,10 @@
 // The herd that a step is handed: the one of a file, or for a removal the label alone. Where there is none, that is
 // said, and printed unless only the farm's file is.
 use crate::Manner;
+use base::refusals::Refused;
 use console::{Ended, Surroundings, messages, named};
-use farm::{Checked, Farm, Herd, LABEL_MOST, Refusal, herds, labels};
-use streams::Outcome;
+use farm::{Farm, Herd, LABEL_MOST, Refusal, herds, labels};
+use refused_input::FarmInput;
 
 // A herd; or, where the run ended otherwise than printed, none.
 #[derive(Clone, Copy)]
@@ -24,13 +25,11 @@ fn none(ended: Ended) -> Handed {
 
 // The herd of a farm that has one.
 fn only_herd(rt: &impl Surroundings, farm: Farm, name: usize) -> Handed {
-    let count = farm.count;
-    if count != 1 {
-        return none(messages::not_one_herd(rt, name, count));
+    if farm.count != 1 {
+        return none(messages::not_one_herd(rt, name, farm.count));
     }
-    let herd = farm.herds[0];
     Handed {
-        herd,
+        herd: farm.herds[0],
         ended: Ended::Printed,
     }
 }
@@ -38,42 +37,40 @@ fn only_herd(rt: &impl Surroundings, farm: Farm, name: usize) -> Handed {
 // A file that is refused.
 fn refused(
     rt: &impl Surroundings,
-    manner: Manner,
-    s: &[u8],
-    name: usize,
+    only_farm: bool,
+    file: FarmInput<'_>,
     refusal: Refusal,
     record: usize,
 ) -> Ended {
-    let source = manner.source;
-    if manner.only_farm {
-        return refused_input::of_farm(rt, source, s, name, refusal, record);
+    if only_farm {
+        refused_input::of_farm(rt, file, refusal, record)
+    } else {
+        crate::print_refused(rt, file, refusal, record)
     }
-    crate::print_refused(rt, source, s, name, refusal, record)
 }
 
 // The herd of a file, unless that is refused.
-fn in_file(rt: &impl Surroundings, manner: Manner, s: &[u8], name: usize) -> Handed {
-    let source = manner.source;
-    let answer = farm_file::read(source, s);
-    let checked = answer.checked;
-    let farm = answer.farm;
-    match checked {
-        Checked::Accepted => only_herd(rt, farm, name),
-        Checked::Refused(refusal, record) => { none(refused(rt, manner, s, name, refusal, record)) }
+fn in_file(rt: &impl Surroundings, only_farm: bool, file: FarmInput<'_>) -> Handed {
+    let answer = farm_file::read(file.source, file.bytes);
+    match answer.checked {
+        Ok(()) => only_herd(rt, answer.farm, file.name),
+        Err(Refused(refusal, record)) => none(refused(rt, only_farm, file, refusal, record)),
     }
-}
-
-// So large an array comes from a function: where it is lent as it is made, every proof counts its elements.
-fn room() -> [u8; FILE_MOST] {
-    [0u8; FILE_MOST]
 }
 
 // The herd of the file that the word at `name` names, by the same limits as the farm's.
 pub fn by_file(rt: &impl Surroundings, manner: Manner, name: usize) -> Handed {
-    let mut file = room();
+    let mut file: [u8; FILE_MOST] = base::room();
     match named::read_file(rt, name, &mut file) {
-        Outcome::Whole(n) => in_file(rt, manner, base::part_of(&file, 0, n), name),
-        Outcome::Broken(_) => none(Ended::Failed),
+        Ok(n) => {
+            let read = FarmInput {
+                source: manner.source,
+                bytes: base::part_of(&file, 0, n),
+                name,
+            };
+            in_file(rt, manner.only_farm, read)
+        }
+        Err(_) => none(Ended::Failed),
     }
 }
 

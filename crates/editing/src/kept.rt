@@ -1,38 +1,30 @@
 // The edited farm's file (02, W5), so that edits can be kept.
+use base::refusals::Refused;
 use console::{Ended, Surroundings, messages};
 use farm::{Farm, Refusal};
 use limits::Source;
-use streams::Outcome;
 use views::View;
-use written::Written;
-
-// Room for the longest file that may be written.
-fn room() -> [u8; limits::COOPERATIVE_BYTES] {
-    [0u8; limits::COOPERATIVE_BYTES]
-}
 
 fn print_refused(rt: &impl Surroundings, source: Source, refusal: Refusal, record: usize) -> Ended {
     match printing::print_refusal(rt, refusal, record) {
-        Outcome::Whole(_) => {
-            messages::edited_refused(rt, source, refusal_numbers::number_of(refusal))
-        }
-        Outcome::Broken(error) => messages::unwritten(rt, error),
+        Ok(_) => { messages::edited_refused(rt, source, refusal_numbers::number_of(refusal)) }
+        Err(error) => messages::unwritten(rt, error),
     }
 }
 
 // Where it is printed, the run ends as its steps did.
 fn print_file(rt: &impl Surroundings, file: &[u8], before: Ended) -> Ended {
     match streams::write_all(rt, file) {
-        Outcome::Whole(_) => before,
-        Outcome::Broken(error) => messages::unwritten(rt, error),
+        Ok(_) => before,
+        Err(error) => messages::unwritten(rt, error),
     }
 }
 
 // The file that says the farm's herds; or the refusal's line, where it would be too long.
 pub fn print_farm(rt: &impl Surroundings, farm: Farm, source: Source, before: Ended) -> Ended {
-    let mut file = room();
+    let mut file: [u8; limits::COOPERATIVE_BYTES] = base::room();
     match view_calls::view_by_value(View::File, farm, &mut file) {
-        Written::Length(n) => print_file(rt, base::part_of(&file, 0, n), before),
-        Written::Refused(refusal, record) => print_refused(rt, source, refusal, record),
+        Ok(n) => print_file(rt, base::part_of(&file, 0, n), before),
+        Err(Refused(refusal, record)) => print_refused(rt, source, refusal, record),
     }
 }

@@ -7,11 +7,13 @@ mod handed; // the herd that a step is handed
 mod kept; // the edited farm's file
 
 use crate::handed::Handed;
+use base::refusals::Refused;
 use books::{Decided, Step};
 use console::{Ended, Surroundings, messages};
 use farm::{Checked, Farm, Herd, Refusal, herds};
 use limits::Source;
 use outputs::Totals;
+use refused_input::FarmInput;
 use streams::Outcome;
 
 // By which limits the files of a run are read, and whether only the farm's file is printed, after the last step.
@@ -34,53 +36,39 @@ pub struct Edited {
 // The line of a refused file's refusal, and what there is to say of it.
 fn print_refused(
     rt: &impl Surroundings,
-    source: Source,
-    s: &[u8],
-    name: usize,
+    file: FarmInput<'_>,
     refusal: Refusal,
     record: usize,
 ) -> Ended {
     match printing::print_refusal(rt, refusal, record) {
-        Outcome::Whole(_) => refused_input::of_farm(rt, source, s, name, refusal, record),
-        Outcome::Broken(error) => messages::unwritten(rt, error),
+        Ok(_) => refused_input::of_farm(rt, file, refusal, record),
+        Err(error) => messages::unwritten(rt, error),
     }
 }
 
-fn end_opening(
-    rt: &impl Surroundings,
-    checked: Checked,
-    source: Source,
-    s: &[u8],
-    name: usize,
-) -> Ended {
+fn end_opening(rt: &impl Surroundings, checked: Checked, file: FarmInput<'_>) -> Ended {
     match checked {
-        Checked::Accepted => Ended::Printed,
-        Checked::Refused(refusal, record) => print_refused(rt, source, s, name, refusal, record),
+        Ok(()) => Ended::Printed,
+        Err(Refused(refusal, record)) => print_refused(rt, file, refusal, record),
     }
 }
 
 // The farm that a file says, with its totals; of a refused file no farm, and that is printed and said.
-pub fn open(rt: &impl Surroundings, source: Source, s: &[u8], name: usize) -> Edited {
-    let opened = step_answer::files::open(source, s);
-    let checked = opened.checked;
-    let farm = opened.farm;
-    let totals = opened.totals;
-    let ended = end_opening(rt, checked, source, s, name);
+pub fn open(rt: &impl Surroundings, file: FarmInput<'_>) -> Edited {
+    let opened = step_answer::files::open(file.source, file.bytes);
     Edited {
-        farm,
-        totals,
-        ended,
+        farm: opened.farm,
+        totals: opened.totals,
+        ended: end_opening(rt, opened.checked, file),
     }
 }
 
 // No farm, where none could be read.
 pub fn none(ended: Ended) -> Edited {
     let farm = herds::no_farm();
-    let answer = answers::farm_answer(farm);
-    let totals = answer.totals;
     Edited {
         farm,
-        totals,
+        totals: answers::farm_answer(farm).totals,
         ended,
     }
 }
@@ -96,8 +84,8 @@ fn end_step(
     at: usize,
 ) -> Ended {
     match decided {
-        Decided::Done => before,
-        Decided::Refused(refusal) => {
+        Ok(()) => before,
+        Err(refusal) => {
             messages::step_refused(rt, source, at, books::numbers::number_of(refusal))
         }
     }
@@ -106,22 +94,9 @@ fn end_step(
 // What a step is answered with, unless only the farm's file is printed.
 fn print_answer(rt: &impl Surroundings, only_farm: bool, answer: &[u8]) -> Outcome {
     if only_farm {
-        return Outcome::Whole(0);
-    }
-    streams::write_all(rt, answer)
-}
-
-fn end_printed(
-    rt: &impl Surroundings,
-    printed: Outcome,
-    before: Ended,
-    decided: Decided,
-    source: Source,
-    at: usize,
-) -> Ended {
-    match printed {
-        Outcome::Whole(_) => end_step(rt, before, decided, source, at),
-        Outcome::Broken(error) => messages::unwritten(rt, error),
+        Ok(0)
+    } else {
+        streams::write_all(rt, answer)
     }
 }
 
@@ -134,37 +109,25 @@ fn take(
     h: Herd,
     at: usize,
 ) -> Edited {
-    let source = manner.source;
-    let limits = limits::limits_of(source);
-    let farm = edited.farm;
-    let totals = edited.totals;
-    let before = edited.ended;
-    let taken = step_answer::take(farm, limits.herds, totals, step, h);
-    let decided = taken.decided;
-    let farm_after = taken.farm;
-    let totals_after = taken.totals;
-    let bytes = taken.bytes;
-    let printed = print_answer(rt, manner.only_farm, base::part_of(&bytes, 0, taken.length));
-    let ended = end_printed(rt, printed, before, decided, source, at);
+    let room = limits::limits_of(manner.source).herds;
+    let taken = step_answer::take(edited.farm, room, edited.totals, step, h);
+    let ended = match print_answer(
+        rt,
+        manner.only_farm,
+        base::part_of(&taken.bytes, 0, taken.length),
+    ) {
+        Ok(_) => end_step(rt, edited.ended, taken.decided, manner.source, at),
+        Err(error) => messages::unwritten(rt, error),
+    };
     Edited {
-        farm: farm_after,
-        totals: totals_after,
+        farm: taken.farm,
+        totals: taken.totals,
         ended,
     }
 }
 
-// The same farm, after a step that came to nothing.
-fn left(edited: Edited, ended: Ended) -> Edited {
-    let farm = edited.farm;
-    let totals = edited.totals;
-    Edited {
-        farm,
-        totals,
-        ended,
-    }
-}
-
-// The step that the word at `at` says, with the herd that the one behind it hands over.
+// The step that the word at `at` says, with the herd that the one behind it hands over. Where there is none, the farm
+// stays the same.
 fn take_handed(
     rt: &impl Surroundings,
     edited: Edited,
@@ -173,33 +136,24 @@ fn take_handed(
     handed: Handed,
     at: usize,
 ) -> Edited {
-    let found = handed.ended;
-    let h = handed.herd;
-    match found {
-        Ended::Printed => take(rt, edited, manner, step, h, at),
-        Ended::Refused => left(edited, Ended::Refused),
-        Ended::Failed => left(edited, Ended::Failed),
+    match handed.ended {
+        Ended::Printed => take(rt, edited, manner, step, handed.herd, at),
+        ended => Edited { ended, ..edited },
     }
 }
 
 fn take_at(rt: &impl Surroundings, edited: Edited, manner: Manner, at: usize) -> Edited {
     let behind = asked::after(at);
-    if asked::is_add(rt, at) {
+    if asked::is_word(rt, at, asked::ADD) {
         let handed = handed::by_file(rt, manner, behind);
-        return take_handed(rt, edited, manner, Step::Add, handed, at);
-    }
-    if asked::is_replace(rt, at) {
+        take_handed(rt, edited, manner, Step::Add, handed, at)
+    } else if asked::is_word(rt, at, asked::REPLACE) {
         let handed = handed::by_file(rt, manner, behind);
-        return take_handed(rt, edited, manner, Step::Replace, handed, at);
+        take_handed(rt, edited, manner, Step::Replace, handed, at)
+    } else {
+        let handed = handed::by_label(rt, behind);
+        take_handed(rt, edited, manner, Step::Remove, handed, at)
     }
-    take_handed(
-        rt,
-        edited,
-        manner,
-        Step::Remove,
-        handed::by_label(rt, behind),
-        at,
-    )
 }
 
 // ---- all of them
@@ -208,47 +162,29 @@ fn take_at(rt: &impl Surroundings, edited: Edited, manner: Manner, at: usize) ->
 fn take_all(rt: &impl Surroundings, opened: Edited, manner: Manner, first: usize) -> Edited {
     let mut edited = opened;
     let mut at = first;
-    let mut words = asked::count_from(rt, first);
-    while 1 < words {
-        let ended = edited.ended;
-        if is_failed(ended) {
+    for _ in 0..asked::count_from(rt, first) / 2 {
+        if edited.ended == Ended::Failed {
             return edited;
         }
         edited = take_at(rt, edited, manner, at);
         at = asked::after(asked::after(at));
-        words -= 2;
     }
     edited
 }
 
-fn is_failed(ended: Ended) -> bool {
-    match ended {
-        Ended::Printed => false,
-        Ended::Refused => false,
-        Ended::Failed => true,
-    }
-}
-
 // What is printed after the last step, unless one failed: the farm's file, or nothing more.
 fn end_steps(rt: &impl Surroundings, edited: Edited, manner: Manner) -> Ended {
-    let ended = edited.ended;
-    if is_failed(ended) {
-        return ended;
+    if manner.only_farm && edited.ended != Ended::Failed {
+        kept::print_farm(rt, edited.farm, manner.source, edited.ended)
+    } else {
+        edited.ended
     }
-    if !manner.only_farm {
-        return ended;
-    }
-    let farm = edited.farm;
-    let source = manner.source;
-    kept::print_farm(rt, farm, source, ended)
 }
 
 // The steps of a farm that was opened; one that was not is not edited.
 pub fn run(rt: &impl Surroundings, opened: Edited, manner: Manner, first: usize) -> Ended {
-    let ended = opened.ended;
-    match ended {
+    match opened.ended {
         Ended::Printed => end_steps(rt, take_all(rt, opened, manner, first), manner),
-        Ended::Refused => Ended::Refused,
-        Ended::Failed => Ended::Failed,
+        ended => ended,
     }
 }

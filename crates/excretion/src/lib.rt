@@ -12,7 +12,7 @@ use amounts::TEN_THOUSANDTHS;
 use cut_division::Quotient;
 use kinds::Entered;
 
-#[derive(Clone, Copy)]
+#[derive(Clone, Copy, Debug, PartialEq, Eq)]
 pub struct Excretion {
     pub n_excretion: u64,
     pub tan_excretion: Quotient,
@@ -39,6 +39,7 @@ pub fn tan_fraction(share: u64, entered: Entered) -> u64
 }
 
 // The N of so many animals, each of which excretes so many grams.
+#[tactic(auto, using(crate::proofs::Modest::n_steps))]
 pub fn n_excretion(animals: u64, grams: u64) -> u64
     requires { (animals ≤ most_animals) × (grams ≤ most_grams) }
     ensures { UpTo most_n (animals * grams) result }
@@ -47,6 +48,7 @@ pub fn n_excretion(animals: u64, grams: u64) -> u64
 }
 
 // What a herd excretes: so much N, with this soluble fraction.
+#[tactic(auto, using(crate::proofs::Modest::excreted_steps))]
 pub fn excreted(n: u64, fraction: u64) -> Excretion
     requires { (n ≤ most_n) × (fraction ≤ ten_thousandths) }
     ensures is { result ≡ handed_excretion (with_tan dividing n fraction) }

@@ -1,123 +1,76 @@
 -- The steps of `byte_ok`, `label_ok`, `same_label` and `label_of`, each in the form that a place of the code wants.
 -- Assumes nothing.
-use Prim.Native.Nat.{ℕ, zero, suc, ◌+◌, ◌-◌, ◌≤◌, ◌<◌}
+use Prim.Native.Nat.{ℕ, zero, suc, ◌+◌, ◌≤◌, ◌<◌}
 use mathlib.Core.Path.{◌≡◌, refl, sym, ap, ◌∙◌}
 use mathlib.Core.Bool.{Bool, true, false, not, ◌&&◌}
 use mathlib.Core.List.{List, [], ◌∷◌, ◌++◌}
+use mathlib.Core.Logic.{◌⊎◌, inl, inr}
 use native.Mathlib.Omega.{arith}
 use lib.Dec.{eqb, lit≤}
-use lib.ListN.{length, get_or, take, drop, set, replicate, length-take}
-use lib.Seq.{length-take-le, sets}
-use borrow.Author.Tests.{lt-leb, le-leb, eq-eqb, ne_eqb, not-true, not-false}
+use lib.ListN.{length, take, set, replicate, length-take}
+use lib.Pointwise.{pointwise}
+use lib.Seq.{sets}
+use borrow.Author.Tests.{lt-leb, le-leb, eq-eqb, ne_eqb}
+use Rattle.std.specs.List.{list_all}
 use Rattle.base.specs.Pick.{pick}
-use Rattle.farm.specs.declared.Label.{Label}
 use Rattle.base.specs.Part.{part, same_bytes}
 use Rattle.base.specs.Wrote.{Wrote}
+use Rattle.farm.specs.declared.Label.{Label}
 use Rattle.farm.specs.Limits.{label_most}
 use Rattle.farm.specs.Labels.{byte_ok, all_ok, text, label_ok, same_label, label_of}
-use Rattle.farm.proofs.Left.{taken_at, taken-end, taken-last}
 
 -- ---- a byte
 
 module _ (b : ℕ) where
-  pub byte_low : b < 32 → false ≡ byte_ok b
+  pub byte_in : 32 ≤ b → b ≤ 126 → not (eqb b 34) ≡ byte_ok b
   unfolding byte_ok
-  byte_low h = simp (lt-leb 32 b h)
+  byte_in low high = simp (le-leb 32 b low, le-leb b 126 high)
 
-  pub byte_high : 126 < b → false ≡ byte_ok b
+  pub byte_out : (32 ≤ b × 126 < b) ⊎ (b < 32) → false ≡ byte_ok b
   unfolding byte_ok
-  byte_high h = let g : 32 ≤ b = omega arith in simp (le-leb 32 b g, lt-leb b 126 h)
+  byte_out (inl h) = simp (le-leb 32 b h.0, lt-leb b 126 h.1)
+  byte_out (inr h) = simp (lt-leb 32 b h)
 
--- ---- a label: i bytes were good
+-- ---- a label
+
+all_bytes : (s : List ℕ) → list_all byte_ok s ≡ all_ok s
+all_bytes [] = refl
+all_bytes (b ∷ s) = ap (λ (t : Bool). byte_ok b && t) (all_bytes s)
 
 module _ (l : Label) where
-  pub no_byte : l.len ≡ 0 → false ≡ label_ok l
+  pub label_in : 1 ≤ l.len → l.len ≤ label_most → {r : Bool} → r ≡ list_all byte_ok (text l) → r ≡ label_ok l
   unfolding label_ok
-  no_byte h = let g : l.len < 1 = omega arith in simp (lt-leb 1 l.len g)
+  label_in some room e = simp (le-leb 1 l.len some, le-leb l.len label_most room) (e ∙ all_bytes (text l))
 
-  pub past_room : label_most < l.len → false ≡ label_ok l
+  pub label_out : (1 ≤ l.len × label_most < l.len) ⊎ (l.len < 1) → false ≡ label_ok l
   unfolding label_ok
-  past_room h = let g : 1 ≤ l.len = omega arith in simp (le-leb 1 l.len g, lt-leb l.len label_most h)
+  label_out (inl h) = simp (le-leb 1 l.len h.0, lt-leb l.len label_most h.1)
+  label_out (inr h) = simp (lt-leb 1 l.len h)
 
-  pub label-start : (l.len ≡ 0 → ⊥) → l.len ≤ label_most → all_ok (text l) ≡ label_ok l
-  unfolding label_ok
-  label-start n h = let g : 1 ≤ l.len = omega arith in simp (le-leb 1 l.len g, le-leb l.len label_most h)
+-- ---- two labels
 
-  module _ (i : ℕ) (inv : all_ok (drop i (text l)) ≡ label_ok l) where
-    module _ (long : length l.bytes ≡ label_most) (room : l.len ≤ label_most) (h : i < l.len) (r : Bool)
-        (e : r ≡ byte_ok (get_or l.bytes i 0)) where
-      next : (r && all_ok (drop (i + 1) (text l))) ≡ label_ok l
-      next = let k : i < length l.bytes = omega arith in rw e (rw (taken_at l.len l.bytes i 0 h k) at inv)
-
-      pub byte-bad : not r ≡ true → false ≡ label_ok l
-      byte-bad q = sym (rw (not-true r q)) ∙ next
-
-      pub byte-good : not r ≡ false → all_ok (drop (i + 1) (text l)) ≡ label_ok l
-      byte-good q = sym (rw (not-false r q)) ∙ next
-
-    pub bytes_good : l.len ≤ i → true ≡ label_ok l
-    bytes_good h = rw (taken-end l.len l.bytes i h) at inv
-
-pub ruleset label_steps = (no_byte, past_room, label-start, byte-bad, byte-good, bytes_good)
-
--- ---- two labels: all bytes from i on were the same
-
--- texts of one length are the same exactly where the last bytes are and what stands before them is
-same-last : (a b : List ℕ) (x y : ℕ) → length a ≡ length b
-    → same_bytes (a ++ (x ∷ [])) (b ++ (y ∷ [])) ≡ pick (eqb x y) (same_bytes a b) false
+equal_bytes : (a b : List ℕ) → pointwise eqb a b ≡ same_bytes a b
 unfolding same_bytes
-same-last [] [] x y l = refl
-same-last [] (v ∷ b) x y l = absurd (omega arith)
-same-last (u ∷ a) [] x y l = absurd (omega arith)
-same-last (u ∷ a) (v ∷ b) x y l = ap (λ (t : Bool). pick (eqb u v) t false) (same-last a b x y (omega arith))
-    ∙ go (eqb u v) (eqb x y)
+equal_bytes [] [] = refl
+equal_bytes [] (y ∷ b) = refl
+equal_bytes (x ∷ a) [] = refl
+equal_bytes (x ∷ a) (y ∷ b) = go (eqb x y) (equal_bytes a b)
   where
-    go : (s t : Bool) → pick s (pick t (same_bytes a b) false) false ≡ pick t (pick s (same_bytes a b) false) false
-    go true t = refl
-    go false true = refl
-    go false false = refl
+    go : (t : Bool) → pointwise eqb a b ≡ same_bytes a b → (t && pointwise eqb a b) ≡ pick t (same_bytes a b) false
+    go true e = e
+    go false e = refl
 
 module _ (a b : Label) where
-  pub other_length : (a.len ≡ b.len → ⊥) → false ≡ same_label a b
+  pub labels_equal : a.len ≡ b.len → a.len ≤ label_most → {r : Bool}
+      → r ≡ pointwise eqb (take a.len a.bytes) (take b.len b.bytes) → r ≡ same_label a b
   unfolding same_label
-  other_length n = simp (ne_eqb a.len b.len n)
+  labels_equal l room e =
+      simp (eq-eqb a.len b.len l, le-leb a.len label_most room) (e ∙ equal_bytes (text a) (text b))
 
-  module _ (l : a.len ≡ b.len) where
-    pub both_long : label_most < a.len → false ≡ same_label a b
-    unfolding same_label
-    both_long h = simp (eq-eqb a.len b.len l, lt-leb a.len label_most h)
-
-    pub same_start : a.len ≤ label_most
-        → same_bytes (take a.len a.bytes) (take a.len b.bytes) ≡ same_label a b
-    unfolding same_label
-    same_start room = rw (eq-eqb a.len b.len l, le-leb a.len label_most room, ← l)
-
-  module _ (i : ℕ) (inv : same_bytes (take i a.bytes) (take i b.bytes) ≡ same_label a b) where
-    module _ (long : length a.bytes ≡ label_most) (long' : length b.bytes ≡ label_most) (h : 0 < i)
-        (room : i ≤ label_most) where
-      next-same : pick (eqb (get_or a.bytes (i - 1) 0) (get_or b.bytes (i - 1) 0))
-          (same_bytes (take (i - 1) a.bytes) (take (i - 1) b.bytes)) false ≡ same_label a b
-      next-same =
-          let s : take i a.bytes ≡ take (i - 1) a.bytes ++ (get_or a.bytes (i - 1) 0 ∷ []) =
-          taken-last a.bytes i 0 h (omega arith) in
-          let t : take i b.bytes ≡ take (i - 1) b.bytes ++ (get_or b.bytes (i - 1) 0 ∷ []) =
-          taken-last b.bytes i 0 h (omega arith) in
-          let k = length-take-le (i - 1) a.bytes (omega arith) in
-          let k' = length-take-le (i - 1) b.bytes (omega arith) in
-          sym (same-last (take (i - 1) a.bytes) (take (i - 1) b.bytes) _ _ (k ∙ sym k')) ∙ (rw (s, t) at inv)
-
-      pub byte-other : (get_or a.bytes (i - 1) 0 ≡ get_or b.bytes (i - 1) 0 → ⊥) → false ≡ same_label a b
-      byte-other n = sym (rw (ne_eqb _ _ n)) ∙ next-same
-
-      pub byte-same : get_or a.bytes (i - 1) 0 ≡ get_or b.bytes (i - 1) 0
-          → same_bytes (take (i - 1) a.bytes) (take (i - 1) b.bytes) ≡ same_label a b
-      byte-same e = sym (rw (eq-eqb _ _ e)) ∙ next-same
-
-    pub bytes_same : i ≤ 0 → true ≡ same_label a b
-    unfolding same_bytes
-    bytes_same h = let z : i ≡ 0 = omega arith in rw z at inv
-
-pub ruleset same_label_steps = (other_length, both_long, same_start, byte-other, byte-same, bytes_same)
+  pub labels_other : (a.len ≡ b.len × label_most < a.len) ⊎ (a.len ≡ b.len → ⊥) → false ≡ same_label a b
+  unfolding same_label
+  labels_other (inl h) = simp (eq-eqb a.len b.len h.0, lt-leb a.len label_most h.1)
+  labels_other (inr n) = simp (ne_eqb a.len b.len n)
 
 -- ---- the label that a text is: a text stored over zeros is the text with zeros behind it
 
@@ -144,7 +97,8 @@ module _ (s : List ℕ) {p : List ℕ} (q : p ≡ part s 0 label_most) where
   pub label-written : {b : List ℕ} {n : ℕ} → Wrote (replicate label_most 0) 0 p b n
       → record { bytes = b; len = length s } ≡ label_of s
   unfolding part label_of
-  label-written w = let e = w.bytes ∙ ap (sets (replicate label_most 0) 0) q ∙ padded label_most label_most s (lit≤ tt) in
+  label-written w =
+      let e = w.bytes ∙ ap (sets (replicate label_most 0) 0) q ∙ padded label_most label_most s (lit≤ tt) in
       cc
 
 pub ruleset label_of_steps = (label-fits, label-written)

@@ -15,10 +15,10 @@ use Rattle.farm.specs.declared.Label.{Label}
 use Rattle.farm.specs.Limits.{label_most}
 use Rattle.farm.specs.Labels.{text, same_label}
 use Rattle.farm.specs.Prints.{print_with, print_from, print_of}
-use Rattle.farm.proofs.Left.{taken_at, taken-end}
+use Rattle.farm.proofs.Left.{left_at, left_end}
 use Rattle.farm.proofs.LabelTexts.{same_text}
 
--- ---- i bytes were taken into the print
+-- ---- i bytes are taken into the print
 
 module _ (l : Label) where
   pub print_past : label_most < l.len → 0 ≡ print_of l
@@ -30,14 +30,12 @@ module _ (l : Label) where
   print_start h = simp (le-leb l.len label_most h)
 
   module _ (i p : ℕ) (inv : print_from p (drop i (text l)) ≡ print_of l) where
-    pub print_next : length l.bytes ≡ label_most → l.len ≤ label_most → i < l.len → (r : ℕ)
-        → r ≡ print_with p (get_or l.bytes i 0) → print_from r (drop (i + 1) (text l)) ≡ print_of l
-    print_next long room h r e =
-        let k : i < length l.bytes = omega arith in
-        rw e (rw (taken_at l.len l.bytes i 0 h k) at inv)
+    pub print_next : i < length (text l) → (r : ℕ) → r ≡ print_with p (get_or (text l) i 0)
+        → print_from r (drop (i + 1) (text l)) ≡ print_of l
+    print_next h r e = rw e (rw (left_at (text l) i 0 h) at inv)
 
-    pub print_end : l.len ≤ i → p ≡ print_of l
-    print_end h = rw (taken-end l.len l.bytes i h) at inv
+    pub print_end : length (text l) ≤ i → p ≡ print_of l
+    print_end h = rw (left_end (text l) i h) at inv
 
 pub ruleset print_steps = (print_past, print_start, print_next, print_end)
 

@@ -3,3 +3,4 @@ pub mod Labels
 pub mod Prints
 pub mod Herds
 pub mod Refusals
+pub mod Answers

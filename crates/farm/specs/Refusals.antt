@@ -1,6 +1,6 @@
 -- 01, Refusal numbers. The one definition that gives the number and the record of each answer; the promises speak
 -- through it. To be believed.
-use Rattle.std.specs.Prelude.{ℕ}
+use Rattle.std.specs.Prelude.{ℕ, Err}
 use Rattle.farm.specs.declared.Refusal.{Refusal}
 use Rattle.farm.specs.declared.Refusal.TheVariants.{
   FileTooLong,
@@ -17,8 +17,7 @@ use Rattle.farm.specs.declared.Refusal.TheVariants.{
   InputMissing,
   BufferTooShort,
 }
-use Rattle.farm.specs.declared.Checked.{Checked}
-use Rattle.farm.specs.declared.Checked.TheVariants.{Accepted, Refused}
+use Rattle.farm.specs.Answers.{Accepted, Checked}
 
 abbrev pub number : Refusal → ℕ
 number FileTooLong = 1
@@ -44,7 +43,7 @@ pub data Says : Type 0 where
 
 abbrev pub says : Checked → Says
 says Accepted = accepts
-says (Refused refusal record') = refuses (number refusal) record'
+says (Err refused) = refuses (number refused.0) refused.1
 
 -- what the checks of a record that is handed in may say, always with record 0: of a herd
 pub data HerdSays : Says → Type 0 where

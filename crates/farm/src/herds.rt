@@ -8,12 +8,7 @@ use inputs::Kind;
 pub fn is_missing(given: Given) -> bool
     ensures { result ≡ is_missing given }
 {
-    match given {
-        Given::Missing => true,
-        Given::Standard => false,
-        Given::Value(_) => false,
-        Given::Signed(_) => false,
-    }
+    matches!(given, Given::Missing)
 }
 
 pub fn no_herd() -> Herd

@@ -11,54 +11,20 @@ const HIGHEST: u8 = 126;
 fn byte_ok(b: u8) -> bool
     ensures { result ≡ byte_ok b }
 {
-    if b < LOWEST {
-        return false;
-    }
-    if HIGHEST < b {
-        return false;
-    }
-    b != b'"'
+    LOWEST <= b && b <= HIGHEST && b != b'"'
 }
 
 pub fn label_ok(l: Label) -> bool
     ensures { result ≡ label_ok l }
 {
-    let n = l.len;
-    if n == 0 {
-        return false;
-    }
-    if LABEL_MOST < n {
-        return false;
-    }
-    let mut i = 0;
-    while i < n {
-        if !byte_ok(l.bytes[i]) {
-            return false;
-        }
-        i += 1;
-    }
-    true
+    1 <= l.len && l.len <= LABEL_MOST && l.bytes[..l.len].iter().all(|b| byte_ok(*b))
 }
 
-// Are the bytes in use the same? From the last to the first: labels of one farm tend to be alike in front.
+// Are the bytes in use the same?
 pub fn same_label(a: Label, b: Label) -> bool
     ensures { result ≡ same_label a b }
 {
-    let n = a.len;
-    if n != b.len {
-        return false;
-    }
-    if LABEL_MOST < n {
-        return false;
-    }
-    let mut i = n;
-    while 0 < i {
-        i -= 1;
-        if a.bytes[i] != b.bytes[i] {
-            return false;
-        }
-    }
-    true
+    a.len == b.len && a.len <= LABEL_MOST && a.bytes[..a.len] == b.bytes[..b.len]
 }
 
 // The label that a text is; a longer text keeps its length, and is no good label.

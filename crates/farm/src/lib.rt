@@ -2,6 +2,7 @@
 // Knows nothing of how a file is read, and nothing of formulas.
 #![tactic(auto)]
 
+use base::refusals::Refused;
 use inputs::Kind;
 
 pub mod labels; // when a label is good, and when two are one
@@ -16,7 +17,7 @@ pub const SLOTS: usize = 9;
 pub const HERDS_MOST: usize = 512;
 
 // The bytes in use are the first `len`.
-#[derive(Clone, Copy)]
+#[derive(Clone, Copy, Debug, PartialEq, Eq)]
 pub struct Label {
     pub bytes: [u8; LABEL_MOST],
     pub len: usize,
@@ -24,7 +25,7 @@ pub struct Label {
 
 // What a record says of an input: nothing, `standard`, a number in units of its last decimal or the place of a name in
 // its list, or a whole number that may be below zero.
-#[derive(Clone, Copy)]
+#[derive(Clone, Copy, Debug, PartialEq, Eq)]
 pub enum Given {
     Missing,
     Standard,
@@ -32,13 +33,13 @@ pub enum Given {
     Signed(i32),
 }
 
-#[derive(Clone, Copy)]
+#[derive(Clone, Copy, Debug, PartialEq, Eq)]
 pub struct Slot {
     pub given: Given,
 }
 
 // A slot for each input of the kind, in the order of 01's list; slots behind them say nothing.
-#[derive(Clone, Copy)]
+#[derive(Clone, Copy, Debug, PartialEq, Eq)]
 pub struct Herd {
     pub label: Label,
     pub kind: Kind,
@@ -53,7 +54,7 @@ pub struct Farm {
 }
 
 // What is wrong: 01's refusals, in its order.
-#[derive(Clone, Copy)]
+#[derive(Clone, Copy, Debug, PartialEq, Eq)]
 pub enum Refusal {
     FileTooLong,
     RecordBroken,
@@ -70,9 +71,8 @@ pub enum Refusal {
     BufferTooShort,
 }
 
-// What a check finds: nothing, or a fault and the record that has it.
-#[derive(Clone, Copy)]
-pub enum Checked {
-    Accepted,
-    Refused(Refusal, usize),
-}
+// What is asked for, or a refusal and its record.
+pub type Answer<T> = Result<T, Refused<Refusal>>;
+
+// What a check finds: nothing, or a refusal.
+pub type Checked = Answer<()>;

@@ -20,15 +20,12 @@ fn print_with(print: u32, b: u8) -> u32
 pub fn print_of(l: Label) -> u32
     ensures { result ≡ print_of l }
 {
-    let n = l.len;
-    if LABEL_MOST < n {
+    if LABEL_MOST < l.len {
         return 0;
     }
     let mut print = 0;
-    let mut i = 0;
-    while i < n {
-        print = print_with(print, l.bytes[i]);
-        i += 1;
+    for b in &l.bytes[..l.len] {
+        print = print_with(print, *b);
     }
     print
 }

@@ -2,12 +2,12 @@
 #![tactic(auto)]
 
 ghost use Rattle.std.specs.Prelude.{◌≡◌};
-ghost use Rattle.farm.specs.declared.Checked.TheVariants.{Accepted};
 ghost use Rattle.checks.specs.Checks.{check_farm, herds_of};
 ghost use Rattle.kinds.specs.Sound.{Sound};
 ghost use Rattle.typed_inputs.specs.Typed.{typed_of};
 ghost use Rattle.above_line.specs.Adding.{Own};
 ghost use Rattle.above_line.specs.Line.{Says};
+ghost use Rattle.farm.specs.Answers.{Accepted};
 
 use above_line::Above;
 use farm::{Farm, Herd};
@@ -26,18 +26,13 @@ pub fn above(farm: Farm, line: u64) -> Above
     requires { check_farm farm ≡ Accepted }
     ensures { Says line (herds_of farm) result }
 {
-    let count = farm.count;
-    let mut sum: u64 = 0;
-    let mut i = 0;
-    while i < count {
-        let h = farm.herds[i];
-        let own = ammonia_of(h);
+    let mut sum = 0;
+    for i in 0..farm.count {
+        let own = ammonia_of(farm.herds[i]);
         sum += own;
-        let added = i + 1;
         if line < sum {
-            return Above::Yes(added);
+            return Above::Yes(i + 1);
         }
-        i = added;
     }
-    Above::No(count)
+    Above::No(farm.count)
 }

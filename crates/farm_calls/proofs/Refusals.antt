@@ -13,13 +13,14 @@ use lib.ListN.{length, get_or, take, length-take}
 use lib.Seq.{get_or-take, take-take}
 use borrow.Author.Tests.{le-ltb, ltb-true, ltb-false}
 use Rattle.base.proofs.Clash.{clash}
+use Rattle.base.proofs.SameRefused.{same-record, same-refusal}
+use Rattle.base.specs.Refused.{refuse}
 use Rattle.farm.specs.declared.Herd.{Herd}
 use Rattle.farm.specs.declared.Refusal.{Refusal}
 use Rattle.farm.specs.declared.Refusal.TheVariants.{NoRoomForHerd}
-use Rattle.farm.specs.declared.Checked.{Checked}
-use Rattle.farm.specs.declared.Checked.TheVariants.{Accepted, Refused}
 use Rattle.farm.specs.Limits.{herds_most}
 use Rattle.farm.specs.Herds.{no_herd}
+use Rattle.farm.specs.Answers.{Accepted, Checked}
 use Rattle.checks.specs.Checks.{herds_of, check_farm}
 use Rattle.checks.specs.Refusals as record-rules
 use Rattle.checks.specs.Refusals.{Applies, AppliesAt, Turn, Sooner, herd_by_herd, in_that_order, FirstOfRecord}
@@ -49,7 +50,7 @@ module _ (herds : List Herd) (count : ℕ) where
 
 -- "9 when the array or the 512 is full, also where a farm record is checked"
 pub beyond-checked : {herds : List Herd} {count : ℕ} → Beyond herds count
-    → check_farm (farm_in herds count) ≡ Refused NoRoomForHerd 0
+    → check_farm (farm_in herds count) ≡ refuse NoRoomForHerd 0
 beyond-checked {herds} {count} (the_slice h) = refused-beyond (farm_in herds count) (beyond-array herds count h)
 beyond-checked {herds} {count} (the_most h) = refused-beyond (farm_in herds count) (beyond-most herds count h)
 
@@ -154,14 +155,14 @@ one-first_in {herds} {count} {f} {g} x y = go (situated herds count)
 
 module _ (herds : List Herd) (count : ℕ) where
   pub in_refused : (n : ℕ) (refusal : Refusal)
-      → (check_farm (farm_in herds count) ≡ Refused refusal n) ↔ (FirstIn herds count refusal × (n ≡ 0))
+      → (check_farm (farm_in herds count) ≡ refuse refusal n) ↔ (FirstIn herds count refusal × (n ≡ 0))
   in_refused n refusal = (told (gets_in herds count), found (gets_in herds count))
     where
-      told : {c : Checked} → GetsIn herds count c → c ≡ Refused refusal n → FirstIn herds count refusal × (n ≡ 0)
+      told : {c : Checked} → GetsIn herds count c → c ≡ refuse refusal n → FirstIn herds count refusal × (n ≡ 0)
       told (fine none) e = clash cc
-      told (gets_refusal {refusal = f} y) e = let p : f ≡ refusal = cc in let q : n ≡ 0 = cc in (rw p at y, q)
+      told (gets_refusal y) e = (rw (same-refusal e) at y, sym (same-record e))
 
-      found : {c : Checked} → GetsIn herds count c → FirstIn herds count refusal × (n ≡ 0) → c ≡ Refused refusal n
+      found : {c : Checked} → GetsIn herds count c → FirstIn herds count refusal × (n ≡ 0) → c ≡ refuse refusal n
       found (fine none) y = absurd (none y.0.place refusal y.0.is_first.applies)
       found (gets_refusal x) y = let p = one-first_in x y.0 in rw (p, y.1)
 

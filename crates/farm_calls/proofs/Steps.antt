@@ -7,9 +7,9 @@ use Rattle.farm.specs.declared.Farm.{Farm}
 use Rattle.lent.specs.Laid.{farm_in}
 use Rattle.model.specs.declared.FarmAnswer.{FarmAnswer}
 use Rattle.model.specs.Answers.{farm_answer}
-use Rattle.written.specs.declared.Written.{Written}
 use Rattle.contracts.specs.Listings.{Called, totals_call}
 use Rattle.farm_calls.specs.Totals.{totals_in, listing_in}
+use Rattle.written.specs.Answer.{Written}
 
 module _ (herds : List Herd) (count : ℕ) (f : Farm) where
   pub is-totals : (a : FarmAnswer) → f ≡ farm_in herds count → a ≡ farm_answer f → a ≡ totals_in herds count

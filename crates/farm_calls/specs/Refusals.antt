@@ -6,12 +6,12 @@ use Rattle.std.specs.Prelude.{ℕ, ◌<◌, List, length, get_or, take}
 use Rattle.farm.specs.declared.Herd.{Herd}
 use Rattle.farm.specs.declared.Refusal.{Refusal}
 use Rattle.farm.specs.declared.Refusal.TheVariants.{NoRoomForHerd}
-use Rattle.farm.specs.declared.Checked.{Checked}
-use Rattle.farm.specs.declared.Checked.TheVariants.{Accepted, Refused}
 use Rattle.farm.specs.Limits.{herds_most}
 use Rattle.farm.specs.Herds.{no_herd}
+use Rattle.farm.specs.Answers.{Accepted, Checked}
 use Rattle.first_refusal.specs.First.{FirstOf}
 use Rattle.checks.specs.Refusals.{Applies, Sooner}
+use Rattle.base.specs.Refused.{refuse}
 
 -- the count is beyond the slice, or beyond the herds that any farm may have
 pub data Beyond (herds : List Herd) (count : ℕ) : Type 0 where
@@ -32,4 +32,4 @@ pub record FirstIn (herds : List Herd) (count : ℕ) (refusal : Refusal) : Type 
 -- what the calls say: that none applies; or the first, with record 0
 pub data GetsIn (herds : List Herd) (count : ℕ) : Checked → Type 0 where
   fine : ((place : ℕ) (refusal : Refusal) → AppliesIn herds count place refusal → ⊥) → GetsIn herds count Accepted
-  gets_refusal : {refusal : Refusal} → FirstIn herds count refusal → GetsIn herds count (Refused refusal 0)
+  gets_refusal : {refusal : Refusal} → FirstIn herds count refusal → GetsIn herds count (refuse refusal 0)

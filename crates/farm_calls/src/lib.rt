@@ -16,14 +16,12 @@ use written::Written;
 pub fn farm_totals(herds: &[Herd], count: usize) -> FarmAnswer
     ensures { result ≡ totals_in herds.now count }
 {
-    let farm = load(herds, count);
-    answers::farm_answer(farm)
+    answers::farm_answer(load(herds, count))
 }
 
 // The totals' listing.
 pub fn totals_listing(herds: &[Herd], count: usize, out: &mut [u8]) -> Written
     ensures { Called (listing_in herds.now count) out.old out.new result }
 {
-    let farm = load(herds, count);
-    herd_calls::totals_by_value(farm, out)
+    herd_calls::totals_by_value(load(herds, count), out)
 }

@@ -15,10 +15,7 @@ use reader::{FileAnswer, files};
 fn herds_within(limits: Limits) -> usize
     ensures { result ≡ herds_within limits }
 {
-    if HERDS_MOST < limits.herds {
-        return HERDS_MOST;
-    }
-    limits.herds
+    limits.herds.min(HERDS_MOST)
 }
 
 // The farm that a file says, or the first refusal that applies, within any limits.

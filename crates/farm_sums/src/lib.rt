@@ -2,9 +2,9 @@
 #![tactic(auto)]
 
 ghost use Rattle.std.specs.Prelude.{◌≡◌};
-ghost use Rattle.farm.specs.declared.Checked.TheVariants.{Accepted};
 ghost use Rattle.checks.specs.Checks.{check_farm};
 ghost use Rattle.model.specs.Answers.{Added};
+ghost use Rattle.farm.specs.Answers.{Accepted};
 
 use farm::Farm;
 use outputs::Figures;
@@ -13,13 +13,10 @@ pub fn sum_of(farm: Farm) -> Figures
     requires { check_farm farm ≡ Accepted }
     ensures { Added farm result }
 {
-    let count = farm.count;
     let mut sum = sums::no_figures();
-    let mut i = 0;
-    while i < count {
+    for i in 0..farm.count {
         let h = farm.herds[i];
         sum = sums::plus(sum, herd_figures::figures(herd_inputs::typed_of(h)));
-        i += 1;
     }
     sum
 }

@@ -47,7 +47,8 @@ module _ (s : List ℕ) (from i : ℕ) (X : FieldEnd) (inv : quoted_from from i 
         unfolding closed_from
         closed-quote e = simp (rest_at s (i + 1) h2, closed_from, e) at closed
 
-        pub closed-other : (get_or s (i + 1) 0 ≡ comma → ⊥) → (get_or s (i + 1) 0 ≡ cr → ⊥) → (get_or s (i + 1) 0 ≡ quote → ⊥)
+        pub closed-other : (get_or s (i + 1) 0 ≡ comma → ⊥) → (get_or s (i + 1) 0 ≡ cr → ⊥)
+            → (get_or s (i + 1) 0 ≡ quote → ⊥)
             → Broken ≡ X
         unfolding closed_from
         closed-other n1 n2 n3 =

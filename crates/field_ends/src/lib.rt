@@ -20,8 +20,7 @@
 //   with positions in specs/Places.antt; the tests there come in the order of the code's, and a proof goes along both.
 // - A place leaves the outer quotes off and keeps doubled quotes doubled. That is what makes a content a stretch of the
 //   file: to undo the doubling would need room to write to.
-// - Each answer has its own `return`, so that the proof knows the tests that led there. A scan's invariant says what is
-//   still to be found, never what was passed.
+// - A scan's invariant says what is still to be found, never what was passed.
 #![tactic(auto)]
 
 ghost use Rattle.std.specs.Prelude.{◌≡◌, ◌+◌, drop};
@@ -33,6 +32,7 @@ use plain_fields::{FieldEnd, Place};
 fn quoted_end(s: &[u8], at: usize) -> FieldEnd
     ensures { result ≡ quoted_from at at (drop at s.now) }
 {
+    // Not a `for`: a doubled quote is passed by a step of two.
     let mut i = at;
     while i < s.len() {
         if s[i] != b'"' {
@@ -43,17 +43,12 @@ fn quoted_end(s: &[u8], at: usize) -> FieldEnd
         if s.len() <= j {
             return FieldEnd::File(Place { from: at, to: i });
         }
-        let b = s[j];
-        if b == b',' {
-            return FieldEnd::Comma(Place { from: at, to: i }, j + 1);
+        match s[j] {
+            b',' => return FieldEnd::Comma(Place { from: at, to: i }, j + 1),
+            b'\r' => return plain_fields::line_end(s, at, i, j + 1),
+            b'"' => i = j + 1,
+            _ => return FieldEnd::Broken,
         }
-        if b == b'\r' {
-            return plain_fields::line_end(s, at, i, j + 1);
-        }
-        if b != b'"' {
-            return FieldEnd::Broken;
-        }
-        i = j + 1;
     }
     FieldEnd::Broken
 }
@@ -62,10 +57,9 @@ fn quoted_end(s: &[u8], at: usize) -> FieldEnd
 pub fn field_end(s: &[u8], at: usize) -> FieldEnd
     ensures { result ≡ field_from at (drop at s.now) }
 {
-    if at < s.len() {
-        if s[at] == b'"' {
-            return quoted_end(s, at + 1);
-        }
+    if at < s.len() && s[at] == b'"' {
+        quoted_end(s, at + 1)
+    } else {
+        plain_fields::plain_end(s, at)
     }
-    plain_fields::plain_end(s, at)
 }

@@ -3,11 +3,12 @@
 #![tactic(auto)]
 
 ghost use Rattle.std.specs.Prelude.{◌≡◌, length};
-ghost use Rattle.farm.specs.declared.Checked.TheVariants.{Accepted};
 ghost use Rattle.checks.specs.Checks.{check_herd, check_farm, herds_of};
 ghost use Rattle.file_text.specs.Files.{herd_file, file_of};
 ghost use Rattle.file_length.specs.Limit.{file_checked};
+ghost use Rattle.farm.specs.Answers.{Accepted};
 
+use base::refusals::Refused;
 use farm::{Checked, Farm, Herd, Refusal};
 
 // The longest file of a herd, of any kind: see crate `file_room`.
@@ -21,28 +22,26 @@ fn herd_length(h: Herd) -> usize
     file_text::put_herd(&mut scratch, 0, h)
 }
 
+#[tactic(auto, using(crate::proofs::Steps::length_steps))]
 fn length_of(farm: Farm) -> usize
     requires { check_farm farm ≡ Accepted }
     ensures { result ≡ length (file_of (herds_of farm)) }
 {
-    let count = farm.count;
     let mut sum = 0;
-    let mut i = 0;
-    while i < count {
-        let h = farm.herds[i];
-        sum += herd_length(h);
-        i += 1;
+    for h in &farm.herds[..farm.count] {
+        sum += herd_length(*h);
     }
     sum
 }
 
 // Whether a farm's file may be written.
+#[tactic(auto, using(crate::proofs::Steps::limit_steps))]
 pub fn check_file(farm: Farm) -> Checked
     requires { check_farm farm ≡ Accepted }
     ensures { result ≡ file_checked (file_of (herds_of farm)) }
 {
     if limits::COOPERATIVE_BYTES < length_of(farm) {
-        return Checked::Refused(Refusal::FileTooLong, 0);
+        return Err(Refused(Refusal::FileTooLong, 0));
     }
-    Checked::Accepted
+    Ok(())
 }

@@ -62,6 +62,7 @@ lines =
     ∷ []
 
 pub herds-written : file_of (deer ∷ pigs ∷ []) ≡ each bytes lines
-unfolding file_of herd_file inputs_text record_text input_text value_text number_text signed_text name_text sign shortest pointed
+unfolding file_of herd_file inputs_text record_text input_text value_text number_text signed_text name_text sign
+    shortest pointed
     whole_of width label_of label_field has_comma
 herds-written = refl

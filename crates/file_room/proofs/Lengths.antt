@@ -22,10 +22,10 @@ use Rattle.farm.specs.declared.Given.TheVariants.{Value, Signed}
 use Rattle.farm.specs.declared.Slot.{Slot}
 use Rattle.farm.specs.declared.Herd.{Herd}
 use Rattle.farm.specs.declared.Farm.{Farm}
-use Rattle.farm.specs.declared.Checked.TheVariants.{Accepted}
 use Rattle.farm.specs.Limits.{herds_most}
 use Rattle.farm.specs.Herds.{no_herd}
 use Rattle.farm.specs.Labels.{byte_ok, text, label_ok, same_label, label_of}
+use Rattle.farm.specs.Answers.{Accepted}
 use Rattle.fits.specs.Fits.{unfit}
 use Rattle.herd_tests.specs.Tests.{lacks}
 use Rattle.checks.specs.Checks.{herds_of, check_herd, check_farm}
@@ -138,7 +138,8 @@ long_herds i zero = []
 long_herds i (suc k) = long_herd i ∷ long_herds (suc i) k
 
 long-herd : (i : ℕ) → length (herd_file (long_herd i)) ≡ longest
-unfolding herd_file inputs_text record_text input_text value_text number_text signed_text name_text sign shortest pointed
+unfolding herd_file inputs_text record_text input_text value_text number_text signed_text name_text sign shortest
+    pointed
     whole_of width label_of label_field has_comma
 long-herd i = refl
 

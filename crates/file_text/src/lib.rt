@@ -64,19 +64,21 @@ fn put_record(
 }
 
 // A herd's records, from `at` on; the end of the last.
+#[tactic(auto, using(crate::proofs::HerdSteps::herd_steps))]
 pub fn put_herd(out: &mut [u8], at: usize, herd: Herd) -> usize
     requires { at + length (herd_file herd) ≤ length out.old }
     ensures { Wrote out.old at (herd_file herd) out.new result }
 {
-    let kind = herd.kind;
-    let count = inputs::count_of(kind);
     let mut next = at;
-    let mut slot = 0;
-    while slot < count {
-        let here = herd.slots[slot];
-        let given = here.given;
-        next = put_record(out, next, herd.label, kind, slot, given);
-        slot += 1;
+    for slot in 0..inputs::count_of(herd.kind) {
+        next = put_record(
+            out,
+            next,
+            herd.label,
+            herd.kind,
+            slot,
+            herd.slots[slot].given,
+        );
     }
     next
 }

@@ -1,6 +1,7 @@
 -- What a found input is: the one of the list whose module and name were looked for. Assumes nothing.
+use Rattle.std.specs.Prelude.{Some}
 use Prim.Native.Nat.{ℕ, suc, ◌+◌, ◌<◌}
-use mathlib.Core.Path.{◌≡◌, refl, sym, subst}
+use mathlib.Core.Path.{◌≡◌, refl, sym, ap, subst}
 use mathlib.Core.Bool.{Bool, true, false}
 use mathlib.Core.List.{List, [], ◌∷◌, map}
 use mathlib.Core.Logic.{◌⊎◌, inl, inr, ⊎_elim}
@@ -15,10 +16,8 @@ use Rattle.words.proofs.Tables.{entry_at, places}
 use Rattle.inputs.specs.declared.Kind.{Kind}
 use Rattle.inputs.specs.declared.Kind.TheVariants.{Roughage, Cattle, Pigs, DairyCow}
 use Rattle.inputs.specs.declared.Form.{Form}
-use Rattle.finding.specs.declared.FoundInput.{FoundInput}
-use Rattle.finding.specs.declared.FoundInput.TheVariants.{At}
 use Rattle.inputs.specs.Inputs.{Row, rows_of, kinds, count_of, last_of, row_at, form_of}
-use Rattle.finding.specs.Find.{is_row, first_row, find_among, find_input}
+use Rattle.finding.specs.Find.{is_row, first_row, find_among, find_input, FoundInput}
 
 -- the module m and the name n are those of the input in this slot
 pub record IsInput (m n : List ℕ) (k : Kind) (slot : ℕ) : Type 0 where
@@ -38,15 +37,18 @@ record Seen (k : Kind) (test : Row → Bool) (rows : List Row) (d : Row) (i : �
   holds : test (get_or rows past d) ≡ true
   reads : form ≡ (get_or rows past d).form
 
+same_found : {f g : Kind × ℕ × Form} → Some f ≡ Some g → f ≡ g
+same_found e = cc
+
 module _ (k : Kind) (test : Row → Bool) (d : Row) {elsewhere : FoundInput} {k' : Kind} {j : ℕ} {form : Form} where
-  seen : (rows : List Row) (i : ℕ) → first_row k test i rows elsewhere ≡ At k' j form
-      → Seen k test rows d i k' j form ⊎ (elsewhere ≡ At k' j form)
+  seen : (rows : List Row) (i : ℕ) → first_row k test i rows elsewhere ≡ Some (k', j, form)
+      → Seen k test rows d i k' j form ⊎ (elsewhere ≡ Some (k', j, form))
   unfolding first_row
   seen [] i e = inr e
   seen (row ∷ rows) i e = go (test row) refl e (seen rows (i + 1))
     where
-      later : Seen k test rows d (i + 1) k' j form ⊎ (elsewhere ≡ At k' j form)
-          → Seen k test (row ∷ rows) d i k' j form ⊎ (elsewhere ≡ At k' j form)
+      later : Seen k test rows d (i + 1) k' j form ⊎ (elsewhere ≡ Some (k', j, form))
+          → Seen k test (row ∷ rows) d i k' j form ⊎ (elsewhere ≡ Some (k', j, form))
       later (inl r) = inl (record {
         kind = r.kind;
         past = suc r.past;
@@ -59,13 +61,21 @@ module _ (k : Kind) (test : Row → Bool) (d : Row) {elsewhere : FoundInput} {k'
       later (inr e) = inr e
 
       go : (t : Bool) → test row ≡ t
-          → pick t (At k i row.form) (first_row k test (i + 1) rows elsewhere) ≡ At k' j form
-          → (first_row k test (i + 1) rows elsewhere ≡ At k' j form
-          → Seen k test rows d (i + 1) k' j form ⊎ (elsewhere ≡ At k' j form))
-          → Seen k test (row ∷ rows) d i k' j form ⊎ (elsewhere ≡ At k' j form)
+          → pick t (Some (k, i, row.form)) (first_row k test (i + 1) rows elsewhere) ≡ Some (k', j, form)
+          → (first_row k test (i + 1) rows elsewhere ≡ Some (k', j, form)
+          → Seen k test rows d (i + 1) k' j form ⊎ (elsewhere ≡ Some (k', j, form)))
+          → Seen k test (row ∷ rows) d i k' j form ⊎ (elsewhere ≡ Some (k', j, form))
       go true h s more =
-          let q : i ≡ j = cc in
-          inl (record { kind = cc; past = 0; is = omega arith; inside = omega arith; holds = h; reads = cc })
+          let p = same_found s in
+          let q : i ≡ j = ap (λ (f : Kind × ℕ × Form). f.1) p in
+          inl (record {
+            kind = sym (ap (λ (f : Kind × ℕ × Form). f.0) p);
+            past = 0;
+            is = omega arith;
+            inside = omega arith;
+            holds = h;
+            reads = sym (ap (λ (f : Kind × ℕ × Form). f.2) p);
+          })
       go false h s more = later (more s)
 
 module _ (m n : List ℕ) {k : Kind} {slot : ℕ} {form : Form} where
@@ -87,13 +97,14 @@ module _ (m n : List ℕ) {k : Kind} {slot : ℕ} {form : Form} where
             (subst (λ (i : ℕ). form ≡ (row_at k' i).form) z r.reads),
       )
 
-  found_among : (ks : List Kind) → find_among ks m n ≡ At k slot form → IsInput m n k slot × (form ≡ form_of k slot)
+  found_among : (ks : List Kind) → find_among ks m n ≡ Some (k, slot, form)
+      → IsInput m n k slot × (form ≡ form_of k slot)
   unfolding find_among
   found_among [] e = clash cc
   found_among (k' ∷ ks) e =
       ⊎_elim seen-input (found_among ks) (seen k' (is_row m n) (last_of (rows_of k')) (rows_of k') 0 e)
 
-  pub find_input-at : find_input m n ≡ At k slot form → IsInput m n k slot × (form ≡ form_of k slot)
+  pub find_input-at : find_input m n ≡ Some (k, slot, form) → IsInput m n k slot × (form ≡ form_of k slot)
   unfolding find_input
   find_input-at e = found_among kinds e
 
@@ -101,7 +112,7 @@ module _ (m n : List ℕ) {k : Kind} {slot : ℕ} {form : Form} where
 
 -- the one computed test: no input has the module and the name of an earlier one
 all_found : (k : Kind)
-    → map (λ slot. At k slot (form_of k slot)) (places 0 (rows_of k))
+    → map (λ slot. Some (k, slot, form_of k slot)) (places 0 (rows_of k))
     ≡ map (λ row. find_input (bytes row.path) (bytes row.name)) (rows_of k)
 unfolding form_of find_input find_among first_row is_row same_bytes
 all_found Roughage = refl
@@ -110,8 +121,8 @@ all_found Pigs = refl
 all_found DairyCow = refl
 
 pub find_input-of : (m n : List ℕ) (k : Kind) (slot : ℕ) → IsInput m n k slot
-    → find_input m n ≡ At k slot (form_of k slot)
+    → find_input m n ≡ Some (k, slot, form_of k slot)
 find_input-of m n k slot h =
     rw (h.path, h.name)
-    (sym (entry_at (λ (i : ℕ). At k i (form_of k i)) (λ (row : Row). find_input (bytes row.path) (bytes row.name))
+    (sym (entry_at (λ (i : ℕ). Some (k, i, form_of k i)) (λ (row : Row). find_input (bytes row.path) (bytes row.name))
     (rows_of k) (last_of (rows_of k)) (all_found k) slot h.inside))

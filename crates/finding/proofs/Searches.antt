@@ -1,4 +1,5 @@
 -- The search in numbers is the search by texts, and the loop over a module's slots. Assumes nothing.
+use Rattle.std.specs.Prelude.{None, Some}
 use Prim.Native.Nat.{ℕ, suc, ◌+◌, ◌-◌, ◌<◌, ◌≤◌}
 use Prim.Native.String.{String}
 use mathlib.Core.Path.{◌≡◌, refl, sym, ap, ◌∙◌}
@@ -12,17 +13,11 @@ use Rattle.base.specs.Pick.{pick}
 use Rattle.base.specs.Text.{bytes}
 use Rattle.base.specs.Part.{same_bytes}
 use Rattle.base.proofs.Holds.{both_true}
-use Rattle.words.specs.declared.Found.{Found}
-use Rattle.words.specs.declared.Found.TheVariants as founds
-use Rattle.words.specs.Find.{find_text, is_at, modules, input_names, place_in}
+use Rattle.words.specs.Find.{find_text, is_at, modules, input_names, place_in, Found}
 use Rattle.words.proofs.Places.{same-text-at, modules-once, input-names-once}
 use Rattle.inputs.specs.declared.Kind.{Kind}
 use Rattle.inputs.specs.declared.Kind.TheVariants.{Roughage, Cattle, Pigs, DairyCow}
 use Rattle.inputs.specs.declared.Input.{Input}
-use Rattle.finding.specs.declared.Module.{Module}
-use Rattle.finding.specs.declared.Module.TheVariants as stretches
-use Rattle.finding.specs.declared.FoundInput.{FoundInput}
-use Rattle.finding.specs.declared.FoundInput.TheVariants.{At, Nowhere}
 use Rattle.inputs.specs.Inputs.{Row, rows_of, kinds, row_at}
 use Rattle.inputs.specs.Numbered.{numbered}
 use Rattle.finding.specs.Find.{
@@ -36,12 +31,14 @@ use Rattle.finding.specs.Find.{
   find_slots,
   find_within,
 }
+use Rattle.finding.specs.Find.{FoundInput, Module}
 
 -- ---- texts and places
 
 -- a row's module and name, as its places say them and as they are
 abbrev by_places : Row → List String
-by_places row = get_or modules (place_in modules row.path) "" ∷ get_or input_names (place_in input_names row.name) "" ∷ []
+by_places row =
+    get_or modules (place_in modules row.path) "" ∷ get_or input_names (place_in input_names row.name) "" ∷ []
 
 abbrev own : Row → List String
 own row = row.path ∷ row.name ∷ []
@@ -99,26 +96,26 @@ module _ (m n : List ℕ) {x y : Found} (qx : x ≡ find_text modules m) (qy : y
 
   -- ---- what `find_input` returns
 
-  module _ {i : ℕ} (ex : x ≡ founds.At i) where
-    pub no_name : y ≡ founds.Nowhere → Nowhere ≡ find_input m n
+  module _ {i : ℕ} (ex : x ≡ Some i) where
+    pub no_name : y ≡ None → None ≡ find_input m n
     unfolding find_placed placed_among first_row is_placed
     no_name e = sym (input-placed ∙ ap (λ (z : Found). find_placed x z) e ∙ simp and-false)
 
-    module _ {j : ℕ} (ey : y ≡ founds.At j) (M : Module)
-        (w : (name : Found) → find_placed (founds.At i) name ≡ find_within M name) where
-      within : find_within M (founds.At j) ≡ find_input m n
+    module _ {j : ℕ} (ey : y ≡ Some j) (M : Module)
+        (w : (name : Found) → find_placed (Some i) name ≡ find_within M name) where
+      within : find_within M (Some j) ≡ find_input m n
       within = sym (input-placed ∙ ap (λ (z : Found). find_placed z y) ex
-          ∙ ap (λ (z : Found). find_placed (founds.At i) z) ey ∙ w (founds.At j))
+          ∙ ap (λ (z : Found). find_placed (Some i) z) ey ∙ w (Some j))
 
-      pub in_module : {k : Kind} {a b : ℕ} {r : FoundInput} → M ≡ stretches.Of k a b
-          → r ≡ find_within (stretches.Of k a b) (founds.At j) → r ≡ find_input m n
-      in_module e h = h ∙ ap (λ (z : Module). find_within z (founds.At j)) (sym e) ∙ within
+      pub in_module : {k : Kind} {a b : ℕ} {r : FoundInput} → M ≡ Some (k, a, b)
+          → r ≡ find_within (Some (k, a, b)) (Some j) → r ≡ find_input m n
+      in_module e h = h ∙ ap (λ (z : Module). find_within z (Some j)) (sym e) ∙ within
 
-      pub past-modules : M ≡ stretches.Nowhere → Nowhere ≡ find_input m n
+      pub past-modules : M ≡ None → None ≡ find_input m n
       unfolding find_within
-      past-modules e = ap (λ (z : Module). find_within z (founds.At j)) (sym e) ∙ within
+      past-modules e = ap (λ (z : Module). find_within z (Some j)) (sym e) ∙ within
 
-pub no_module : (m n : List ℕ) {x : Found} → x ≡ find_text modules m → x ≡ founds.Nowhere → Nowhere ≡ find_input m n
+pub no_module : (m n : List ℕ) {x : Found} → x ≡ find_text modules m → x ≡ None → None ≡ find_input m n
 unfolding find_placed placed_among first_row is_placed
 no_module m n q e = sym (input-placed m n q refl ∙ ap (λ (z : Found). find_placed z (find_text input_names n)) e)
 
@@ -126,19 +123,19 @@ pub ruleset input_steps = (no_module, no_name, in_module, past-modules)
 
 -- ---- the slots from `slot` on are still to be looked at, X is what is found among them all
 
-module _ (k : Kind) (slot to j : ℕ) (X : FoundInput) (inv : find_slots k (to - slot) slot (founds.At j) ≡ X) where
+module _ (k : Kind) (slot to j : ℕ) (X : FoundInput) (inv : find_slots k (to - slot) slot (Some j) ≡ X) where
   module _ (b : slot < to) {r : Input} (e : r ≡ numbered (row_at k slot)) where
-    slot_next : pick (eqb r.0 j) (At k slot r.1) (find_slots k (to - (slot + 1)) (slot + 1) (founds.At j)) ≡ X
+    slot_next : pick (eqb r.0 j) (Some (k, slot, r.1)) (find_slots k (to - (slot + 1)) (slot + 1) (Some j)) ≡ X
     unfolding find_slots
     slot_next = let z : to - slot ≡ suc (to - (slot + 1)) = omega arith in rw e (rw z at inv)
 
-    pub slot-found : r.0 ≡ j → At k slot r.1 ≡ X
+    pub slot-found : r.0 ≡ j → Some (k, slot, r.1) ≡ X
     slot-found h = sym (rw (eq-eqb _ _ h)) ∙ slot_next
 
-    pub slot-other : (r.0 ≡ j → ⊥) → find_slots k (to - (slot + 1)) (slot + 1) (founds.At j) ≡ X
+    pub slot-other : (r.0 ≡ j → ⊥) → find_slots k (to - (slot + 1)) (slot + 1) (Some j) ≡ X
     slot-other h = sym (rw (ne_eqb _ _ h)) ∙ slot_next
 
-  pub slot-none : to ≤ slot → Nowhere ≡ X
+  pub slot-none : to ≤ slot → None ≡ X
   unfolding find_slots
   slot-none b = let z : to - slot ≡ 0 = omega arith in rw z at inv
 

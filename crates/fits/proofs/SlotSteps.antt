@@ -1,80 +1,55 @@
--- A value and its form, and the steps of the loop over a herd's inputs that finds one unfit, each in the form that a
--- place of the code wants. Assumes nothing.
+-- The steps of the loop over a herd's inputs that finds one unfit, each in the form that a place of the code wants: i
+-- inputs fitted. Assumes nothing.
 use Prim.Native.Nat.{ℕ, ◌+◌, ◌≤◌, ◌<◌}
-use mathlib.Core.Path.{◌≡◌, sym, ◌∙◌}
+use mathlib.Core.Path.{◌≡◌, refl, ap, sym, ◌∙◌}
 use mathlib.Core.Bool.{Bool, true, false, not, ◌||◌}
+use mathlib.Core.List.{List, [], ◌∷◌}
 use native.Mathlib.Omega.{arith}
-use lib.Dec.{leb, ltb}
-use lib.IntN.{ℤ, nat_abs}
-use lib.ListN.{length, get_or, drop}
-use mir.Syntax.{w32}
-use mir.Val.{SFits}
-use mir.Facts.{to_z-of_z}
-use Rattle.names.specs.declared.ValueList.{ValueList}
-use Rattle.inputs.specs.declared.Kind.{Kind}
-use Rattle.names.specs.Names.{size_of}
+use lib.ListN.{length, get_or, take, drop, length-take}
 use Rattle.inputs.specs.declared.Form.{Form}
-use Rattle.inputs.specs.declared.Form.TheVariants.{Number, OrStandard, NoStandard, Signed as ASigned, OneOf}
-use Rattle.inputs.specs.Inputs.{rows_of, count_of, form_of}
+use Rattle.inputs.specs.Inputs.{Row, rows_of, count_of, last_of, form_of}
 use Rattle.farm.specs.Limits.{slots}
-use Rattle.farm.proofs.Narrow.{back, wide, wide_fits, wide_is}
-use Rattle.farm.specs.declared.Given.{Given}
-use Rattle.farm.specs.declared.Given.TheVariants.{Value, Signed}
+use Rattle.farm.specs.declared.Slot.{Slot}
 use Rattle.farm.specs.declared.Herd.{Herd}
-use Rattle.farm.specs.Herds.{no_slot}
-use Rattle.fits.specs.Fits.{value_fits, signed_fits, fits, unfit_one, unfit}
-use Rattle.farm.proofs.Left.{left_end}
-use Rattle.herd_tests.proofs.SlotSteps.{row-at, slot_at}
+use Rattle.fits.specs.Fits.{fits, unfit_one, unfit}
+use Rattle.farm.proofs.Slots.{count_most}
+use Rattle.farm.proofs.Left.{left_at, left_end}
 
--- ---- a value and its form
+-- what a herd says of its inputs
+abbrev pub said_of : Herd → List Slot
+said_of h = take (count_of h.kind) h.slots
 
-module _ {form : Form} {a b : ℕ} (v : ℕ) where
-  pub number_fits : form ≡ Number a b → leb v b ≡ value_fits form v
-  number_fits e = rw e
+unfit-said : (rows : List Row) (said : List Slot)
+    → unfit_one rows (take (length rows) said) ≡ unfit_one rows said
+unfit-said [] said = refl
+unfit-said (row ∷ rows) [] = refl
+unfit-said (row ∷ rows) (s ∷ said) = ap (λ (t : Bool). not (fits row.form s.given) || t) (unfit-said rows said)
 
-  pub or_standard-fits : form ≡ OrStandard a b → leb v b ≡ value_fits form v
-  or_standard-fits e = rw e
+pub unfit-start : (h : Herd) → unfit_one (rows_of h.kind) (said_of h) ≡ unfit h
+unfolding unfit
+unfit-start h = unfit-said (rows_of h.kind) h.slots
 
-  pub no-standard-fits : form ≡ NoStandard a b → leb v b ≡ value_fits form v
-  no-standard-fits e = rw e
+module _ (h : Herd) (i : ℕ) (inv : unfit_one (drop i (rows_of h.kind)) (drop i (said_of h)) ≡ unfit h)
+    {count : ℕ} (q : count ≡ count_of h.kind) where
+  module _ (b : i < length (take count h.slots)) (d : Slot) {form : Form} (f : form ≡ form_of h.kind i) (r : Bool)
+      (e : r ≡ fits form (get_or (take count h.slots) i d).given) where
+    next-fit : (not r || unfit_one (drop (i + 1) (rows_of h.kind)) (drop (i + 1) (said_of h))) ≡ unfit h
+    unfolding form_of
+    next-fit =
+        let s : take count h.slots ≡ said_of h = ap (λ (n : ℕ). take n h.slots) q in
+        let j : i < length (said_of h) = omega (arith, ap length s) in
+        let k : i < count_of h.kind = omega (arith, length-take (count_of h.kind) h.slots) in
+        rw (e, f, s) (rw (left_at (rows_of h.kind) i (last_of (rows_of h.kind)) k, left_at (said_of h) i d j) at inv)
 
-pub one-of-fits : {form : Form} {names : ValueList} {n : ℕ} (v : ℕ) → form ≡ OneOf names → n ≡ size_of names
-    → ltb v n ≡ value_fits form v
-one-of-fits v e h = rw (e, h)
+    pub misfit : not r ≡ true → true ≡ unfit h
+    misfit t = sym (rw t) ∙ next-fit
 
-pub value-fits : (form : Form) {given : Given} {v : ℕ} → given ≡ Value v → {r : Bool} → r ≡ value_fits form v
-    → r ≡ fits form given
-value-fits form e h = rw e h
+    pub fitting : not r ≡ false → unfit_one (drop (i + 1) (rows_of h.kind)) (drop (i + 1) (said_of h)) ≡ unfit h
+    fitting t = sym (rw t) ∙ next-fit
 
--- as the code reads it, the sign with the bits
-pub signed-fits : {form : Form} {most m : ℕ} (v : ℤ) → SFits w32 v → form ≡ ASigned most → m ≡ nat_abs (wide v)
-    → leb m most ≡ signed_fits form v
-signed-fits v f e h = rw (e, h, wide_is f)
+  pub all-fitting : length h.slots ≡ slots → length (take count h.slots) ≤ i → false ≡ unfit h
+  all-fitting long b =
+      let k : count_of h.kind ≤ i = omega (arith, q, length-take count h.slots, count_most h.kind) in
+      rw (left_end (rows_of h.kind) i k) at inv
 
-pub given-signed : (form : Form) {given : Given} {v : ℤ} → SFits w32 v → given ≡ Signed v → {r : Bool}
-    → r ≡ signed_fits form (back v) → r ≡ fits form given
-given-signed form f e h = rw (e, ← to_z-of_z f) h
-
-pub ruleset fit_steps =
-    (number_fits, or_standard-fits, no-standard-fits, one-of-fits, value-fits, wide_fits, signed-fits, given-signed)
-
--- ---- i inputs fitted
-
-module _ (h : Herd) (i : ℕ) {count : ℕ} (q : count ≡ count_of h.kind) where
-  module _ (inv : unfit_one (drop i (rows_of h.kind)) (drop i h.slots) ≡ unfit h) where
-    module _ (long : length h.slots ≡ slots) (b : i < count) {kind : Kind} (k : kind ≡ h.kind) {form : Form}
-        (f : form ≡ form_of kind i) (r : Bool) (e : r ≡ fits form (get_or h.slots i no_slot).given) where
-      next-fit : (not r || unfit_one (drop (i + 1) (rows_of h.kind)) (drop (i + 1) h.slots)) ≡ unfit h
-      unfolding form_of
-      next-fit = rw (e, f, k) (rw (row-at h i q long b, slot_at h i q long b) at inv)
-
-      pub misfit : not r ≡ true → true ≡ unfit h
-      misfit t = sym (rw t) ∙ next-fit
-
-      pub fitting : not r ≡ false → unfit_one (drop (i + 1) (rows_of h.kind)) (drop (i + 1) h.slots) ≡ unfit h
-      fitting t = sym (rw t) ∙ next-fit
-
-    pub all-fitting : count ≤ i → false ≡ unfit h
-    all-fitting b = rw (left_end (rows_of h.kind) i (omega arith)) at inv
-
-pub ruleset unfit_steps = (misfit, fitting, all-fitting)
+pub ruleset unfit_steps = (unfit-start, misfit, fitting, all-fitting)

@@ -22,22 +22,14 @@ fn fits_form(form: Form, given: Given) -> bool
 fn standard_fits(form: Form) -> bool
     ensures { result ≡ standard_fits form }
 {
-    match form {
-        Form::Number(_, _) => false,
-        Form::OrStandard(_, _) => true,
-        Form::NoStandard(_, _) => false,
-        Form::Signed(_) => false,
-        Form::OneOf(_) => false,
-    }
+    matches!(form, Form::OrStandard(..))
 }
 
 fn value_fits(form: Form, v: u32) -> bool
     ensures { result ≡ value_fits form v }
 {
     match form {
-        Form::Number(_, most) => v <= most,
-        Form::OrStandard(_, most) => v <= most,
-        Form::NoStandard(_, most) => v <= most,
+        Form::Number(_, most) | Form::OrStandard(_, most) | Form::NoStandard(_, most) => v <= most,
         Form::Signed(_) => false,
         Form::OneOf(names) => (v as usize) < names::size_of(names),
     }
@@ -47,11 +39,8 @@ fn signed_fits(form: Form, v: i32) -> bool
     ensures { result ≡ signed_fits form v }
 {
     match form {
-        Form::Number(_, _) => false,
-        Form::OrStandard(_, _) => false,
-        Form::NoStandard(_, _) => false,
         Form::Signed(most) => cut_division::magnitude(v as i64) <= most as u64,
-        Form::OneOf(_) => false,
+        _ => false,
     }
 }
 
@@ -59,16 +48,10 @@ fn signed_fits(form: Form, v: i32) -> bool
 pub fn has_unfit(h: Herd) -> bool
     ensures { result ≡ unfit h }
 {
-    let kind = h.kind;
-    let count = inputs::count_of(kind);
-    let mut i = 0;
-    while i < count {
-        let slot = h.slots[i];
-        let given = slot.given;
-        if !fits_form(inputs::form_of(kind, i), given) {
+    for (i, slot) in h.slots[..inputs::count_of(h.kind)].iter().enumerate() {
+        if !fits_form(inputs::form_of(h.kind, i), slot.given) {
             return true;
         }
-        i += 1;
     }
     false
 }

@@ -7,8 +7,10 @@ use mathlib.Core.List.{List}
 use native.Mathlib.Omega.{arith}
 use lib.ListN.{length, drop}
 use borrow.Author.Tests.{not-true, not-false}
+use Rattle.std.specs.Prelude.{Result, Ok, Err}
 use Rattle.base.specs.Pick.{pick}
 use Rattle.base.proofs.Clash.{clash}
+use Rattle.base.specs.Refused.{refuse}
 use Rattle.csv_reader.specs.declared.Fields.{Fields}
 use Rattle.csv_reader.specs.declared.ReaderPlace.{ReaderPlace}
 use Rattle.csv_reader.specs.declared.Step.{Step}
@@ -27,31 +29,25 @@ use Rattle.outdoors.specs.declared.Outdoors.{Outdoors}
 use Rattle.gate.specs.declared.Progress.{Progress}
 use Rattle.gate_days.specs.declared.LogRefusal.{LogRefusal}
 use Rattle.gate_days.specs.declared.LogRefusal.TheVariants.{RecordBroken, WrongDate}
-use Rattle.gate.specs.declared.LogAnswer.{LogAnswer}
-use Rattle.gate.specs.declared.LogAnswer.TheVariants.{Gives, Refused}
-use Rattle.gate_days.specs.declared.days.DayRead.{DayRead}
-use Rattle.gate_days.specs.declared.days.DayRead.TheVariants as reads
-use Rattle.gate.specs.declared.logs.Taken.{Taken}
-use Rattle.gate.specs.declared.logs.Taken.TheVariants.{Further, Wrong}
 use Rattle.gate_days.specs.Days.{day_of}
 use Rattle.outdoors.specs.Tallies.{with_day, outdoors_by, Roomy}
-use Rattle.gate.specs.Logs.{progress, nothing_read, taken_by, finished, log_most, read_from}
+use Rattle.gate.specs.Logs.{progress, nothing_read, taken_by, finished, log_most, read_from, LogAnswer}
 use Rattle.gate_days.proofs.DaySteps.{day-small}
 use Rattle.outdoors.proofs.TallySteps.{grown}
 
 -- ---- what a record does
 
-module _ (p : Progress) {x : DayRead} where
-  pub taken-wrong : {refusal : LogRefusal} → x ≡ reads.Wrong refusal → Wrong refusal ≡ taken_by p x
+module _ (p : Progress) {x : Result Day LogRefusal} where
+  pub taken-wrong : {refusal : LogRefusal} → x ≡ Err refusal → Err refusal ≡ taken_by p x
   taken-wrong e = rw e
 
-  module _ {d : Day} (e : x ≡ reads.Says d) {b : Bool} (q : b ≡ is_due p.due d.date) where
-    pub taken-not-due : not b ≡ true → Wrong WrongDate ≡ taken_by p x
+  module _ {d : Day} (e : x ≡ Ok d) {b : Bool} (q : b ≡ is_due p.due d.date) where
+    pub taken-not-due : not b ≡ true → Err WrongDate ≡ taken_by p x
     taken-not-due h = simp (e, sym q ∙ not-true b h)
 
     pub taken-further : not b ≡ false → {due : Due} → due ≡ due_after d.date → {t : Tally}
         → t ≡ with_day p.tally d
-        → Further (progress due t) ≡ taken_by p x
+        → Ok (progress due t) ≡ taken_by p x
     taken-further h u v = simp (e, sym q ∙ not-false b h, u, v)
 
 pub ruleset taken_steps = (taken-wrong, taken-not-due, taken-further)
@@ -59,15 +55,15 @@ pub ruleset taken_steps = (taken-wrong, taken-not-due, taken-further)
 -- ---- read through
 
 module _ (p : Progress) where
-  pub ends-at-once : p.due ≡ NewYear → Refused WrongDate 0 ≡ finished p
+  pub ends-at-once : p.due ≡ NewYear → refuse WrongDate 0 ≡ finished p
   unfolding finished
   ends-at-once e = simp (finished, e)
 
-  pub ends_early : {d : Date} → p.due ≡ On d → Refused WrongDate 0 ≡ finished p
+  pub ends_early : {d : Date} → p.due ≡ On d → refuse WrongDate 0 ≡ finished p
   unfolding finished
   ends_early e = simp (finished, e)
 
-  pub ends_in_time : p.due ≡ Nothing → {o : Outdoors} → o ≡ outdoors_by p.tally → Gives o ≡ finished p
+  pub ends_in_time : p.due ≡ Nothing → {o : Outdoors} → o ≡ outdoors_by p.tally → Ok o ≡ finished p
   unfolding finished
   ends_in_time e q = simp (finished, e, q)
 
@@ -126,45 +122,46 @@ module _ (s : List ℕ) (place : ReaderPlace) (p : Progress) (n : ℕ) (x : Reac
       go : Says s place.at End → r ≡ X
       go (Says.ended l) = q ∙ rw (end_read s place.at l, read_from) at x.reads
 
-  pub log-broken : o ≡ Broken → Refused RecordBroken n ≡ X
+  pub log-broken : o ≡ Broken → refuse RecordBroken n ≡ X
   unfolding read_from
   log-broken z = go (step_is z)
     where
-      go : Says s place.at Broken → Refused RecordBroken n ≡ X
+      go : Says s place.at Broken → refuse RecordBroken n ≡ X
       go (Says.broken b a e) = rw (e, read_from) at x.reads
 
   module _ {f : Fields} {next : ReaderPlace} (z : o ≡ Record f next) where
     pub record_less : length s - next.at < length s - place.at
     record_less = let r = next-reads s place.at (sym w ∙ z) in omega (arith, r.past, r.fits)
 
-    module _ {y : DayRead} (qy : y ≡ day_of (parts_at s f)) {t : Taken} (qt : t ≡ taken_by p y) where
+    module _ {y : Result Day LogRefusal} (qy : y ≡ day_of (parts_at s f)) {t : Result Progress LogRefusal}
+        (qt : t ≡ taken_by p y) where
       -- what is read from here on, by what the record does
-      abbrev going : Taken → LogAnswer
-      going (Further q) = on_from s next (n + 1) q
-      going (Wrong refusal) = Refused refusal n
+      abbrev going : Result Progress LogRefusal → LogAnswer
+      going (Ok q) = on_from s next (n + 1) q
+      going (Err refusal) = refuse refusal n
 
-      goes : {u : Taken} → t ≡ u → going u ≡ X
+      goes : {u : Result Progress LogRefusal} → t ≡ u → going u ≡ X
       unfolding read_from
       goes {u} e =
           let r = next-reads s place.at (sym w ∙ z) in
           let v : taken_by p (day_of (parts_of r.contents)) ≡ u = rw r.holds at (rw qy at (sym qt)) ∙ e in
           by u v (rw (r.reads, read_from) at x.reads)
         where
-          by : (u : Taken) {k : Taken} → k ≡ u
-              → elim k [ Further q ↦ on_from s next (n + 1) q | Wrong refusal ↦ Refused refusal n ] ≡ X → going u ≡ X
-          by (Further q) e h = rw e at h
-          by (Wrong refusal) e h = rw e at h
+          by : (u : Result Progress LogRefusal) {k : Result Progress LogRefusal} → k ≡ u
+              → elim k [ Ok q ↦ on_from s next (n + 1) q | Err refusal ↦ refuse refusal n ] ≡ X → going u ≡ X
+          by (Ok q) e h = rw e at h
+          by (Err refusal) e h = rw e at h
 
-      pub log-wrong : {refusal : LogRefusal} → t ≡ Wrong refusal → Refused refusal n ≡ X
+      pub log-wrong : {refusal : LogRefusal} → t ≡ Err refusal → refuse refusal n ≡ X
       log-wrong e = goes e
 
-      pub log-further : {q : Progress} → t ≡ Further q → Reached s next q (n + 1)
+      pub log-further : {q : Progress} → t ≡ Ok q → Reached s next q (n + 1)
       log-further {q} e = go y refl
         where
           r : ReadAs s place.at f next
           r = next-reads s place.at (sym w ∙ z)
 
-          more : (d : Day) → y ≡ reads.Says d → q ≡ progress (due_after d.date) (with_day p.tally d)
+          more : (d : Day) → y ≡ Ok d → q ≡ progress (due_after d.date) (with_day p.tally d)
               → Reached s next q (n + 1)
           more d h k =
               let g = grown p.tally d in
@@ -178,15 +175,15 @@ module _ (s : List ℕ) (place : ReaderPlace) (p : Progress) (n : ℕ) (x : Reac
                 reads = goes e;
               }
 
-          due : (d : Day) (b : Bool) → y ≡ reads.Says d
-              → pick b (Further (progress (due_after d.date) (with_day p.tally d))) (Wrong WrongDate) ≡ Further q
+          due : (d : Day) (b : Bool) → y ≡ Ok d
+              → pick b (Ok (progress (due_after d.date) (with_day p.tally d))) (Err WrongDate) ≡ Ok q
               → Reached s next q (n + 1)
           due d true h k = more d h (cc)
           due d false h k = clash cc
 
-          go : (u : DayRead) → y ≡ u → Reached s next q (n + 1)
-          go (reads.Says d) h = due d (is_due p.due d.date) h (ap (taken_by p) (sym h) ∙ sym qt ∙ e)
-          go (reads.Wrong refusal) h = let k : Wrong refusal ≡ Further q = ap (taken_by p) (sym h) ∙ sym qt ∙ e in
+          go : (u : Result Day LogRefusal) → y ≡ u → Reached s next q (n + 1)
+          go (Ok d) h = due d (is_due p.due d.date) h (ap (taken_by p) (sym h) ∙ sym qt ∙ e)
+          go (Err refusal) h = let k : Err refusal ≡ Ok q = ap (taken_by p) (sym h) ∙ sym qt ∙ e in
               clash cc
 
 pub ruleset log_steps = (reached-front, reached-roomy, log-ends, log-broken, record_less, log-wrong, log-further)

@@ -1,9 +1,8 @@
 -- What the answer to a log says in the refusals' numbers. To be believed.
-use Rattle.std.specs.Prelude.{ℕ}
+use Rattle.std.specs.Prelude.{ℕ, Ok, Err}
 use Rattle.outdoors.specs.declared.Outdoors.{Outdoors}
 use Rattle.gate_days.specs.Refusals.{number}
-use Rattle.gate.specs.declared.LogAnswer.{LogAnswer}
-use Rattle.gate.specs.declared.LogAnswer.TheVariants.{Gives, Refused}
+use Rattle.gate.specs.Logs.{LogAnswer}
 
 -- what the log comes to; or the refusal's number and the record's
 pub data Says : Type 0 where
@@ -11,5 +10,5 @@ pub data Says : Type 0 where
   refuses : (refusal at_record : ℕ) → Says
 
 abbrev pub says : LogAnswer → Says
-says (Gives o) = gives o
-says (Refused refusal record') = refuses (number refusal) record'
+says (Ok o) = gives o
+says (Err refused) = refuses (number refused.0) refused.1

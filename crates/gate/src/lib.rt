@@ -4,6 +4,7 @@
 
 pub mod logs; // the log read through
 
+use base::refusals::Refused;
 use calendar::Due;
 use gate_days::LogRefusal;
 use outdoors::{Outdoors, Tally};
@@ -12,15 +13,11 @@ use outdoors::{Outdoors, Tally};
 pub const LOG_MOST: usize = 65536;
 
 // How far a log is read: which date is due, and what the days so far come to.
-#[derive(Clone, Copy)]
+#[derive(Clone, Copy, Debug, PartialEq, Eq)]
 pub struct Progress {
     pub due: Due,
     pub tally: Tally,
 }
 
 // What a log is answered with.
-#[derive(Clone, Copy)]
-pub enum LogAnswer {
-    Gives(Outdoors),
-    Refused(LogRefusal, usize),
-}
+pub type LogAnswer = Result<Outdoors, Refused<LogRefusal>>;

@@ -18,4 +18,8 @@ answer_room = lines_room
 -- the answer, and its bytes before zeros
 unfoldable pub answer_of : List ℕ → PutAnswer
 answer_of s =
-    record { answer = read_log s; bytes = sets (replicate answer_room 0) 0 (log_output s); length = length (log_output s) }
+    record {
+      answer = read_log s;
+      bytes = sets (replicate answer_room 0) 0 (log_output s);
+      length = length (log_output s);
+    }

@@ -6,6 +6,7 @@ ghost use Rattle.base.specs.Wrote.{Wrote};
 ghost use Rattle.gate_answer.specs.Lines.{answer_lines};
 ghost use Rattle.gate_answer.specs.Program.{answer_room, answer_of};
 
+use base::refusals::Refused;
 use gate::{LogAnswer, logs};
 use gate_days::faults;
 
@@ -13,20 +14,21 @@ use gate_days::faults;
 pub const ANSWER_ROOM: usize = lines_outdoors::LINES_ROOM;
 
 // An answer, and its bytes from the front on; those behind them are zeros.
-#[derive(Clone, Copy)]
+#[derive(Clone, Copy, Debug, PartialEq, Eq)]
 pub struct PutAnswer {
     pub answer: LogAnswer,
     pub bytes: [u8; ANSWER_ROOM],
     pub length: usize,
 }
 
+#[tactic(auto, using(crate::proofs::LineSteps::line_steps))]
 fn put_lines(out: &mut [u8], answer: LogAnswer) -> usize
     requires { answer_room ≤ length out.old }
     ensures { Wrote out.old 0 (answer_lines answer) out.new result }
 {
     match answer {
-        LogAnswer::Gives(o) => lines_outdoors::put_outdoors(out, o),
-        LogAnswer::Refused(refusal, record) => {
+        Ok(o) => lines_outdoors::put_outdoors(out, o),
+        Err(Refused(refusal, record)) => {
             refusal_line::put_refusal(out, faults::number_of(refusal), record)
         }
     }

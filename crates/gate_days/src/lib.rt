@@ -8,7 +8,7 @@ pub mod days; // what a record says of its day
 pub const HOURS_MOST: u32 = 240;
 
 // What can be wrong with a log.
-#[derive(Clone, Copy)]
+#[derive(Clone, Copy, Debug, PartialEq, Eq)]
 pub enum LogRefusal {
     LogTooLong,
     RecordBroken,

@@ -1,5 +1,6 @@
 -- Exact acceptance: a log comes to something exactly where it keeps the rules and its days come to that. Assumes
 -- nothing.
+use Rattle.std.specs.Prelude.{Ok}
 use Prim.Native.Nat.{ℕ, zero, suc, ◌+◌, ◌-◌}
 use mathlib.Core.Path.{◌≡◌, sym, ap, ◌∙◌}
 use mathlib.Core.Logic.{◌↔◌}
@@ -23,11 +24,9 @@ use Rattle.calendar.proofs.Years.{at_front, at_most}
 use Rattle.outdoors.specs.declared.Day.{Day}
 use Rattle.outdoors.specs.declared.Tally.{Tally}
 use Rattle.outdoors.specs.declared.Outdoors.{Outdoors}
-use Rattle.gate.specs.declared.LogAnswer.{LogAnswer}
-use Rattle.gate.specs.declared.LogAnswer.TheVariants.{Gives}
 use Rattle.outdoors.specs.Outdoors.{outdoors_of}
 use Rattle.outdoors.specs.Tallies.{tally, with_day}
-use Rattle.gate.specs.Logs.{progress, nothing_read, finished, read_from, read_log}
+use Rattle.gate.specs.Logs.{progress, nothing_read, finished, read_from, read_log, LogAnswer}
 use Rattle.outdoors.proofs.Tallied.{tally_of, tally-last, tally-outdoors}
 use Rattle.gate_rules_theorems.specs.Rules.{RecordSays, dates_of, log_most, KeepsLog}
 use Rattle.gate_rules_theorems.proofs.Days.{says-read}
@@ -45,10 +44,10 @@ use Rattle.gate_rules_theorems.proofs.Answers.{
 }
 
 -- what is accepted keeps the rules
-keeps : {s : List ℕ} {x : LogAnswer} {o : Outdoors} → Answered s x → x ≡ Gives o → KeepsLog s o
+keeps : {s : List ℕ} {x : LogAnswer} {o : Outdoors} → Answered s x → x ≡ Ok o → KeepsLog s o
 keeps {s} {x} {o} (read short r) e = go r e
   where
-    go : {x : LogAnswer} → Ran (reading_of s) x → x ≡ Gives o → KeepsLog s o
+    go : {x : LogAnswer} → Ran (reading_of s) x → x ≡ Ok o → KeepsLog s o
     go (accepts rs {days} w _ log _) e =
         let is : outdoors_of days ≡ o = cc in
         record {
@@ -76,11 +75,11 @@ taken n due t x e r = rw (read_from, says-read x, e)
 -- the year's days from the day k on, behind those of a
 along : (y k m n : ℕ) (a : List Day) {rs : List Record} {ds : List Day} → Pairs RecordSays rs ds
     → dates_of ds ≡ dates_from m (date_at y (suc k)) → suc k + m ≡ year_length y
-    → read_from n (progress (due_after (date_at y k)) (tally_of a)) (thens rs end) ≡ Gives (outdoors_of (a ++ ds))
+    → read_from n (progress (due_after (date_at y k)) (tally_of a)) (thens rs end) ≡ Ok (outdoors_of (a ++ ds))
 unfolding read_from finished
 along y k zero n a Pairs.none e l =
     let over = due-end y k (omega arith) in
-    rw (read_from, finished, over) (ap Gives (tally-outdoors a ∙ ap outdoors_of (sym (append-nil a))))
+    rw (read_from, finished, over) (ap Ok (tally-outdoors a ∙ ap outdoors_of (sym (append-nil a))))
 along y k zero n a (Pairs.more x p) e l = clash cc
 along y k (suc m) n a Pairs.none e l = clash cc
 along y k (suc m) n a (Pairs.more {b = d} {l = rs} {m = ds} x p) e l =
@@ -95,11 +94,11 @@ along y k (suc m) n a (Pairs.more {b = d} {l = rs} {m = ds} x p) e l =
     (sym (tally-last a d))
     ∙ along y (suc k) m (n + 1) (a ++ (d ∷ [])) p (rest ∙ ap (dates_from m) (after_next (suc k) (new_year y)))
     (omega arith)
-    ∙ ap (λ (days : List Day). Gives (outdoors_of days)) (append_assoc a (d ∷ []) ds)
+    ∙ ap (λ (days : List Day). Ok (outdoors_of days)) (append_assoc a (d ∷ []) ds)
 
 from_front : (y m : ℕ) {rs : List Record} {ds : List Day} → Pairs RecordSays rs ds
     → dates_of ds ≡ dates_from (suc m) (new_year y) → year_length y ≡ suc m
-    → read_from 1 nothing_read (thens rs end) ≡ Gives (outdoors_of ds)
+    → read_from 1 nothing_read (thens rs end) ≡ Ok (outdoors_of ds)
 from_front y m Pairs.none e l = clash cc
 from_front y m (Pairs.more {b = d} {l = rs} {m = ds} x p) e l =
     let is : d.date ≡ new_year y = cc in
@@ -109,7 +108,7 @@ from_front y m (Pairs.more {b = d} {l = rs} {m = ds} x p) e l =
     ∙ ap (λ (t : Tally). read_from 2 (progress (due_after (date_at y 0)) t) (thens rs end)) (sym (tally-last [] d))
     ∙ along y 0 m 2 (d ∷ []) p rest (omega arith)
 
-keeps-read : {s : List ℕ} {o : Outdoors} → KeepsLog s o → read_log s ≡ Gives o
+keeps-read : {s : List ℕ} {o : Outdoors} → KeepsLog s o → read_log s ≡ Ok o
 unfolding read_log
 keeps-read {s} k =
     let y = k.log.year in
@@ -117,10 +116,10 @@ keeps-read {s} k =
     rw (read_log, le-ltb log_most (length s) k.short)
     (ap (read_from 1 nothing_read) (file-read k.reads ∙ whole-thens k.records)
     ∙ from_front y (year_length y - 1) k.log.says (k.log.dates ∙ ap (λ (n : ℕ). dates_from n (new_year y)) m) m
-    ∙ ap Gives (sym k.is))
+    ∙ ap Ok (sym k.is))
 
 -- a log comes to something exactly where it keeps the rules
-pub accepts-exactly : (s : List ℕ) (o : Outdoors) → (read_log s ≡ Gives o) ↔ KeepsLog s o
+pub accepts-exactly : (s : List ℕ) (o : Outdoors) → (read_log s ≡ Ok o) ↔ KeepsLog s o
 accepts-exactly s o = (keeps (answered s), keeps-read)
 
 -- and to one thing at most

@@ -7,7 +7,9 @@ use native.Mathlib.Omega.{arith}
 use lib.Dec.{ltb}
 use lib.ListN.{length, length-append}
 use borrow.Author.Tests.{ltb-true, ltb-false}
+use Rattle.std.specs.Prelude.{Result, Ok, Err}
 use Rattle.base.specs.Pick.{pick}
+use Rattle.base.specs.Refused.{refuse}
 use Rattle.grammar.specs.Reading.{Reading, ◌then◌, end, broken, reading_of}
 use Rattle.first_refusal.specs.Records.{Record}
 use Rattle.first_refusal.proofs.Clean.{CleanOf, clean_none, clean_last}
@@ -20,13 +22,9 @@ use Rattle.outdoors.specs.declared.Day.{Day}
 use Rattle.gate.specs.declared.Progress.{Progress}
 use Rattle.gate_days.specs.declared.LogRefusal.{LogRefusal}
 use Rattle.gate_days.specs.declared.LogRefusal.TheVariants.{LogTooLong, RecordBroken, WrongDate}
-use Rattle.gate.specs.declared.LogAnswer.{LogAnswer}
-use Rattle.gate.specs.declared.LogAnswer.TheVariants.{Gives, Refused}
-use Rattle.gate.specs.declared.logs.Taken.{Taken}
-use Rattle.gate.specs.declared.logs.Taken.TheVariants.{Further, Wrong}
 use Rattle.gate_days.specs.Refusals.{number}
 use Rattle.outdoors.specs.Outdoors.{outdoors_of}
-use Rattle.gate.specs.Logs.{nothing_read, read_from, read_log}
+use Rattle.gate.specs.Logs.{nothing_read, read_from, read_log, LogAnswer}
 use Rattle.gate_rules_theorems.specs.Rules.{date_text, LogOf, log_most}
 use Rattle.gate_rules_theorems.specs.Refusals.{Applies}
 use Rattle.gate_rules_theorems.proofs.Steps.{
@@ -51,14 +49,14 @@ Clean rs = CleanOf Applies rs
 
 pub data Ran (w : Reading) : LogAnswer → Type 0 where
   accepts : (rs : List Record) {days : List Day} → w ≡ thens rs end → Clean rs → LogOf rs days → OnEve rs
-      → Ran w (Gives (outdoors_of days))
-  breaks : (rs : List Record) → w ≡ thens rs broken → Clean rs → Ran w (Refused RecordBroken (length rs + 1))
+      → Ran w (Ok (outdoors_of days))
+  breaks : (rs : List Record) → w ≡ thens rs broken → Clean rs → Ran w (refuse RecordBroken (length rs + 1))
   wrong : (before : List Record) (cs : Record) (rest : Reading) {refusal : LogRefusal} → w ≡ thens before (cs then rest)
       → Clean before → Applies before cs refusal
-      → NoneBelow before cs (number refusal) → Ran w (Refused refusal (length before + 1))
+      → NoneBelow before cs (number refusal) → Ran w (refuse refusal (length before + 1))
   ends : (rs : List Record) → w ≡ thens rs end → Clean rs
       → ((r : Record) (d : Date) → Last rs r → IsDate (date_text r) d → IsEve d → ⊥)
-      → Ran w (Refused WrongDate 0)
+      → Ran w (refuse WrongDate 0)
 
 through : {w : Reading} {rs : List Record} {x : LogAnswer} → w ≡ thens rs end → Clean rs → Ended rs x → Ran w x
 through {rs = rs} e clean (whole log eve) = accepts rs e clean log eve
@@ -72,12 +70,13 @@ module _ (w : Reading) where
   run before p inv clean broken e = breaks before e clean
   run before p inv clean (cs then r) e = go (verdict inv cs) (λ b q i c d. run b q i c r d)
     where
-      go : {t : Taken} → Verdict before cs p t
-          → ((b : List Record) (q : Progress) → Inv b q → Clean b → w ≡ thens b r → Ran w (read_from (length b + 1) q r))
+      go : {t : Result Progress LogRefusal} → Verdict before cs p t
+          → ((b : List Record) (q : Progress) → Inv b q → Clean b
+          → w ≡ thens b r → Ran w (read_from (length b + 1) q r))
           → Ran w
           (elim t [
-            | Further q ↦ read_from (length before + 1 + 1) q r
-            | Wrong refusal ↦ Refused refusal (length before + 1)
+            | Ok q ↦ read_from (length before + 1 + 1) q r
+            | Err refusal ↦ refuse refusal (length before + 1)
           ])
       go (refuses x below) again = wrong before cs r e clean x below
       go (goes_on {q} none on) again =
@@ -90,7 +89,7 @@ module _ (w : Reading) where
 -- ---- the answer to a log
 
 pub data Answered (s : List ℕ) : LogAnswer → Type 0 where
-  too_long : log_most < length s → Answered s (Refused LogTooLong 0)
+  too_long : log_most < length s → Answered s (refuse LogTooLong 0)
   read : {x : LogAnswer} → length s ≤ log_most → Ran (reading_of s) x → Answered s x
 
 pub answered : (s : List ℕ) → Answered s (read_log s)
@@ -98,7 +97,7 @@ unfolding read_log
 answered s = go (ltb log_most (length s)) refl
   where
     go : (t : Bool) → ltb log_most (length s) ≡ t
-        → Answered s (pick t (Refused LogTooLong 0) (read_from 1 nothing_read (reading_of s)))
+        → Answered s (pick t (refuse LogTooLong 0) (read_from 1 nothing_read (reading_of s)))
     go true e = too_long (ltb-true log_most (length s) e)
     go false e =
         read (ltb-false log_most (length s) e)

@@ -50,8 +50,10 @@ pub refused-rows : map log_output refused_logs
     ∷ "refused,2,2\r\n"
     ∷ "refused,14,2\r\n"
     ∷ [])
-unfolding log_output refusal_line whole_of width read_log read_from finished day_of hours_of with_day due_after days_in is_leap
-    date_of pair_of number_of any_number_of zero_from whole_from point_from fraction_from reading_of reading_from at_start in_plain
+unfolding log_output refusal_line whole_of width read_log read_from finished day_of hours_of with_day due_after days_in
+    is_leap
+    date_of pair_of number_of any_number_of zero_from whole_from point_from fraction_from reading_of reading_from
+    at_start in_plain
     in_quotes past_quote past_cR
 refused-rows = refl
 

@@ -1,4 +1,5 @@
 -- What a log comes to, as it is printed, is a value of a farm file's inputs of the same names. Assumes nothing.
+use Rattle.std.specs.Prelude.{Ok}
 use Prim.Native.Nat.{ℕ, ◌+◌, ◌*◌, ◌/◌, ◌%◌}
 use mathlib.Core.Path.{◌≡◌, refl, sym, ◌∙◌}
 use mathlib.Core.List.{List, [], ◌∷◌, ◌++◌, append_assoc}
@@ -16,7 +17,6 @@ use Rattle.decimal.proofs.Written.{whole-number}
 use Rattle.inputs.specs.Inputs.{form_of}
 use Rattle.rules_theorems.specs.Rules.{GoodLabel, ValueIs, RecordSays}
 use Rattle.outdoors.specs.declared.Outdoors.{Outdoors}
-use Rattle.gate.specs.declared.LogAnswer.TheVariants.{Gives}
 use Rattle.gate.specs.Logs.{read_log}
 use Rattle.lines_outdoors.specs.Lines.{tenths_of}
 use Rattle.gate_answer.specs.Program.{log_output}
@@ -80,7 +80,7 @@ module _ (o : Outdoors) (fits : Fits o) (label : List ℕ) (good : GoodLabel lab
       none))
 
 -- whatever a log comes to, a farm file takes it as it is printed, for a herd of any good label
-pub farm-file-takes : (s : List ℕ) (o : Outdoors) → read_log s ≡ Gives o → (label : List ℕ) → GoodLabel label
+pub farm-file-takes : (s : List ℕ) (o : Outdoors) → read_log s ≡ Ok o → (label : List ℕ) → GoodLabel label
     → TakesAll label (printed_of o) (log_output s)
 farm-file-takes s o e label good =
     record {

@@ -1,5 +1,6 @@
 -- What is printed for a log is RFC 4180 records, each ended by CRLF: three of two fields, or the refusal's of three.
 -- Assumes nothing.
+use Rattle.std.specs.Prelude.{Ok, Err}
 use Prim.Native.Nat.{ℕ, ◌/◌, ◌%◌}
 use mathlib.Core.Path.{refl, subst}
 use mathlib.Core.List.{List, [], ◌∷◌, ◌++◌, map, append_assoc}
@@ -11,9 +12,7 @@ use Rattle.record_lines.proofs.Records.{no-records, line, both, refusal-read}
 use Rattle.outdoors.specs.declared.Outdoors.{Outdoors}
 use Rattle.lines_outdoors.specs.Lines.{tenths_of, outdoors_lines}
 use Rattle.gate_days.specs.Refusals.{number}
-use Rattle.gate.specs.declared.LogAnswer.{LogAnswer}
-use Rattle.gate.specs.declared.LogAnswer.TheVariants.{Gives, Refused}
-use Rattle.gate.specs.Logs.{read_log}
+use Rattle.gate.specs.Logs.{read_log, LogAnswer}
 use Rattle.gate_answer.specs.Lines.{answer_lines}
 use Rattle.gate_answer.specs.Program.{log_output}
 use Rattle.gate_rules_theorems.specs.FarmFile.{printed_of, record_of}
@@ -37,8 +36,8 @@ outdoors-read o =
     (before (past-plain _ refl) (plain-tenths o.grazing_hours) no-records))
 
 answer-read : (a : LogAnswer) → RecordsOf (field_count a) (answer_records a) (answer_lines a)
-answer-read (Gives o) = outdoors-read o
-answer-read (Refused refusal record') = refusal-read (number refusal) record'
+answer-read (Ok o) = outdoors-read o
+answer-read (Err refused) = refusal-read (number refused.0) refused.1
 
 -- of every log
 pub log-prints-records : (s : List ℕ)

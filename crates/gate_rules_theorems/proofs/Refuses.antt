@@ -1,5 +1,6 @@
 -- The first refusal: a log is refused with a number and a record exactly where that is the first refusal that
 -- applies, in 02's order; and a log is accepted exactly where none applies. Assumes nothing.
+use Rattle.std.specs.Prelude.{Ok, Err}
 use Prim.Native.Nat.{ℕ, suc, ◌+◌, ◌<◌, ◌≤◌}
 use mathlib.Core.Path.{◌≡◌, refl, sym, ap, subst, ◌∙◌}
 use mathlib.Core.Logic.{◌↔◌, ◌⊎◌, inl, inr}
@@ -8,6 +9,8 @@ use native.Mathlib.Omega.{arith}
 use lib.ListN.{length, length-append}
 use Rattle.base.specs.Pick.{if◌is◌then◌else◌}
 use Rattle.base.proofs.Clash.{clash}
+use Rattle.base.proofs.SameRefused.{same-record, same-refusal}
+use Rattle.base.specs.Refused.{refuse}
 use Rattle.grammar.specs.Reading.{Reading, ◌then◌, end, broken, reading_of}
 use Rattle.grammar.proofs.Files.{read-file, breaks-read, read-breaks}
 use Rattle.rules_theorems.specs.Lists.{Last}
@@ -23,11 +26,9 @@ use Rattle.outdoors.specs.declared.Outdoors.{Outdoors}
 use Rattle.gate_days.specs.declared.LogRefusal.{LogRefusal}
 use Rattle.gate_days.specs.declared.LogRefusal.TheVariants.{LogTooLong, RecordBroken, NotThreeFields, BadHours}
 use Rattle.gate_days.specs.declared.LogRefusal.TheVariants.{WrongDate}
-use Rattle.gate.specs.declared.LogAnswer.{LogAnswer}
-use Rattle.gate.specs.declared.LogAnswer.TheVariants.{Gives, Refused}
 use Rattle.gate_days.specs.Refusals.{number}
 use Rattle.gate.specs.Answers.{says}
-use Rattle.gate.specs.Logs.{read_log}
+use Rattle.gate.specs.Logs.{read_log, LogAnswer}
 use Rattle.gate_rules_theorems.specs.Rules.{date_text, log_most, KeepsLog}
 use Rattle.gate_rules_theorems.specs.Refusals.{
   Applies,
@@ -227,8 +228,8 @@ module _ (s : List ℕ) where
 -- ---- what is answered of a log
 
 data Outcome (s : List ℕ) : LogAnswer → Type 0 where
-  takes : {o : Outdoors} → ((m : ℕ) (other : LogRefusal) → AppliesAt s m other → ⊥) → Outcome s (Gives o)
-  refuses_it : {n : ℕ} {refusal : LogRefusal} → First s n refusal → Outcome s (Refused refusal n)
+  takes : {o : Outdoors} → ((m : ℕ) (other : LogRefusal) → AppliesAt s m other → ⊥) → Outcome s (Ok o)
+  refuses_it : {n : ℕ} {refusal : LogRefusal} → First s n refusal → Outcome s (refuse refusal n)
 
 outcome : {s : List ℕ} {x : LogAnswer} → Answered s x → Outcome s x
 outcome {s} (too_long h) = refuses_it (first-long s h)
@@ -265,19 +266,18 @@ one-first x y = one-of-first (λ a b. order (rank a) (rank b)) x y
 -- ---- the theorems
 
 module _ (s : List ℕ) (n : ℕ) (refusal : LogRefusal) where
-  refused-first : {x : LogAnswer} → Outcome s x → x ≡ Refused refusal n → First s n refusal
+  refused-first : {x : LogAnswer} → Outcome s x → x ≡ refuse refusal n → First s n refusal
   refused-first (takes _) e = clash cc
-  refused-first (refuses_it {n = m} {refusal = f} x) e = let p : m ≡ n = cc in let q : f ≡ refusal = cc in
-      rw (p, q) at x
+  refused-first (refuses_it x) e = rw (same-record e, same-refusal e) at x
 
-  first-refused : {x : LogAnswer} → Outcome s x → First s n refusal → x ≡ Refused refusal n
+  first-refused : {x : LogAnswer} → Outcome s x → First s n refusal → x ≡ refuse refusal n
   first-refused (takes none) x = absurd (none n refusal x.applies)
   first-refused (refuses_it {n = m} {refusal = f} y) x =
       let o = one-first y x in
-      ap (Refused f) o.at_record ∙ ap (λ (g : LogRefusal). Refused g n) o.refusal
+      ap (refuse f) o.at_record ∙ ap (λ (g : LogRefusal). refuse g n) o.refusal
 
   -- a log is refused with this fault and record exactly where that is the first refusal
-  pub first-refusal : (read_log s ≡ Refused refusal n) ↔ First s n refusal
+  pub first-refusal : (read_log s ≡ refuse refusal n) ↔ First s n refusal
   first-refusal = (λ e. refused-first (outcome (answered s)) e, λ x. first-refused (outcome (answered s)) x)
 
 -- in 02's numbers
@@ -285,8 +285,8 @@ pub log-says : (s : List ℕ) → LogGets s (says (read_log s))
 log-says s = go (read_log s) refl
   where
     go : (x : LogAnswer) → read_log s ≡ x → LogGets s (says x)
-    go (Gives o) e = LogGets.comes_to ((accepts-exactly s o).0 e)
-    go (Refused f n) e = LogGets.refused ((first-refusal s n f).0 e)
+    go (Ok o) e = LogGets.comes_to ((accepts-exactly s o).0 e)
+    go (Err refused) e = LogGets.refused ((first-refusal s refused.1 refused.0).0 e)
 
 -- a log that keeps the rules, with what it comes to
 pub record Taken (s : List ℕ) : Type 0 where
@@ -300,7 +300,7 @@ taken-exactly s = (
   λ none. keep none (read_log s) refl (outcome (answered s)),
 )
   where
-    clear : {x : LogAnswer} {o : Outdoors} → Outcome s x → x ≡ Gives o → (m : ℕ) (other : LogRefusal)
+    clear : {x : LogAnswer} {o : Outdoors} → Outcome s x → x ≡ Ok o → (m : ℕ) (other : LogRefusal)
         → AppliesAt s m other → ⊥
     clear (takes none) e = none
     clear (refuses_it _) e = clash cc

@@ -8,8 +8,10 @@ use mathlib.Core.List.{List, [], ◌∷◌, ◌++◌}
 use native.Mathlib.Omega.{arith}
 use lib.Dec.{eqb, ltb}
 use borrow.Author.Tests.{eq-eqb, eqb-true, ltb-true, ltb-false}
+use Rattle.std.specs.Prelude.{Result, Ok, Err}
 use Rattle.base.specs.Pick.{pick}
 use Rattle.base.proofs.Clash.{clash}
+use Rattle.base.specs.Refused.{refuse}
 use Rattle.grammar.specs.Reading.{parts_of}
 use Rattle.rules_theorems.specs.Lists.{Last, only, Pairs}
 use Rattle.first_refusal.specs.Records.{Record}
@@ -27,16 +29,11 @@ use Rattle.outdoors.specs.declared.Day.{Day}
 use Rattle.gate.specs.declared.Progress.{Progress}
 use Rattle.gate_days.specs.declared.LogRefusal.{LogRefusal}
 use Rattle.gate_days.specs.declared.LogRefusal.TheVariants.{NotThreeFields, BadHours, WrongDate}
-use Rattle.gate.specs.declared.LogAnswer.{LogAnswer}
-use Rattle.gate.specs.declared.LogAnswer.TheVariants.{Gives, Refused}
-use Rattle.gate_days.specs.declared.days.DayRead.{DayRead}
-use Rattle.gate.specs.declared.logs.Taken.{Taken}
-use Rattle.gate.specs.declared.logs.Taken.TheVariants.{Further, Wrong}
 use Rattle.gate_days.specs.Refusals.{number}
 use Rattle.gate_days.specs.Days.{day_of}
 use Rattle.outdoors.specs.Tallies.{with_day}
 use Rattle.outdoors.specs.Outdoors.{outdoors_of}
-use Rattle.gate.specs.Logs.{progress, nothing_read, taken_by, finished}
+use Rattle.gate.specs.Logs.{progress, nothing_read, taken_by, finished, LogAnswer}
 use Rattle.outdoors.proofs.Tallied.{tally_of, tally-last, tally-outdoors}
 use Rattle.gate_rules_theorems.specs.Rules.{date_text, RecordSays, dates_of, LogOf}
 use Rattle.gate_rules_theorems.specs.Refusals.{DueAfter, at_new_year, next, Applies, not_three_fields, bad_hours}
@@ -137,11 +134,11 @@ abbrev pub NoneBelow : List Record → Record → ℕ → Type 0
 NoneBelow before cs n = (f : LogRefusal) → number f < n → Applies before cs f → ⊥
 
 -- what is to be shown of a record: it is refused, by the first that applies, or none applies and reading goes on
-pub data Verdict (before : List Record) (cs : Record) (p : Progress) : Taken → Type 0 where
+pub data Verdict (before : List Record) (cs : Record) (p : Progress) : Result Progress LogRefusal → Type 0 where
   refuses : {refusal : LogRefusal} → Applies before cs refusal → NoneBelow before cs (number refusal)
-      → Verdict before cs p (Wrong refusal)
+      → Verdict before cs p (Err refusal)
   goes_on : {q : Progress} → ((f : LogRefusal) → Applies before cs f → ⊥) → Inv (before ++ (cs ∷ [])) q
-      → Verdict before cs p (Further q)
+      → Verdict before cs p (Ok q)
 
 dates-append : (a b : List Day) → dates_of (a ++ b) ≡ dates_of a ++ dates_of b
 dates-append [] b = refl
@@ -207,7 +204,7 @@ module _ {before : List Record} {p : Progress} (inv : Inv before p) (cs : Record
     where
       due : {d : Day} → RecordSays cs d → (t : Bool) → is_due p.due d.date ≡ t
           → Verdict before cs p
-          (pick t (Further (progress (due_after d.date) (with_day p.tally d))) (Wrong WrongDate))
+          (pick t (Ok (progress (due_after d.date) (with_day p.tally d))) (Err WrongDate))
       due {d} x true e = goes_on (none_at_all x ((due_rule inv d.date).0 e)) (further inv x e)
       due {d} x false e =
           refuses
@@ -216,7 +213,7 @@ module _ {before : List Record} {p : Progress} (inv : Inv before p) (cs : Record
           clash cc))
           (below_14 x)
 
-      go : {r : DayRead} → Alone cs r → Verdict before cs p (taken_by p r)
+      go : {r : Result Day LogRefusal} → Alone cs r → Verdict before cs p (taken_by p r)
       go (says {d} x) = due x (is_due p.due d.date) refl
       go (not_three n) = refuses (not_three_fields n) three
         where
@@ -248,8 +245,8 @@ pub record OnEve (rs : List Record) : Type 0 where
   pub eve : IsEve date
 
 pub data Ended (rs : List Record) : LogAnswer → Type 0 where
-  whole : {days : List Day} → LogOf rs days → OnEve rs → Ended rs (Gives (outdoors_of days))
-  early : ((r : Record) (d : Date) → Last rs r → IsDate (date_text r) d → IsEve d → ⊥) → Ended rs (Refused WrongDate 0)
+  whole : {days : List Day} → LogOf rs days → OnEve rs → Ended rs (Ok (outdoors_of days))
+  early : ((r : Record) (d : Date) → Last rs r → IsDate (date_text r) d → IsEve d → ⊥) → Ended rs (refuse WrongDate 0)
 
 pub finish : {rs : List Record} {p : Progress} → Inv rs p → Ended rs (finished p)
 unfolding finished
@@ -268,7 +265,7 @@ finish {rs} (reading {days = days} {r = r} y k s q h l i) = go (ltb (suc k) (yea
     go false t =
         let full : suc k ≡ year_length y = omega (arith, ltb-false (suc k) (year_length y) t) in
         rw (due-end y k full)
-        (subst (Ended rs) (ap Gives (sym (tally-outdoors days)))
+        (subst (Ended rs) (ap Ok (sym (tally-outdoors days)))
         (whole
         (record { says = s; year = y; dates = q ∙ ap (λ (n : ℕ). dates_from n (new_year y)) full })
         (record { last = r; date = date_at y k; is_last = l; says = i; eve = (eve-at (at_place y k h)).0 full })))

@@ -51,10 +51,8 @@ pub fn roughage_sections(r: Roughage) -> Sections
     requires { SoundRoughage r }
     ensures { result ≡ sections_of (kinds.Roughage r) }
 {
-    let entered_n = r.inp_n_excretion;
-    let entered_tan = r.tan_fraction;
-    let grams = excretion::n_excretion_animal(r.animalcategory, entered_n);
-    let fraction = excretion::tan_fraction(tables::SHARE_NSOL, entered_tan);
+    let grams = excretion::n_excretion_animal(r.animalcategory, r.inp_n_excretion);
+    let fraction = excretion::tan_fraction(tables::SHARE_NSOL, r.tan_fraction);
     roughage_from(r, excretion::n_excretion(r.animals, grams), fraction)
 }
 
@@ -75,10 +73,7 @@ pub fn cattle_sections(c: Cattle) -> Sections
     requires { SoundCattle c }
     ensures { result ≡ sections_of (kinds.Cattle c) }
 {
-    let kind = c.kind;
-    let outdoor = c.outdoor;
-    let entered_tan = c.tan_fraction;
-    let fraction = excretion::tan_fraction(tables::DAIRY_SHARE_NSOL, entered_tan);
+    let fraction = excretion::tan_fraction(tables::DAIRY_SHARE_NSOL, c.tan_fraction);
     let n = excretion::n_excretion(c.animals, c.inp_n_excretion);
-    outdoor_from(rates::cattle_rates(kind), outdoor, n, fraction)
+    outdoor_from(rates::cattle_rates(c.kind), c.outdoor, n, fraction)
 }

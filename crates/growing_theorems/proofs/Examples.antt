@@ -13,8 +13,8 @@ use Rattle.inputs.specs.declared.Kind.TheVariants.{Cattle}
 use Rattle.farm.specs.declared.Given.TheVariants.{Value, Signed}
 use Rattle.farm.specs.declared.Slot.{Slot}
 use Rattle.farm.specs.declared.Herd.{Herd}
-use Rattle.farm.specs.declared.Checked.TheVariants.{Accepted}
 use Rattle.farm.specs.Labels.{label_of, byte_ok, label_ok}
+use Rattle.farm.specs.Answers.{Accepted}
 use Rattle.herd_tests.specs.Tests.{lacks}
 use Rattle.fits.specs.Fits.{unfit}
 use Rattle.checks.specs.Checks.{check_herd}

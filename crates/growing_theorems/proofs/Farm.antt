@@ -17,7 +17,7 @@ use Rattle.base.proofs.Table.{both_left, both_right}
 use Rattle.cut_division.specs.Total.{add_up, signed_total}
 use Rattle.cut_division.proofs.Ordered.{plus_le, sum-le}
 use Rattle.farm.specs.declared.Herd.{Herd}
-use Rattle.farm.specs.declared.Checked.TheVariants.{Accepted}
+use Rattle.farm.specs.Answers.{Accepted}
 use Rattle.checks.specs.Checks.{check_herd}
 use Rattle.outputs.specs.declared.Figures.{Figures}
 use Rattle.outputs.specs.Names.{number, totals, total_number, addends}
@@ -86,7 +86,8 @@ module _ {name : String} (grows : Grows name) {hs gs : List Herd} (o : OneHasMor
         by-number-at (farm_total (map herd_figures gs)) (length totals) (total_number t) at_place,
       )
       (sum-le (sum hs) (sum gs) (pos 0) (pos 0) (≤ℤ_refl (pos 0))
-      (each-passed (one_of ammonia) (λ n known. herds-from grows n known o accepted (pos 0) (pos 0) (≤ℤ_refl (pos 0))) ns
+      (each-passed (one_of ammonia)
+      (λ n known. herds-from grows n known o accepted (pos 0) (pos 0) (≤ℤ_refl (pos 0))) ns
       (both_right inside (all (one_of ammonia) ns) k)))
 
   pub totals-no-less : NoLessInTotal (totals_of (map herd_figures hs)) (totals_of (map herd_figures gs))

@@ -8,7 +8,7 @@ use Rattle.amounts.specs.Arithmetic.{cutting}
 use Rattle.inputs.specs.declared.Kind.{Kind}
 use Rattle.inputs.specs.declared.Kind.TheVariants as kinds
 use Rattle.farm.specs.declared.Herd.{Herd}
-use Rattle.farm.specs.declared.Checked.TheVariants.{Accepted}
+use Rattle.farm.specs.Answers.{Accepted}
 use Rattle.checks.specs.Checks.{check_herd}
 use Rattle.kinds.specs.declared.CattleKind.{CattleKind}
 use Rattle.kinds.specs.declared.CattleKind.TheVariants.{OtherCattle, DairyCow}

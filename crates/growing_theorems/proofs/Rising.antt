@@ -11,8 +11,8 @@ use Rattle.farm.specs.declared.Given.{Given}
 use Rattle.farm.specs.declared.Given.TheVariants.{Standard, Value, Signed}
 use Rattle.farm.specs.declared.Slot.{Slot}
 use Rattle.farm.specs.declared.Herd.{Herd}
-use Rattle.farm.specs.declared.Checked.TheVariants.{Accepted}
 use Rattle.farm.specs.Labels.{label_of, byte_ok, label_ok}
+use Rattle.farm.specs.Answers.{Accepted}
 use Rattle.herd_tests.specs.Tests.{lacks}
 use Rattle.fits.specs.Fits.{unfit}
 use Rattle.checks.specs.Checks.{check_herd}
@@ -54,7 +54,8 @@ pub record Rises (h g : Herd) : Type 0 where
   pub housing-is : figure "nh3_nhousing" (herd_figures g) ≡ pos 28_595
 
 pub rising : Rises (red_deer 28_000) (red_deer 29_000)
-unfolding check_herd lacks unfit label_ok label_of byte_ok typed_of roughage_of figures_of roughage_grazing_time k_of within_day
+unfolding check_herd lacks unfit label_ok label_of byte_ok typed_of roughage_of figures_of roughage_grazing_time k_of
+    within_day
     k_at nearest growth_num growth_den exp_num exp_den
 rising =
     record {
@@ -67,7 +68,8 @@ rising =
       housing-is = refl;
     }
   where
-    same : (place : ℕ) → place < 7 → (place ≡ 2 → ⊥) → given_at (red_deer 29_000) place ≡ given_at (red_deer 28_000) place
+    same : (place : ℕ) → place < 7 → (place ≡ 2 → ⊥)
+        → given_at (red_deer 29_000) place ≡ given_at (red_deer 28_000) place
     same zero inside other = refl
     same (suc zero) inside other = refl
     same (suc (suc zero)) inside other = absurd (other refl)

@@ -34,7 +34,8 @@ pub data NoFewer : Given → Given → Type 0 where
 pub record More (name : String) (kind : Kind) (h g : Herd) : Type 0 where
   pub kind_of_first : h.kind ≡ kind
   pub kind_of_second : g.kind ≡ kind
-  pub others : (place : ℕ) → place < count_of kind → (place ≡ place_of kind name → ⊥) → given_at g place ≡ given_at h place
+  pub others : (place : ℕ) → place < count_of kind → (place ≡ place_of kind name → ⊥)
+      → given_at g place ≡ given_at h place
   pub named : NoFewer (given_at h (place_of kind name)) (given_at g (place_of kind name))
 
 -- a farm's herds, one of which is replaced by one with more

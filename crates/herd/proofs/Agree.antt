@@ -51,7 +51,8 @@ module _ (i j : Inputs) (s : Sections) (es : s ≡ sections_of j) (k : i ≡ j) 
 
   pub sections_small : Sound i → GramsTo figure_most (grams_in s)
   sections_small h =
-      subst (λ (g : List ℤ). GramsTo figure_most g) (sym is-herd) (widen most figure_most (figures-to i h) (omega arith))
+      subst (λ (g : List ℤ). GramsTo figure_most g) (sym is-herd)
+      (widen most figure_most (figures-to i h) (omega arith))
 
   pub figures-are : (f : Figures) → f.grams ≡ grams_in s → f ≡ figures_of i
   figures-are f q = ap (λ (g : List ℤ). record { grams = g }) (q ∙ is-herd)

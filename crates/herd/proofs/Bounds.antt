@@ -16,7 +16,8 @@ use Rattle.rates.proofs.Modest.{roughage-rates-modest, pigs-rates-modest}
 use Rattle.excretion.specs.Excretion.{ExcretionIn}
 use Rattle.yard.specs.Yard.{into_yard, through_yard}
 use Rattle.yard.proofs.OnYard.{yard-modest, nh3-on-yard-le}
-use Rattle.pasture.specs.Pasture.{outdoor_into_grazing, roughage_into_grazing, pigs_into_grazing, gas, on_pasture, after_gases}
+use Rattle.pasture.specs.Pasture.{outdoor_into_grazing, roughage_into_grazing, pigs_into_grazing, gas, on_pasture}
+use Rattle.pasture.specs.Pasture.{after_gases}
 use Rattle.pasture.proofs.OnPasture.{gases-le}
 use Rattle.pasture.proofs.Into.{
   outdoor-pasture-modest,
@@ -52,7 +53,8 @@ excretion-to e m = omega arith
 yard-to : {n tan nh3 : ℕ} → WithinMostN n tan → nh3 ≤ tan → SectionTo most yard (through_yard cutting n tan nh3)
 yard-to m h = omega arith
 
-housing-to : {n tan nh3 : ℕ} → WithinMostN n tan → nh3 ≤ tan → SectionTo most housing (through_housing cutting n tan nh3)
+housing-to : {n tan nh3 : ℕ} → WithinMostN n tan → nh3 ≤ tan
+    → SectionTo most housing (through_housing cutting n tan nh3)
 housing-to m h = omega arith
 
 -- of cattle the housing is left out, and the door lets through a rest of what is excreted

@@ -35,7 +35,8 @@ use Rattle.housing.specs.declared.Housing.{Housing}
 use Rattle.housing.specs.Housing.{in_housing, through_door, factors, no_factors, handed_housing}
 use Rattle.pig_house.specs.declared.PigHouse.{PigHouse}
 use Rattle.pig_house.specs.declared.NxOx.{NxOx}
-use Rattle.pig_house.specs.PigHouse.{pig_housing, pig_house, pig_factors, kept_back, no_pig_house, no_pig_factors, no_scrubbed}
+use Rattle.pig_house.specs.PigHouse.{pig_housing, pig_house, pig_factors, kept_back, no_pig_house, no_pig_factors}
+use Rattle.pig_house.specs.PigHouse.{no_scrubbed}
 use Rattle.pig_house.specs.PigHouse.{handed_scrubbed, handed_pig_house}
 use Rattle.pig_house.specs.NxOx.{nx_ox, no_nx_ox, handed_nx_ox}
 use Rattle.pig_house.specs.Bounds.{Enters}

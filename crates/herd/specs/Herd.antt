@@ -20,7 +20,8 @@ use Rattle.pasture.specs.declared.Grazing.{Grazing}
 use Rattle.pasture.specs.Pasture.{GrazingIn, outdoor_grazing, roughage_grazing, pigs_grazing}
 use Rattle.housing.specs.declared.Housing.{Housing}
 use Rattle.housing.specs.Housing.{HousingIn, FactorsIn, in_housing, through_door, factors, no_factors}
-use Rattle.pig_house.specs.PigHouse.{pig_housing, pig_house, pig_factors, kept_back, no_pig_house, no_pig_factors, no_scrubbed}
+use Rattle.pig_house.specs.PigHouse.{pig_housing, pig_house, pig_factors, kept_back, no_pig_house, no_pig_factors}
+use Rattle.pig_house.specs.PigHouse.{no_scrubbed}
 use Rattle.pig_house.specs.PigHouse.{handed_scrubbed, handed_pig_house}
 use Rattle.pig_house.specs.NxOx.{nx_ox, no_nx_ox, handed_nx_ox}
 use Rattle.outputs.specs.declared.Figures.{Figures}
@@ -130,7 +131,8 @@ of_grazer_sections e y g h =
       yard = y;
       grazing = g;
       housing = h;
-      pig_house = handed_pig_house (no_pig_factors dividing) (handed_scrubbed (no_scrubbed dividing)) (no_pig_house dividing);
+      pig_house =
+          handed_pig_house (no_pig_factors dividing) (handed_scrubbed (no_scrubbed dividing)) (no_pig_house dividing);
       nx_ox = handed_nx_ox (no_nx_ox dividing);
     }
 

@@ -11,7 +11,7 @@ ghost use Rattle.model.specs.Answers.{herd_answer};
 ghost use Rattle.reasons.specs.Answers.{reason_answer};
 ghost use Rattle.contracts.specs.Listings.{Called, herd_call, totals_call};
 
-use farm::{Checked, Farm, Herd};
+use farm::{Farm, Herd};
 use model::HerdAnswer;
 use reasons::ReasonAnswer;
 use views::View;
@@ -35,11 +35,8 @@ pub fn herd_reason(h: Herd) -> ReasonAnswer
 pub fn herd_view(view: View, h: Herd, out: &mut [u8]) -> Written
     ensures { Called (herd_call view h) out.old out.new result }
 {
-    let checked = checks::check_herd(h);
-    match checked {
-        Checked::Accepted => writing::write_herd(out, h, view),
-        Checked::Refused(refusal, record) => Written::Refused(refusal, record),
-    }
+    checks::check_herd(h)?;
+    writing::write_herd(out, h, view)
 }
 
 // The totals' listing of a farm by value.
@@ -47,9 +44,6 @@ pub fn totals_by_value(f: Farm, out: &mut [u8]) -> Written
     ensures { Called (totals_call f) out.old out.new result }
 {
     let answer = answers::farm_answer(f);
-    let checked = answer.checked;
-    match checked {
-        Checked::Accepted => writing::write_totals(out, answer.totals),
-        Checked::Refused(refusal, record) => Written::Refused(refusal, record),
-    }
+    answer.checked?;
+    writing::write_totals(out, answer.totals)
 }

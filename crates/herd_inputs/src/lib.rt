@@ -89,8 +89,7 @@ fn pigs_of(h: Herd) -> Pigs
 pub fn typed_of(h: Herd) -> Inputs
     ensures { result ≡ typed_of h }
 {
-    let kind = h.kind;
-    match kind {
+    match h.kind {
         Kind::Roughage => Inputs::Roughage(roughage_of(h)),
         Kind::Cattle => Inputs::Cattle(cattle_of(CattleKind::OtherCattle, h)),
         Kind::Pigs => Inputs::Pigs(pigs_of(h)),

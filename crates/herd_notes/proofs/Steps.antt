@@ -22,12 +22,10 @@ use Rattle.kinds.specs.declared.CattleKind.{CattleKind}
 use Rattle.kinds.specs.declared.CattleKind.TheVariants.{OtherCattle, DairyCow}
 use Rattle.kinds.specs.declared.Cattle.{Cattle}
 use Rattle.kinds.specs.declared.Pigs.{Pigs}
-use Rattle.kinds.specs.declared.Inputs.{Inputs}
-use Rattle.kinds.specs.declared.Inputs.TheVariants as kinds
 use Rattle.kinds.specs.Sound.{EnteredTo, standard, number, most_grams}
+use Rattle.kinds.proofs.OfKind.{of_kind}
 use Rattle.yard.specs.Yard.{share_lowered}
 use Rattle.housing.specs.Housing.{above_ceiling}
-use Rattle.notes.specs.declared.Notes.{Notes}
 use Rattle.notes.specs.Notes.{
   off_standard,
   off_share,
@@ -38,7 +36,6 @@ use Rattle.notes.specs.Notes.{
   roughage_notes,
   cattle_notes,
   pigs_notes,
-  notes_of,
 }
 
 -- a number that was entered is in range
@@ -142,21 +139,6 @@ pub are-pigs-notes : (p : Pigs) (free : Bool) → free ≡ free_entered p.free_c
     → noted false false free false false ≡ pigs_notes p
 are-pigs-notes p free ef = rw ef refl
 
-module _ (n : Notes) (i : Inputs) where
-  pub notes-of-roughage : (r : Roughage) → n ≡ roughage_notes r → i ≡ kinds.Roughage r → n ≡ notes_of i
-  unfolding notes_of
-  notes-of-roughage r q e = q ∙ rw e
-
-  pub notes-of-cattle : (c : Cattle) → n ≡ cattle_notes c → i ≡ kinds.Cattle c → n ≡ notes_of i
-  unfolding notes_of
-  notes-of-cattle c q e = q ∙ rw e
-
-  pub notes-of-pigs : (p : Pigs) → n ≡ pigs_notes p → i ≡ kinds.Pigs p → n ≡ notes_of i
-  unfolding notes_of
-  notes-of-pigs p q e = q ∙ rw e
-
-pub ruleset kind_notes = (notes-of-roughage, notes-of-cattle, notes-of-pigs)
-
 pub ruleset note_steps = (
   entered-fits,
   standard-fits,
@@ -168,4 +150,18 @@ pub ruleset note_steps = (
   n-other,
   tan-below,
   tan-other,
+)
+
+pub ruleset herd_steps = (
+  note_steps,
+  free-bits,
+  free-noted,
+  are-roughage-notes,
+  are-cattle-notes,
+  are-pigs-notes,
+  cattle_kinds,
+  cattle_tan_kinds,
+  category-within,
+  entered-within,
+  of_kind,
 )

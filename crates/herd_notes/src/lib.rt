@@ -1,5 +1,5 @@
 // A herd's notes, kind by kind, and the notes one after the other.
-#![tactic(auto)]
+#![tactic(auto, using(crate::proofs::Steps::herd_steps))]
 
 ghost use Rattle.std.specs.Prelude.{◌≡◌, ◌≤◌};
 ghost use Rattle.amounts.specs.Units.{ten_thousandths};
@@ -23,26 +23,22 @@ fn n_off_standard(standard: u64, entered: Entered) -> bool
     requires { (standard ≤ most_grams) × EnteredTo most_grams entered }
     ensures { result ≡ off_standard standard entered }
 {
-    let Entered::Number(grams) = entered else {
-        return false;
-    };
-    if TENTHS * grams < LOW * standard {
-        return true;
+    match entered {
+        Entered::Standard => false,
+        Entered::Number(grams) => {
+            TENTHS * grams < LOW * standard || HIGH * standard < TENTHS * grams
+        }
     }
-    HIGH * standard < TENTHS * grams
 }
 
 fn tan_off_standard(share: u64, entered: Entered) -> bool
     requires { (share ≤ ten_thousandths) × EnteredTo ten_thousandths entered }
     ensures { result ≡ off_share share entered }
 {
-    let Entered::Number(fraction) = entered else {
-        return false;
-    };
-    if fraction + OFF < share {
-        return true;
+    match entered {
+        Entered::Standard => false,
+        Entered::Number(fraction) => fraction + OFF < share || share + OFF < fraction,
     }
-    share + OFF < fraction
 }
 
 fn free_entered(free: i64) -> bool
@@ -55,11 +51,9 @@ fn roughage_notes(r: Roughage) -> Notes
     requires { SoundRoughage r }
     ensures { result ≡ roughage_notes r }
 {
-    let entered_n = r.inp_n_excretion;
-    let entered_tan = r.tan_fraction;
     Notes {
-        n_off_standard: n_off_standard(tables::standard(r.animalcategory), entered_n),
-        tan_off_standard: tan_off_standard(tables::SHARE_NSOL, entered_tan),
+        n_off_standard: n_off_standard(tables::standard(r.animalcategory), r.inp_n_excretion),
+        tan_off_standard: tan_off_standard(tables::SHARE_NSOL, r.tan_fraction),
         free_factor: free_entered(r.free_correction_factor),
         share_lowered: false, // no yard
         factor_above_1: housing::above_ceiling(r),
@@ -91,14 +85,11 @@ fn cattle_notes(c: Cattle) -> Notes
     requires { SoundCattle c }
     ensures { result ≡ cattle_notes c }
 {
-    let kind = c.kind;
-    let entered_tan = c.tan_fraction;
-    let outdoor = c.outdoor;
     Notes {
-        n_off_standard: cattle_n_off_standard(kind, c.inp_n_excretion),
-        tan_off_standard: cattle_tan_off_standard(kind, entered_tan),
-        free_factor: free_entered(outdoor.free_correction_factor),
-        share_lowered: yard::share_lowered(outdoor),
+        n_off_standard: cattle_n_off_standard(c.kind, c.inp_n_excretion),
+        tan_off_standard: cattle_tan_off_standard(c.kind, c.tan_fraction),
+        free_factor: free_entered(c.outdoor.free_correction_factor),
+        share_lowered: yard::share_lowered(c.outdoor),
         factor_above_1: false, // a yard alone
     }
 }
@@ -118,15 +109,10 @@ fn pigs_notes(p: Pigs) -> Notes
 pub fn no_notes() -> Notes
     ensures { result ≡ no_notes }
 {
-    Notes {
-        n_off_standard: false,
-        tan_off_standard: false,
-        free_factor: false,
-        share_lowered: false,
-        factor_above_1: false,
-    }
+    Notes::default()
 }
 
+#[tactic(auto, using(kinds::proofs::OfKind::of_kind), unfolding(notes::specs::Notes::notes_of))]
 pub fn notes_of(inputs: Inputs) -> Notes
     requires { Sound inputs }
     ensures { result ≡ notes_of inputs }

@@ -1,4 +1,6 @@
 -- The steps of the reasons, each in the form that a place of the code wants. Assumes nothing.
+use Rattle.base.specs.declared.refusals.Refused.{Refused}
+use Rattle.std.specs.Prelude.{None, Ok, Some, Err}
 use Prim.Native.Nat.{ℕ, ◌≤◌, ◌<◌}
 use mathlib.Core.Path.{◌≡◌, sym, ◌∙◌}
 use mathlib.Core.Bool.{Bool, true, false}
@@ -18,20 +20,16 @@ use Rattle.yard.specs.Bounds.{DaysWithBoth}
 use Rattle.farm.specs.declared.Herd.{Herd}
 use Rattle.farm.specs.declared.Refusal.{Refusal}
 use Rattle.farm.specs.declared.Refusal.TheVariants.{OtherKind}
-use Rattle.farm.specs.declared.Checked.{Checked}
-use Rattle.farm.specs.declared.Checked.TheVariants as checks
+use Rattle.farm.specs.Answers.{Accepted, Checked}
 use Rattle.checks.specs.Checks.{check_herd}
 use Rattle.typed_inputs.specs.Typed.{typed_of}
 use Rattle.typed_inputs.proofs.Sound.{typed_sound}
 use Rattle.reasons.specs.declared.Reason.{Reason}
 use Rattle.reasons.specs.declared.Reason.TheVariants.{NoSuchDays, NotAvailable, AsChosen, Lowered}
 use Rattle.reasons.specs.declared.Why.{Why}
-use Rattle.reasons.specs.declared.YardReason.{YardReason}
-use Rattle.reasons.specs.declared.YardReason.TheVariants.{Because, NoYard}
-use Rattle.reasons.specs.declared.ReasonAnswer.{ReasonAnswer}
-use Rattle.reasons.specs.declared.ReasonAnswer.TheVariants.{Given, Refused}
-use Rattle.reasons.specs.Reasons.{partly, is_not_available, reason_of, share_from, why_of, told_of}
-use Rattle.reasons.specs.Answers.{told_answer, reason_answer}
+use Rattle.reasons.specs.Reasons.{partly, is_not_available, reason_of, share_from, why_of, told_of, YardReason}
+use Rattle.reasons.specs.Answers.{told_answer, reason_answer, ReasonAnswer}
+use Rattle.base.specs.Refused.{refuse}
 
 -- ---- the tests, in their order
 
@@ -67,15 +65,15 @@ module _ (i : Inputs) where
   pub outdoor-sound : (c : Cattle) → Sound i → i ≡ kinds.Cattle c → SoundOutdoor c.outdoor
   outdoor-sound c s e = (sound-cattle i s c e).outdoor
 
-  pub told-cattle : (c : Cattle) → i ≡ kinds.Cattle c → (w : Why) → w ≡ why_of c.outdoor → Because w ≡ told_of i
+  pub told-cattle : (c : Cattle) → i ≡ kinds.Cattle c → (w : Why) → w ≡ why_of c.outdoor → Some w ≡ told_of i
   unfolding told_of
   told-cattle c e w ew = rw (ew, e)
 
-  pub told-roughage : (r : Roughage) → i ≡ kinds.Roughage r → NoYard ≡ told_of i
+  pub told-roughage : (r : Roughage) → i ≡ kinds.Roughage r → None ≡ told_of i
   unfolding told_of
   told-roughage r e = rw e
 
-  pub told-pigs : (p : Pigs) → i ≡ kinds.Pigs p → NoYard ≡ told_of i
+  pub told-pigs : (p : Pigs) → i ≡ kinds.Pigs p → None ≡ told_of i
   unfolding told_of
   told-pigs p e = rw e
 
@@ -84,25 +82,25 @@ pub ruleset kind_steps = (outdoor-sound, told-cattle, told-roughage, told-pigs)
 -- ---- a herd's record
 
 module _ (t : YardReason) where
-  pub answer-given : (w : Why) → t ≡ Because w → Given w ≡ told_answer t
+  pub answer-given : (w : Why) → t ≡ Some w → Ok (Some w) ≡ told_answer t
   answer-given w e = rw e
 
-  pub answer-refused : t ≡ NoYard → Refused OtherKind 0 ≡ told_answer t
+  pub answer-refused : t ≡ None → refuse OtherKind 0 ≡ told_answer t
   answer-refused e = rw e
 
 pub ruleset told_steps = (answer-given, answer-refused)
 
 module _ (h : Herd) (k : Checked) (q : k ≡ check_herd h) where
-  pub accepted-sound : (i : Inputs) → k ≡ checks.Accepted → i ≡ typed_of h → Sound i
+  pub accepted-sound : (i : Inputs) → k ≡ Accepted → i ≡ typed_of h → Sound i
   accepted-sound i t e = rw e (typed_sound h (sym q ∙ t))
 
-  pub is-answer : (i : Inputs) (w : YardReason) (r : ReasonAnswer) → k ≡ checks.Accepted → i ≡ typed_of h → w ≡ told_of i
+  pub is-answer : (i : Inputs) (w : YardReason) (r : ReasonAnswer) → k ≡ Accepted → i ≡ typed_of h → w ≡ told_of i
       → r ≡ told_answer w → r ≡ reason_answer h
   unfolding reason_answer
   is-answer i w r t e ew er = rw (er, ew, e, ← q, t)
 
-  pub is-refused : (refusal : Refusal) (at : ℕ) → k ≡ checks.Refused refusal at → Refused refusal at ≡ reason_answer h
+  pub is-refused : (why : Refused Refusal) → k ≡ Err why → Err why ≡ reason_answer h
   unfolding reason_answer
-  is-refused refusal at t = rw (← q, t)
+  is-refused why t = rw (← q, t)
 
 pub ruleset answer_steps = (accepted-sound, is-answer, is-refused)

@@ -3,24 +3,23 @@
 ghost use Rattle.std.specs.Prelude.{◌≡◌};
 ghost use Rattle.reasons.specs.Answers.{told_answer, reason_answer};
 
-use farm::{Checked, Herd, Refusal};
-use reasons::{ReasonAnswer, YardReason};
+use base::refusals::Refused;
+use farm::{Herd, Refusal};
+use reasons::{ReasonAnswer, Why};
 
 // Of an accepted herd that is told this.
-fn told_answer(told: YardReason) -> ReasonAnswer
+fn told_answer(told: Option<Why>) -> ReasonAnswer
     ensures { result ≡ told_answer told }
 {
     match told {
-        YardReason::Because(why) => ReasonAnswer::Given(why),
-        YardReason::NoYard => ReasonAnswer::Refused(Refusal::OtherKind, 0),
+        Some(why) => Ok(Some(why)),
+        None => Err(Refused(Refusal::OtherKind, 0)),
     }
 }
 
 pub fn herd_reason(h: Herd) -> ReasonAnswer
     ensures { result ≡ reason_answer h }
 {
-    match checks::check_herd(h) {
-        Checked::Accepted => told_answer(crate::told_of(herd_inputs::typed_of(h))),
-        Checked::Refused(refusal, record) => ReasonAnswer::Refused(refusal, record),
-    }
+    checks::check_herd(h)?;
+    told_answer(crate::told_of(herd_inputs::typed_of(h)))
 }

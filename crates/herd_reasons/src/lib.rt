@@ -8,17 +8,12 @@ ghost use Rattle.kinds.specs.Sound.{SoundOutdoor, Sound};
 ghost use Rattle.reasons.specs.Reasons.{is_not_available, reason_of, share_from, why_of, told_of};
 
 use kinds::{ExerciseYard, Inputs, Outdoor};
-use reasons::{Reason, Why, YardReason};
+use reasons::{Reason, Why};
 
 fn is_not_available(yard: ExerciseYard) -> bool
     ensures { result ≡ is_not_available yard }
 {
-    match yard {
-        ExerciseYard::NotAvailable => true,
-        ExerciseYard::NotSupplied => false,
-        ExerciseYard::Partly => false,
-        ExerciseYard::Exclusively => false,
-    }
+    matches!(yard, ExerciseYard::NotAvailable)
 }
 
 // The first whose fact holds.
@@ -26,17 +21,15 @@ pub fn reason_of(o: Outdoor) -> Reason
     requires { SoundOutdoor o }
     ensures { result ≡ reason_of o }
 {
-    let yard = o.exercise_yard;
     if yard::days_with_grazing_and_yard(o) == 0 {
-        return Reason::NoSuchDays;
+        Reason::NoSuchDays
+    } else if is_not_available(o.exercise_yard) {
+        Reason::NotAvailable
+    } else if yard::share_excretion(o.exercise_yard) <= yard::SHARE_PARTLY {
+        Reason::AsChosen
+    } else {
+        Reason::Lowered
     }
-    if is_not_available(yard) {
-        return Reason::NotAvailable;
-    }
-    if yard::share_excretion(yard) <= yard::SHARE_PARTLY {
-        return Reason::AsChosen;
-    }
-    Reason::Lowered
 }
 
 // The share on days with both, by the reason and the chosen share.
@@ -44,9 +37,8 @@ fn share_from(reason: Reason, chosen: u64) -> u64
     ensures { result ≡ share_from reason chosen }
 {
     match reason {
-        Reason::NoSuchDays => chosen,
+        Reason::NoSuchDays | Reason::AsChosen => chosen,
         Reason::NotAvailable => 0,
-        Reason::AsChosen => chosen,
         Reason::Lowered => yard::SHARE_PARTLY,
     }
 }
@@ -55,9 +47,8 @@ pub fn why_of(o: Outdoor) -> Why
     requires { SoundOutdoor o }
     ensures { result ≡ why_of o }
 {
-    let yard = o.exercise_yard;
     let reason = reason_of(o);
-    let chosen = yard::share_excretion(yard);
+    let chosen = yard::share_excretion(o.exercise_yard);
     Why {
         reason,
         days: yard::days_with_grazing_and_yard(o),
@@ -67,16 +58,12 @@ pub fn why_of(o: Outdoor) -> Why
 }
 
 // A kind with the module `Outdoor` is told the reason; the others have no yard.
-pub fn told_of(inputs: Inputs) -> YardReason
+pub fn told_of(inputs: Inputs) -> Option<Why>
     requires { Sound inputs }
     ensures { result ≡ told_of inputs }
 {
     match inputs {
-        Inputs::Roughage(_) => YardReason::NoYard,
-        Inputs::Cattle(c) => {
-            let outdoor = c.outdoor;
-            YardReason::Because(why_of(outdoor))
-        }
-        Inputs::Pigs(_) => YardReason::NoYard,
+        Inputs::Cattle(c) => Some(why_of(c.outdoor)),
+        Inputs::Roughage(_) | Inputs::Pigs(_) => None,
     }
 }

@@ -45,7 +45,8 @@ no_such_print (h ∷ hs) l e =
   where
     go : (t : Bool) → eqb (print_of h.label) (print_of l) ≡ t → (u : Bool) → same_label h.label l ≡ u
         → (t || has_print (prints_of hs) (print_of l)) ≡ false
-        → (has_print (prints_of hs) (print_of l) ≡ false → earlier_label hs l ≡ false) → (u || earlier_label hs l) ≡ false
+        → (has_print (prints_of hs) (print_of l) ≡ false → earlier_label hs l ≡ false)
+        → (u || earlier_label hs l) ≡ false
     go true q u v n rest = cc
     go false q true v n rest = absurd (true≢false (sym (eq-eqb _ _ (same_print h.label l v)) ∙ q))
     go false q false v n rest = rest n

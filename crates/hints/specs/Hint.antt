@@ -1,17 +1,14 @@
 -- When a message names the command `mend`: the file was refused, and the mended file is accepted, or refused at a later
 -- record. To be believed.
-use Rattle.std.specs.Prelude.{ℕ, List, length}
+use Rattle.std.specs.Prelude.{ℕ, List, length, Ok, Err}
 use Rattle.base.specs.Pick.{pick}
-use Rattle.farm.specs.declared.Checked.{Checked}
-use Rattle.farm.specs.declared.Checked.TheVariants as checks
 use Rattle.farm.specs.Refusals as farms
+use Rattle.farm.specs.Answers.{Accepted, Checked}
 use Rattle.limits.specs.declared.Source.{Source}
 use Rattle.limits.specs.Limits.{limits_of}
 use Rattle.reader.specs.Files.{read_of}
-use Rattle.gate.specs.declared.LogAnswer.{LogAnswer}
-use Rattle.gate.specs.declared.LogAnswer.TheVariants as answers
 use Rattle.gate_days.specs.Refusals as gates
-use Rattle.gate.specs.Logs.{read_log}
+use Rattle.gate.specs.Logs.{read_log, LogAnswer}
 use Rattle.spreadsheet.specs.Mended.{mended_of, changes_of}
 use Rattle.hints.specs.declared.Input.{Input}
 use Rattle.hints.specs.declared.Input.TheVariants.{Farm, Log}
@@ -20,12 +17,12 @@ use Rattle.reach.specs.declared.Reach.TheVariants.{Through}
 use Rattle.reach.specs.Reach.{reach_of, further}
 
 abbrev pub checked_reach : Checked → Reach
-checked_reach checks.Accepted = Through
-checked_reach (checks.Refused refusal n) = reach_of (farms.number refusal) n
+checked_reach Accepted = Through
+checked_reach (Err refused) = reach_of (farms.number refused.0) refused.1
 
 abbrev pub answer_reach : LogAnswer → Reach
-answer_reach (answers.Gives o) = Through
-answer_reach (answers.Refused refusal n) = reach_of (gates.number refusal) n
+answer_reach (Ok o) = Through
+answer_reach (Err refused) = reach_of (gates.number refused.0) refused.1
 
 unfoldable pub farm_reach : Source → List ℕ → Reach
 farm_reach source s = checked_reach (read_of (limits_of source) s).checked

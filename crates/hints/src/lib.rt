@@ -7,13 +7,14 @@ ghost use Rattle.base.specs.Wrote.{Wrote};
 ghost use Rattle.spreadsheet.specs.Mended.{mended_of};
 ghost use Rattle.hints.specs.Hint.{farm_reach, log_reach, read_to, hint_of};
 
-use farm::Checked;
-use gate::{LogAnswer, logs};
+use base::refusals::Refused;
+use gate::logs;
 use limits::Source;
 use reach::Reach;
 
-// What a file is read as: a farm, by the limits of where it comes from, or a gate's log.
-#[derive(Clone, Copy)]
+// What a file is read as: a farm, by the limits of where it comes from, or a gate's log. No Option: a log is not the
+// lack of a farm.
+#[derive(Clone, Copy, Debug, PartialEq, Eq)]
 pub enum Input {
     Farm(Source),
     Log,
@@ -28,11 +29,9 @@ const MENDED_MOST: usize = 2 * FILE_MOST;
 fn farm_reach(source: Source, s: &[u8]) -> Reach
     ensures { result ≡ farm_reach source s.now }
 {
-    let answer = farm_file::read(source, s);
-    let checked = answer.checked;
-    match checked {
-        Checked::Accepted => Reach::Through,
-        Checked::Refused(refusal, record) => reach::reach_of(
+    match farm_file::read(source, s).checked {
+        Ok(()) => Reach::Through,
+        Err(Refused(refusal, record)) => reach::reach_of(
             refusal_numbers::number_of(refusal),
             record,
         ),
@@ -43,8 +42,8 @@ fn log_reach(s: &[u8]) -> Reach
     ensures { result ≡ log_reach s.now }
 {
     match logs::read(s) {
-        LogAnswer::Gives(_) => Reach::Through,
-        LogAnswer::Refused(refusal, record) => reach::reach_of(
+        Ok(_) => Reach::Through,
+        Err(Refused(refusal, record)) => reach::reach_of(
             gate_days::faults::number_of(refusal),
             record,
         ),

@@ -107,20 +107,12 @@ module _ (r : Roughage) where
     pub is-above : ltb billionths f.times_c_free_factor_housing.whole ≡ above_ceiling r
     is-above = ap (ltb billionths) (ap (λ x. x.times_c_free_factor_housing.whole) e ∙ uncapped-whole r)
 
--- then the ceiling of 1
-module _ (factor : ℕ) where
-  pub under_ceiling : factor ≤ billionths → UpTo billionths (least factor billionths) factor
-  under_ceiling h = record { is = rw (le-ltb billionths factor h) refl; most = h }
-
-  pub at_ceiling : billionths < factor → UpTo billionths (least factor billionths) billionths
-  at_ceiling h = record { is = rw (lt-ltb billionths factor h) refl; most = omega arith }
-
-pub ruleset factor_steps = (under_ceiling, at_ceiling)
-
 pub are-none : (q : Quotient) → q ≡ undivided 0
     → ◌≡◌ {A = Factors} (record { c_grazing = q; times_er_housing = q; times_c_free_factor_housing = q })
     (handed_factors (no_factors dividing))
 are-none q e = rw e refl
+
+pub ruleset factors_steps = (are-factors, is-above, are-none)
 
 pub factor-le : (r : Roughage) → ef_nh3_nhousing cutting r ≤ billionths
 factor-le r = least-most (uncapped cutting r) billionths
@@ -164,3 +156,5 @@ pub is_door : (n tan : ℕ) (f : Factors) (q : Quotient) → f ≡ handed_factor
     })
     (handed_housing (no_factors dividing) (through_door dividing (uncut n) (uncut tan)))
 is_door n tan f q e en = rw (e, en) refl
+
+pub ruleset housing_steps = (is-housing, is_door)

@@ -17,14 +17,14 @@ use cut_division::Quotient;
 use kinds::Roughage;
 
 // What the emission factor is made of: c_grazing, multiplied by er_housing, and then by c_free_factor_housing.
-#[derive(Clone, Copy)]
+#[derive(Clone, Copy, Debug, PartialEq, Eq)]
 pub struct Factors {
     pub c_grazing: Quotient,
     pub times_er_housing: Quotient,
     pub times_c_free_factor_housing: Quotient,
 }
 
-#[derive(Clone, Copy)]
+#[derive(Clone, Copy, Debug, PartialEq, Eq)]
 pub struct Housing {
     pub n_into_housing: u64,
     pub tan_into_housing: u64,
@@ -38,6 +38,7 @@ pub struct Housing {
 const ER_HOUSING: u64 = 275;
 
 // How much more of the TAN is emitted for the hours on pasture.
+#[tactic(auto, using(crate::proofs::InHousing::growth_steps))]
 fn c_grazing(days: u64, hours: u64) -> Quotient
     requires { (days ≤ year) × (hours ≤ day) }
     ensures { Grown days hours result }
@@ -45,12 +46,14 @@ fn c_grazing(days: u64, hours: u64) -> Quotient
     if days * hours < YEAR_OF_HOURS {
         let other_days = (YEAR - days) * DAY * BILLIONTHS;
         let grazing_days = days * (DAY - hours) * tables::k(hours);
-        return cut_division::cut(other_days + grazing_days, YEAR_OF_HOURS - hours * days);
+        cut_division::cut(other_days + grazing_days, YEAR_OF_HOURS - hours * days)
+    } else {
+        cut_division::undivided(BILLIONTHS)
     }
-    cut_division::undivided(BILLIONTHS)
 }
 
 // The rate, then the free factor.
+#[tactic(auto, using(crate::proofs::InHousing::factors_steps, kinds::proofs::Leaves::free_steps))]
 fn factors_of(r: Roughage) -> Factors
     requires { SoundRoughage r }
     ensures { result ≡ handed_factors (factors dividing r) }
@@ -67,6 +70,7 @@ fn factors_of(r: Roughage) -> Factors
 }
 
 // A kind without them.
+#[tactic(auto, using(crate::proofs::InHousing::factors_steps))]
 pub fn no_factors() -> Factors
     ensures { result ≡ handed_factors (no_factors dividing) }
 {
@@ -79,26 +83,24 @@ pub fn no_factors() -> Factors
 }
 
 // Whether the factor is above the ceiling of 1.
+#[tactic(auto, using(crate::proofs::InHousing::factors_steps))]
 pub fn above_ceiling(r: Roughage) -> bool
     requires { SoundRoughage r }
     ensures { result ≡ above_ceiling r }
 {
-    let f = factors_of(r);
-    BILLIONTHS < f.times_c_free_factor_housing.whole
+    BILLIONTHS < factors_of(r).times_c_free_factor_housing.whole
 }
 
 // The part of the TAN that the housing emits: the last of the factors, then the ceiling of 1.
+#[tactic(auto, using(amounts::proofs::Amounts::up_to_ceiling))]
 fn ef_nh3_nhousing(f: Factors) -> u64
     ensures { UpTo billionths (least f.times_c_free_factor_housing.whole billionths) result }
 {
-    let factor = f.times_c_free_factor_housing.whole;
-    if BILLIONTHS < factor {
-        return BILLIONTHS;
-    }
-    factor
+    f.times_c_free_factor_housing.whole.min(BILLIONTHS)
 }
 
 // The ammonia from so much TAN in the housing.
+#[tactic(auto, using(amounts::proofs::Amounts::shares_found))]
 fn nh3_in_housing(f: Factors, tan: u64) -> Quotient
     requires { tan < 2 ^ 32 }
     ensures { PortionOf tan (least f.times_c_free_factor_housing.whole billionths) billionths result }
@@ -107,6 +109,7 @@ fn nh3_in_housing(f: Factors, tan: u64) -> Quotient
 }
 
 // The housing of a roughage herd into which so much N and TAN goes.
+#[tactic(auto, using(crate::proofs::InHousing::housing_steps))]
 pub fn in_housing(r: Roughage, n: u64, tan: u64) -> Housing
     requires { SoundRoughage r × WithinMostN n tan }
     ensures { result ≡ handed_housing (factors dividing r) (in_housing dividing r (uncut n) (uncut tan)) }
@@ -124,6 +127,7 @@ pub fn in_housing(r: Roughage, n: u64, tan: u64) -> Housing
 }
 
 // Only the flow through the door.
+#[tactic(auto, using(crate::proofs::InHousing::housing_steps))]
 pub fn through_door(n: u64, tan: u64) -> Housing
     ensures { result ≡ handed_housing (no_factors dividing) (through_door dividing (uncut n) (uncut tan)) }
 {

@@ -15,7 +15,7 @@ use names::ValueList;
 use words::input_names;
 
 // The four kinds of herd.
-#[derive(Clone, Copy)]
+#[derive(Clone, Copy, Debug, PartialEq, Eq)]
 pub enum Kind {
     Roughage,
     Cattle,
@@ -26,7 +26,7 @@ pub enum Kind {
 // How a value reads: a number, by its decimals and the most it may be in units of the last decimal; such a number for
 // which `standard` may stand; one for which it may not, refusal 6; a whole number that may be below zero, by the most
 // that it may be on either side; or a name of a list.
-#[derive(Clone, Copy)]
+#[derive(Clone, Copy, Debug, PartialEq, Eq)]
 pub enum Form {
     Number(usize, u32),
     OrStandard(usize, u32),
@@ -82,7 +82,7 @@ pub fn number_of(kind: Kind) -> usize
 pub fn same_kind(a: Kind, b: Kind) -> bool
     ensures { result ≡ same_kind a b }
 {
-    number_of(a) == number_of(b)
+    a == b
 }
 
 // How many inputs a kind has.
@@ -98,7 +98,7 @@ pub fn count_of(kind: Kind) -> usize
 }
 
 // An input: the place of its name among the input names, and the form of its value.
-#[derive(Clone, Copy)]
+#[derive(Clone, Copy, Debug, PartialEq, Eq)]
 pub struct Input(pub usize, pub Form);
 
 // The inputs of each kind, by their slots; past the last slot the last input stands.

@@ -27,9 +27,10 @@ pub fn put_sign(out: &mut [u8], at: usize, g: i64) -> usize
     ensures { Wrote out.old at (sign g) out.new result }
 {
     if g < 0 {
-        return base::put_byte(out, at, b'-');
+        base::put_byte(out, at, b'-')
+    } else {
+        at
     }
-    at
 }
 
 // g grams, as kilograms.

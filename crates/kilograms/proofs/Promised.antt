@@ -24,7 +24,8 @@ use Rattle.kilograms.specs.Promised.{Promised}
 use Rattle.kilograms.proofs.Doubles.{promised, nothing}
 
 -- the kilograms of a number are those of its grams; past the last number both are 0
-number_in-kilograms : (grams : List ℤ) (n : ℕ) → kilograms_at (map in_kilograms grams) n ≡ in_kilograms (grams_at grams n)
+number_in-kilograms : (grams : List ℤ) (n : ℕ)
+    → kilograms_at (map in_kilograms grams) n ≡ in_kilograms (grams_at grams n)
 number_in-kilograms grams n =
     ap (get_or (map in_kilograms grams) n) (sym nothing) ∙ get_or-map in_kilograms grams n (pos 0)
 

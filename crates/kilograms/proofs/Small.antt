@@ -23,7 +23,8 @@ use Rattle.outputs.proofs.ByNumber.{by-number-at, by-number-past}
 -- ---- sums
 
 module _ {A : Type 0} (f : A → ℤ) (k : ℕ) where
-  sum-le : (z : ℤ) {l : List A} → Each (λ a. nat_abs (f a) ≤ k) l → nat_abs (add_up ◌+ℤ◌ f z l) ≤ nat_abs z + length l * k
+  sum-le : (z : ℤ) {l : List A} → Each (λ a. nat_abs (f a) ≤ k) l
+      → nat_abs (add_up ◌+ℤ◌ f z l) ≤ nat_abs z + length l * k
   sum-le z none = omega arith
   sum-le z (more {a} p ps) = omega (arith, p, abs_add z (f a), sum-le (z +ℤ f a) ps)
 

@@ -41,6 +41,8 @@ module _ (free : ℤ) (f : SFits w64 free) (h : nat_abs free ≤ percent) (m : �
       above (pos n) f t e = rw e refl
       above (negsuc n) f t e = absurd (always_below f t)
 
+pub ruleset leaves_steps = (size-le, left_below, left_above)
+
 -- where a caller hands on a factor that it has
 module _ (free : ℤ) (f : SFits w64 free) where
   pub free-asked : nat_abs free ≤ percent → nat_abs (back free) ≤ percent
@@ -49,3 +51,5 @@ module _ (free : ℤ) (f : SFits w64 free) where
   pub free-found : (m : ℕ) → UpTo (percent + percent) (c_free_factor (back free)) m
       → UpTo (percent + percent) (c_free_factor free) m
   free-found m u = record { is = u.is ∙ ap c_free_factor (to_z-of_z f); most = u.most }
+
+pub ruleset free_steps = (free-asked, free-found)

@@ -4,77 +4,67 @@ ghost use Rattle.kinds.specs.Choices.{yard_at, floor_at, housing_at, scrubber_at
 
 use crate::{AirScrubber, ExerciseYard, Floor, HousingAir, HousingFloor, HousingType};
 
+#[tactic(auto, using(crate::proofs::Last::is_last), unfolding(crate::specs::Choices::yard_at))]
 pub fn yard_at(place: u64) -> ExerciseYard
     ensures { result ≡ yard_at place }
 {
-    if place == 0 {
-        return ExerciseYard::NotAvailable;
+    match place {
+        0 => ExerciseYard::NotAvailable,
+        1 => ExerciseYard::NotSupplied,
+        2 => ExerciseYard::Partly,
+        _ => ExerciseYard::Exclusively,
     }
-    if place == 1 {
-        return ExerciseYard::NotSupplied;
-    }
-    if place == 2 {
-        return ExerciseYard::Partly;
-    }
-    ExerciseYard::Exclusively
 }
 
+#[tactic(auto, using(crate::proofs::Last::is_last), unfolding(crate::specs::Choices::floor_at))]
 pub fn floor_at(place: u64) -> Floor
     ensures { result ≡ floor_at place }
 {
-    if place == 0 {
-        return Floor::Solid;
+    match place {
+        0 => Floor::Solid,
+        1 => Floor::Unpaved,
+        2 => Floor::Perforated,
+        _ => Floor::Paddock,
     }
-    if place == 1 {
-        return Floor::Unpaved;
-    }
-    if place == 2 {
-        return Floor::Perforated;
-    }
-    Floor::Paddock
 }
 
+#[tactic(auto, using(crate::proofs::Last::is_last), unfolding(crate::specs::Choices::housing_at))]
 pub fn housing_at(place: u64) -> HousingType
     ensures { result ≡ housing_at place }
 {
-    if place == 0 {
-        return HousingType::SlurryConventional;
+    match place {
+        0 => HousingType::SlurryConventional,
+        1 => HousingType::SlurryLabel,
+        2 => HousingType::SlurryLabelOpen,
+        3 => HousingType::DeepLitter,
+        _ => HousingType::Outdoor,
     }
-    if place == 1 {
-        return HousingType::SlurryLabel;
-    }
-    if place == 2 {
-        return HousingType::SlurryLabelOpen;
-    }
-    if place == 3 {
-        return HousingType::DeepLitter;
-    }
-    HousingType::Outdoor
 }
 
+#[tactic(auto, using(crate::proofs::Last::is_last), unfolding(crate::specs::Choices::scrubber_at))]
 pub fn scrubber_at(place: u64) -> AirScrubber
     ensures { result ≡ scrubber_at place }
 {
-    if place == 0 {
-        return AirScrubber::Acid;
+    match place {
+        0 => AirScrubber::Acid,
+        1 => AirScrubber::Biotrickling,
+        _ => AirScrubber::None,
     }
-    if place == 1 {
-        return AirScrubber::Biotrickling;
-    }
-    AirScrubber::None
 }
 
+#[tactic(auto, using(crate::proofs::Last::is_last), unfolding(crate::specs::Choices::housing_floor_at))]
 pub fn housing_floor_at(place: u64) -> HousingFloor
     ensures { result ≡ housing_floor_at place }
 {
     HousingFloor::None
 }
 
+#[tactic(auto, using(crate::proofs::Last::is_last), unfolding(crate::specs::Choices::housing_air_at))]
 pub fn housing_air_at(place: u64) -> HousingAir
     ensures { result ≡ housing_air_at place }
 {
-    if place == 0 {
-        return HousingAir::LowImpulsAirSupply;
+    match place {
+        0 => HousingAir::LowImpulsAirSupply,
+        _ => HousingAir::None,
     }
-    HousingAir::None
 }

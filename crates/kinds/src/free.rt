@@ -7,12 +7,14 @@ ghost use Rattle.kinds.specs.Free.{c_free_factor};
 
 use amounts::PERCENT;
 
+#[tactic(auto, using(crate::proofs::Leaves::leaves_steps))]
 pub fn c_free_factor(free: i64) -> u64
     requires { nat_abs free ≤ percent }
     ensures { UpTo (percent + percent) (c_free_factor free) result }
 {
     if free < 0 {
-        return PERCENT + cut_division::magnitude(free);
+        PERCENT + cut_division::magnitude(free)
+    } else {
+        PERCENT - cut_division::magnitude(free)
     }
-    PERCENT - cut_division::magnitude(free)
 }

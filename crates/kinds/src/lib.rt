@@ -6,14 +6,14 @@ pub mod choices; // the choices by their places in 01's lists
 pub mod free; // what a free factor leaves
 
 // A number that was entered, or `standard` in its place.
-#[derive(Clone, Copy)]
+#[derive(Clone, Copy, Debug, PartialEq, Eq)]
 pub enum Entered {
     Standard,
     Number(u64),
 }
 
 // 2.34 and 2.19, share_excretion.
-#[derive(Clone, Copy)]
+#[derive(Clone, Copy, Debug, PartialEq, Eq)]
 pub enum ExerciseYard {
     NotAvailable,
     NotSupplied,
@@ -22,7 +22,7 @@ pub enum ExerciseYard {
 }
 
 // 2.34 and 2.19, c_floor_properties_exercise_yard.
-#[derive(Clone, Copy)]
+#[derive(Clone, Copy, Debug, PartialEq, Eq)]
 pub enum Floor {
     Solid,
     Unpaved,
@@ -31,7 +31,7 @@ pub enum Floor {
 }
 
 // 2.62.
-#[derive(Clone, Copy)]
+#[derive(Clone, Copy, Debug, PartialEq, Eq)]
 pub enum HousingType {
     SlurryConventional,
     SlurryLabel,
@@ -41,7 +41,7 @@ pub enum HousingType {
 }
 
 // 2.58, red_air_scrubber.
-#[derive(Clone, Copy)]
+#[derive(Clone, Copy, Debug, PartialEq, Eq)]
 pub enum AirScrubber {
     Acid,
     Biotrickling,
@@ -49,20 +49,20 @@ pub enum AirScrubber {
 }
 
 // 2.59, red_housing_floor.
-#[derive(Clone, Copy)]
+#[derive(Clone, Copy, Debug, PartialEq, Eq)]
 pub enum HousingFloor {
     None,
 }
 
 // 2.59, red_housing_air.
-#[derive(Clone, Copy)]
+#[derive(Clone, Copy, Debug, PartialEq, Eq)]
 pub enum HousingAir {
     LowImpulsAirSupply,
     None,
 }
 
 // 2.33 and 2.18, the module `Outdoor`: exercise yard and grazing.
-#[derive(Clone, Copy)]
+#[derive(Clone, Copy, Debug, PartialEq, Eq)]
 pub struct Outdoor {
     pub yard_days: u64,
     pub exercise_yard: ExerciseYard,
@@ -73,7 +73,7 @@ pub struct Outdoor {
 }
 
 // Other roughage-consuming animals.
-#[derive(Clone, Copy)]
+#[derive(Clone, Copy, Debug, PartialEq, Eq)]
 pub struct Roughage {
     pub animalcategory: u64,
     pub animals: u64,
@@ -85,14 +85,14 @@ pub struct Roughage {
 }
 
 // Cattle by the section of their excretion: 2.22, or 2.2 (02, W9).
-#[derive(Clone, Copy)]
+#[derive(Clone, Copy, Debug, PartialEq, Eq)]
 pub enum CattleKind {
     OtherCattle,
     DairyCow,
 }
 
 // Other cattle and dairy cows. `standard` for TAN is read for dairy cows alone.
-#[derive(Clone, Copy)]
+#[derive(Clone, Copy, Debug, PartialEq, Eq)]
 pub struct Cattle {
     pub kind: CattleKind,
     pub animals: u64,
@@ -102,7 +102,7 @@ pub struct Cattle {
 }
 
 // Fattening pigs.
-#[derive(Clone, Copy)]
+#[derive(Clone, Copy, Debug, PartialEq, Eq)]
 pub struct Pigs {
     pub animals: u64,
     pub inp_n_excretion: u64,
@@ -114,7 +114,7 @@ pub struct Pigs {
     pub free_correction_factor: i64,
 }
 
-#[derive(Clone, Copy)]
+#[derive(Clone, Copy, Debug, PartialEq, Eq)]
 pub enum Inputs {
     Roughage(Roughage),
     Cattle(Cattle),

@@ -9,10 +9,10 @@ use lib.ListN.{length, take, replicate, length-take, length-replicate}
 use lib.Dec.{ltb}
 use borrow.Author.Tests.{lt-ltb, le-ltb}
 use Rattle.base.specs.Pick.{pick}
+use Rattle.base.specs.Refused.{refuse}
 use Rattle.farm.specs.declared.Herd.{Herd}
 use Rattle.farm.specs.declared.Farm.{Farm}
 use Rattle.farm.specs.declared.Refusal.TheVariants.{NoRoomForHerd}
-use Rattle.farm.specs.declared.Checked.TheVariants.{Refused}
 use Rattle.farm.specs.Limits.{herds_most}
 use Rattle.farm.specs.Herds.{no_herd}
 use Rattle.checks.specs.Checks.{herds_of, check_farm}
@@ -47,7 +47,7 @@ module _ (hs : List Herd) (count : ℕ) where
   unfolding farm_in
   beyond-most k = either-beyond (ltb (length hs) count) (herds_most + 1) count (omega arith) k
 
-pub refused-beyond : (f : Farm) → herds_most < f.count → check_farm f ≡ Refused NoRoomForHerd 0
+pub refused-beyond : (f : Farm) → herds_most < f.count → check_farm f ≡ refuse NoRoomForHerd 0
 unfolding check_farm
 refused-beyond f k = rw (check_farm, lt-ltb herds_most f.count k)
 

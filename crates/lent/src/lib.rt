@@ -5,43 +5,22 @@
 ghost use Rattle.std.specs.Prelude.{◌≡◌, min, length};
 ghost use Rattle.farm.specs.Limits.{herds_most};
 ghost use Rattle.checks.specs.Checks.{herds_of};
-ghost use Rattle.lent.specs.Laid.{laid, blank_herds, farm_from, farm_in};
+ghost use Rattle.lent.specs.Laid.{laid, farm_from, farm_in};
 
 use farm::{Farm, HERDS_MOST, Herd, herds};
-
-fn lesser(a: usize, b: usize) -> usize
-    ensures { result ≡ min a b }
-{
-    if b < a {
-        return b;
-    }
-    a
-}
 
 // How many of a farm's herds an array of `len` entries takes.
 fn storable(farm: Farm, len: usize) -> usize
     ensures { result ≡ min (length (herds_of farm)) len }
 {
-    lesser(lesser(farm.count, HERDS_MOST), len)
+    farm.count.min(HERDS_MOST).min(len)
 }
 
 // How many of `count` herds in an array of `len` entries a farm takes.
 fn loadable(count: usize, len: usize) -> usize
     ensures { result ≡ min (min count herds_most) len }
 {
-    lesser(lesser(count, HERDS_MOST), len)
-}
-
-fn herds_of(farm: Farm) -> [Herd; HERDS_MOST]
-    ensures { result ≡ farm.herds }
-{
-    farm.herds
-}
-
-fn blank_herds() -> [Herd; HERDS_MOST]
-    ensures { result ≡ blank_herds }
-{
-    [herds::no_herd(); HERDS_MOST]
+    count.min(HERDS_MOST).min(len)
 }
 
 // The farm of `count` herds that were in an array of `len` entries; where that is shorter, of more herds than any farm
@@ -49,13 +28,10 @@ fn blank_herds() -> [Herd; HERDS_MOST]
 fn farm_from(herds: [Herd; HERDS_MOST], count: usize, len: usize) -> Farm
     ensures { result ≡ farm_from herds count len }
 {
-    if len < count {
-        return Farm {
-            herds,
-            count: HERDS_MOST + 1,
-        };
+    Farm {
+        herds,
+        count: if len < count { HERDS_MOST + 1 } else { count },
     }
-    Farm { herds, count }
 }
 
 // The farm's herds go to the front of the array; every entry behind them stays.
@@ -63,12 +39,7 @@ pub fn store(herds: &mut [Herd], farm: Farm)
     ensures { herds.new ≡ laid (herds_of farm) herds.old }
 {
     let n = storable(farm, herds.len());
-    let own = herds_of(farm);
-    let mut i = 0;
-    while i < n {
-        herds[i] = own[i];
-        i += 1;
-    }
+    herds[..n].copy_from_slice(&farm.herds[..n]);
 }
 
 // The farm of the first `count` entries of the array.
@@ -76,11 +47,7 @@ pub fn load(herds: &[Herd], count: usize) -> Farm
     ensures { result ≡ farm_in herds.now count }
 {
     let n = loadable(count, herds.len());
-    let mut own = blank_herds();
-    let mut i = 0;
-    while i < n {
-        own[i] = herds[i];
-        i += 1;
-    }
+    let mut own = [herds::no_herd(); HERDS_MOST];
+    own[..n].copy_from_slice(&herds[..n]);
     farm_from(own, count, herds.len())
 }

@@ -5,12 +5,12 @@
 ghost use Rattle.std.specs.Prelude.{◌≡◌};
 ghost use Rattle.lent_file.specs.Reading.{limits_for, read_for, told_of, ReadInto};
 
-use farm::{Checked, Farm, Herd};
+use farm::{Checked, Herd};
 use limits::{COOPERATIVE_BYTES, COOPERATIVE_HERDS, Limits};
 use reader::FileAnswer;
 
 // What reading into an array gives: how many herds the file has, or the refusal and 0.
-#[derive(Clone, Copy)]
+#[derive(Clone, Copy, Debug, PartialEq, Eq)]
 pub struct LentAnswer {
     pub checked: Checked,
     pub count: usize,
@@ -20,15 +20,9 @@ pub struct LentAnswer {
 fn limits_for(len: usize) -> Limits
     ensures { result ≡ limits_for len }
 {
-    if len < COOPERATIVE_HERDS {
-        return Limits {
-            bytes: COOPERATIVE_BYTES,
-            herds: len,
-        };
-    }
     Limits {
         bytes: COOPERATIVE_BYTES,
-        herds: COOPERATIVE_HERDS,
+        herds: len.min(COOPERATIVE_HERDS),
     }
 }
 
@@ -39,30 +33,21 @@ pub fn read_for(s: &[u8], len: usize) -> FileAnswer
     farm_file::read_within(limits_for(len), s)
 }
 
-// The farm to store: a refusal has one of no herds, and storing that stores nothing.
-fn farm_of(answer: FileAnswer) -> Farm
-    ensures { result ≡ answer.farm }
-{
-    answer.farm
-}
-
 fn told(answer: FileAnswer) -> LentAnswer
     ensures { result ≡ told_of answer }
 {
-    let farm = answer.farm;
-    let checked = answer.checked;
     LentAnswer {
-        checked,
-        count: farm.count,
+        checked: answer.checked,
+        count: answer.farm.count,
     }
 }
 
-// A file's herds go to the front of the array; every entry behind them stays, and after a refusal all entries do.
+// A file's herds go to the front of the array; every entry behind them stays, and after a refusal all entries do: it
+// has a farm of no herds, and storing that stores nothing.
 pub fn read_into(s: &[u8], herds: &mut [Herd]) -> LentAnswer
     ensures { ReadInto s.now herds.old result herds.new }
 {
     let answer = read_for(s, herds.len());
-    let farm = farm_of(answer);
-    lent::store(herds, farm);
+    lent::store(herds, answer.farm);
     told(answer)
 }

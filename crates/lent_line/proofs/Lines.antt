@@ -9,8 +9,7 @@ use Rattle.farm.specs.declared.Farm.{Farm}
 use Rattle.lent.specs.Laid.{farm_in}
 use Rattle.lent.proofs.Loaded.{loaded_herds}
 use Rattle.farm_calls.proofs.Refusals.{in_refused, in_accepted, accepted-within, same-farm}
-use Rattle.above_line.specs.declared.LineAnswer.{LineAnswer}
-use Rattle.above_line.specs.Answers.{FarmAnswers}
+use Rattle.above_line.specs.Answers.{FarmAnswers, LineAnswer}
 use Rattle.above_line.proofs.Answers.{answers-refusal, answers-herds, one-line-answer}
 use Rattle.lent_line.specs.Lines.{AnswersIn, LineIn}
 

@@ -12,6 +12,5 @@ use lent::load;
 pub fn farm_above_line(herds: &[Herd], count: usize, line: u64) -> LineAnswer
     ensures { AnswersIn herds.now count line result }
 {
-    let farm = load(herds, count);
-    line_calls::above_by_value(farm, line)
+    line_calls::above_by_value(load(herds, count), line)
 }

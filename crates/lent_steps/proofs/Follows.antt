@@ -1,7 +1,8 @@
 -- What follows for the caller of `take_step` from what its calls give: the farm that a step was done on is the first
 -- entries of the array, so what is told and stored is what 02 says. Assumes nothing.
+use Rattle.std.specs.Prelude.{Err}
 use Prim.Native.Nat.{ℕ}
-use mathlib.Core.Path.{◌≡◌, refl, sym, ap, ◌∙◌}
+use mathlib.Core.Path.{◌≡◌, refl, ap, ◌∙◌}
 use mathlib.Core.Bool.{Bool, true, false}
 use mathlib.Core.List.{List}
 use lib.ListN.{length, take}
@@ -10,30 +11,27 @@ use borrow.Author.Tests.{ltb-true, ltb-false}
 use Rattle.base.proofs.Clash.{clash}
 use Rattle.farm.specs.declared.Herd.{Herd}
 use Rattle.farm.specs.declared.Farm.{Farm}
-use Rattle.farm.specs.declared.Checked.{Checked}
-use Rattle.farm.specs.declared.Checked.TheVariants as checks
 use Rattle.farm.specs.Limits.{herds_most}
+use Rattle.farm.specs.Answers.{Accepted, Checked}
 use Rattle.checks.specs.Checks.{herds_of, check_farm}
 use Rattle.lent.specs.Laid.{laid, farm_in}
 use Rattle.lent.proofs.Loaded.{loaded_herds, beyond-array, beyond-most, refused-beyond}
 use Rattle.books.specs.declared.Book.{Book}
 use Rattle.books.specs.declared.Step.{Step}
-use Rattle.books.specs.declared.Decided.{Decided}
-use Rattle.books.specs.declared.Decided.TheVariants.{Done, Refused}
 use Rattle.books.specs.declared.Stepped.{Stepped}
 use Rattle.books.specs.declared.StepAnswer.{StepAnswer}
 use Rattle.books.specs.Steps.{herds_after, totals_after}
-use Rattle.books.specs.Rules.{decided_after, decided_of}
+use Rattle.books.specs.Rules.{decided_after, decided_of, Decided, Done}
 use Rattle.books.specs.Answers.{decided_in, book_after, array_after, stored_herds, stored_totals, StepsTo, TakesStep}
 use Rattle.lent_steps.specs.Told.{told, told_of}
 
 -- ---- a step that was done was done on the first entries
 
-accepted : (c : Checked) (d : Decided) → decided_after c d ≡ Done → c ≡ checks.Accepted
-accepted checks.Accepted d e = refl
-accepted (checks.Refused refusal n) d e = clash cc
+accepted : (c : Checked) (d : Decided) → decided_after c d ≡ Done → c ≡ Accepted
+accepted Accepted d e = refl
+accepted (Err refused) d e = clash cc
 
-first-entries : (old : List Herd) (count : ℕ) → check_farm (farm_in old count) ≡ checks.Accepted
+first-entries : (old : List Herd) (count : ℕ) → check_farm (farm_in old count) ≡ Accepted
     → herds_of (farm_in old count) ≡ take count old
 first-entries old count e = go (ltb (length old) count) refl (ltb herds_most count) refl
   where
@@ -57,13 +55,13 @@ module _ (old : List Herd) (book : Book) (step : Step) (h : Herd) (e : Stepped) 
       let t : e.totals ≡ totals_after step h hs book.totals =
       et ∙ ap (λ (l : List Herd). totals_after step h l book.totals) (same refl) in
       rw (c, t)
-  book-told (Refused refusal) same ec et = refl
+  book-told (Err refusal) same ec et = refl
 
   array-stored : (d : Decided) → (d ≡ Done → gs ≡ hs) → herds_of e.farm ≡ stored_herds d gs step h
       → laid (herds_of e.farm) old ≡ array_after d hs old step h
   array-stored Done same eh =
       ap (λ (l : List Herd). laid l old) (eh ∙ ap (λ (l : List Herd). herds_after step h l) (same refl))
-  array-stored (Refused refusal) same eh = ap (λ (l : List Herd). laid l old) eh
+  array-stored (Err refusal) same eh = ap (λ (l : List Herd). laid l old) eh
 
 -- ---- the step
 
@@ -84,8 +82,7 @@ module _ (old : List Herd) (book : Book) (step : Step) (h : Herd) where
         array = array-stored old book step h e (take book.count old) (herds_of f) d same to.herds;
       }
 
-  pub follows : (c : ℕ) (f : Farm) (e : Stepped) (s : Farm) (t : StepAnswer) (new : List Herd) → c ≡ book.count
-      → f ≡ farm_in old c → StepsTo f (length old) book.totals step h e → s ≡ e.farm → new ≡ laid (herds_of s) old
-      → t ≡ told_of book e → TakesStep step h book old t new
-  follows c f e s t new ec ef to es en et =
-      rw (et, en, es) (taken e (rw (ef, ec) at to))
+  pub follows : (f : Farm) (e : Stepped) (t : StepAnswer) (new : List Herd) → f ≡ farm_in old book.count
+      → StepsTo f (length old) book.totals step h e → new ≡ laid (herds_of e.farm) old → t ≡ told_of book e
+      → TakesStep step h book old t new
+  follows f e t new ef to en et = rw (et, en) (taken e (rw ef at to))

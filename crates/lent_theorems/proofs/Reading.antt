@@ -10,12 +10,14 @@ use lib.ListN.{length, drop, replicate, length-append, length-replicate}
 use lib.Seq.{take-append_seam}
 use borrow.Author.Tests.{le-ltb}
 use Rattle.base.proofs.Clash.{clash}
+use Rattle.base.proofs.SameRefused.{same-record, same-refusal}
+use Rattle.base.specs.Refused.{refuse}
 use Rattle.farm.specs.declared.Herd.{Herd}
 use Rattle.farm.specs.declared.Farm.{Farm}
 use Rattle.farm.specs.declared.Refusal.{Refusal}
-use Rattle.farm.specs.declared.Checked.TheVariants.{Accepted, Refused}
 use Rattle.farm.specs.Limits.{herds_most}
 use Rattle.farm.specs.Herds.{no_herd}
+use Rattle.farm.specs.Answers.{Accepted}
 use Rattle.limits.specs.declared.Limits.{Limits}
 use Rattle.limits.specs.declared.Source.TheVariants.{Cooperative}
 use Rattle.limits.specs.Limits.{limits_of}
@@ -78,16 +80,14 @@ module _ {s : List ℕ} {old : List Herd} {r : LentAnswer} {new : List Herd} (in
       }
 
   -- the other way round: what is answered is so
-  pub refused_into : {n : ℕ} {refusal : Refusal} → r.checked ≡ Refused refusal n → First within s n refusal
+  pub refused_into : {n : ℕ} {refusal : Refusal} → r.checked ≡ refuse refusal n → First within s n refusal
   refused_into {n} {refusal} c = go (read_of within s) refl (outcome-within within (fit (length old)) s)
     where
       go : (x : FileAnswer) → read_of within s ≡ x → Outcome within s x → First within s n refusal
       go x e (takes {f = f} _) = let t = ap (λ (a : LentAnswer). a.checked) (told (accepted f) e).0 in clash cc
       go x e (gives {n = m} {refusal = g} first) =
-          let t = ap (λ (a : LentAnswer). a.checked) (told (refused m g) e).0 in
-          let p : m ≡ n = cc in
-          let q : g ≡ refusal = cc in
-          rw (p, q) at first
+          let t = sym (ap (λ (a : LentAnswer). a.checked) (told (refused m g) e).0) ∙ c in
+          rw (same-record t, same-refusal t) at first
 
   pub accepted_into : r.checked ≡ Accepted → Taken within s
   accepted_into c = go (read_of within s) refl (outcome-within within (fit (length old)) s)

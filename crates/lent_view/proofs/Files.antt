@@ -1,5 +1,6 @@
 -- 02, W5: "Reading it back gives the same farm (same kinds, labels and inputs)", of what the call wrote from a slice of
 -- herds and a count. Assumes nothing.
+use Rattle.std.specs.Prelude.{Ok, Err}
 use Prim.Native.Nat.{ℕ, ◌≤◌}
 use mathlib.Core.Path.{◌≡◌, refl, sym, ◌∙◌}
 use mathlib.Core.Bool.{Bool, true, false}
@@ -11,11 +12,11 @@ use lib.Seq.{take_at}
 use Rattle.base.specs.Each.{Each}
 use Rattle.base.specs.Pick.{pick}
 use Rattle.base.proofs.Clash.{clash}
+use Rattle.base.specs.Refused.{refuse}
 use Rattle.farm.specs.declared.Herd.{Herd}
 use Rattle.farm.specs.declared.Farm.{Farm}
 use Rattle.farm.specs.declared.Refusal.TheVariants.{FileTooLong, BufferTooShort}
-use Rattle.farm.specs.declared.Checked.{Checked}
-use Rattle.farm.specs.declared.Checked.TheVariants as checks
+use Rattle.farm.specs.Answers.{Accepted, Checked}
 use Rattle.checks.specs.Checks.{herds_of, check_farm}
 use Rattle.checks.proofs.Accepts.{farm-count}
 use Rattle.lent.specs.Laid.{farm_in}
@@ -26,9 +27,7 @@ use Rattle.limits.specs.Limits.{cooperative_bytes, limits_of}
 use Rattle.reader.specs.Files.{read_of, accepted}
 use Rattle.rules_theorems.specs.Rules.{allowed, farm_of}
 use Rattle.rules_theorems.proofs.Allowed.{as-allowed, allowed-fit}
-use Rattle.written.specs.declared.Written.{Written}
-use Rattle.written.specs.declared.Written.TheVariants.{Length, Refused}
-use Rattle.written.specs.Answer.{answers}
+use Rattle.written.specs.Answer.{answers, Written}
 use Rattle.file_text.specs.Files.{file_of}
 use Rattle.file_length.specs.Limit.{file_checked}
 use Rattle.written_theorems.specs.Alike.{AlikeHerds, said, HasRoom}
@@ -52,7 +51,7 @@ module _ (herds : List Herd) (count : ℕ) (roomy : Each HasRoom (take count her
   text = view_text File (take count herds)
 
   module _ (none : Fine herds count) (short : length text ≤ (allowed Cooperative).bytes) where
-    passed : check_farm f ≡ checks.Accepted
+    passed : check_farm f ≡ Accepted
     passed = passes File herds count none
 
     its_herds : herds_of f ≡ take count herds
@@ -80,21 +79,21 @@ module _ (herds : List Herd) (count : ℕ) (roomy : Each HasRoom (take count her
 
   -- So of every call that says a length: what stands in the buffer up to there is such a file.
   module _ {old new : List ℕ} {r : Written} (w : Called (view_in File herds count) old new r) (n : ℕ)
-      (e : r ≡ Length n) where
+      (e : r ≡ Ok n) where
     abbrev listing : List ℕ
     listing = viewed File f
 
-    by_checks : (k : Checked) → check_farm f ≡ k → answer_of (checked_for File k f) listing old ≡ Length n
-        → check_farm f ≡ checks.Accepted
-    by_checks checks.Accepted q x = q
-    by_checks (checks.Refused refusal m) q x = clash cc
+    by_checks : (k : Checked) → check_farm f ≡ k → answer_of (checked_for File k f) listing old ≡ Ok n
+        → check_farm f ≡ Accepted
+    by_checks Accepted q x = q
+    by_checks (Err refused) q x = clash cc
 
     found : Fine herds count
     unfolding view_in farm_call
     found = (in_accepted herds count).0 (by_checks (check_farm f) refl (sym w.answer ∙ e))
 
     by-limit : (t : Bool) → ltb cooperative_bytes (length listing) ≡ t
-        → answer_of (pick t (checks.Refused FileTooLong 0) checks.Accepted) listing old ≡ Length n
+        → answer_of (pick t (refuse FileTooLong 0) Accepted) listing old ≡ Ok n
         → length listing ≤ cooperative_bytes
     by-limit true q x = clash cc
     by-limit false q x = ltb-false cooperative_bytes (length listing) q
@@ -102,13 +101,13 @@ module _ (herds : List Herd) (count : ℕ) (roomy : Each HasRoom (take count her
     within : length text ≤ (allowed Cooperative).bytes
     unfolding view_in farm_call view_checked file_checked allowed
     within =
-        let said' : answer_of (view_checked File f) listing old ≡ Length n =
+        let said' : answer_of (view_checked File f) listing old ≡ Ok n =
         rw (passes File herds count found) at (sym w.answer ∙ e) in
         rw (← text-is File herds count found)
         (by-limit (ltb cooperative_bytes (length listing)) refl said')
 
     by-room : (t : Bool) → leb (length text) (length old) ≡ t
-        → pick t (Length (length text)) (Refused BufferTooShort 0) ≡ Length n → length text ≤ length old
+        → pick t (Ok (length text)) (refuse BufferTooShort 0) ≡ Ok n → length text ≤ length old
     by-room true q x = leb-true (length text) (length old) q
     by-room false q x = clash cc
 
@@ -121,6 +120,6 @@ module _ (herds : List Herd) (count : ℕ) (roomy : Each HasRoom (take count her
     pub read_back : read_of (limits_of Cooperative) (take n new) ≡ accepted (farm_of (again herds count))
     read_back =
         let l = (view_in_lem File herds count w).listed found (λ same. within) fits in
-        let long : Length (length text) ≡ Length n = sym l.1 ∙ e in
+        let long : Ok (length text) ≡ Ok n = sym l.1 ∙ e in
         let at : length text ≡ n = cc in
         rw (l.0, take_at text (drop (length text) old) n at) (file-read-again found within)

@@ -10,8 +10,7 @@ use Rattle.farm.specs.declared.Herd.{Herd}
 use Rattle.farm.specs.declared.Farm.{Farm}
 use Rattle.farm.specs.declared.Refusal.{Refusal}
 use Rattle.farm.specs.declared.Refusal.TheVariants.{FileTooLong}
-use Rattle.farm.specs.declared.Checked.{Checked}
-use Rattle.farm.specs.declared.Checked.TheVariants as checks
+use Rattle.farm.specs.Answers.{Accepted, Checked}
 use Rattle.checks.specs.Checks.{check_farm}
 use Rattle.lent.specs.Laid.{farm_in}
 use Rattle.lent.proofs.Loaded.{loaded_herds}
@@ -19,8 +18,7 @@ use Rattle.farm_calls.specs.Refusals.{FirstIn}
 use Rattle.farm_calls.proofs.Refusals.{in_refused, in_accepted, accepted-within, same-farm}
 use Rattle.limits.specs.declared.Source.TheVariants.{Cooperative}
 use Rattle.rules_theorems.specs.Rules.{allowed}
-use Rattle.written.specs.declared.Written.{Written}
-use Rattle.written.specs.Answer.{leaves, answers}
+use Rattle.written.specs.Answer.{leaves, answers, Written}
 use Rattle.views.specs.declared.View.{View}
 use Rattle.views.specs.declared.View.TheVariants.{File}
 use Rattle.views.specs.Views.{viewed, view_checked}
@@ -28,6 +26,7 @@ use Rattle.contracts.specs.Listings.{Call, Called, farm_call}
 use Rattle.contracts.specs.Files.{view_text, InLimit}
 use Rattle.contracts.proofs.Files.{viewed-is, in_limit, beyond}
 use Rattle.lent_view.specs.Views.{view_in, Fine, ViewIn}
+use Rattle.base.specs.Refused.{refuse}
 
 -- the farm that is loaded, and what is given of it: the step of the call
 module _ (view : View) (herds : List Herd) (count : ℕ) (f : Farm) where
@@ -45,7 +44,7 @@ module _ (view : View) (herds : List Herd) (count : ℕ) where
   finds k l = record { checked = k; listing = l }
 
   module _ (none : Fine herds count) where
-    pub passes : check_farm (farm_in herds count) ≡ checks.Accepted
+    pub passes : check_farm (farm_in herds count) ≡ Accepted
     passes = (in_accepted herds count).1 none
 
     pub text-is : viewed view (farm_in herds count) ≡ text
@@ -53,23 +52,23 @@ module _ (view : View) (herds : List Herd) (count : ℕ) where
         let w = accepted-within herds count passes in
         viewed-is view (farm_in herds count) passes ∙ ap (view_text view) (loaded_herds herds count w.0 w.1)
 
-    pub is-fine : InLimit view text → view_in view herds count ≡ finds checks.Accepted text
+    pub is-fine : InLimit view text → view_in view herds count ≡ finds Accepted text
     unfolding view_in farm_call
     is-fine h =
         let k = in_limit view (farm_in herds count) (rw text-is h) in
         rw (passes, k, text-is)
 
     over : view ≡ File → (allowed Cooperative).bytes < length text
-        → (view_in view herds count).checked ≡ checks.Refused FileTooLong 0
+        → (view_in view herds count).checked ≡ refuse FileTooLong 0
     unfolding view_in farm_call
     over e h = rw passes (beyond-of view (farm_in herds count) e (rw text-is h))
       where
         beyond-of : (v : View) (f : Farm) → v ≡ File → (allowed Cooperative).bytes < length (viewed v f)
-            → view_checked v f ≡ checks.Refused FileTooLong 0
+            → view_checked v f ≡ refuse FileTooLong 0
         beyond-of v f e h = rw e (beyond f (rw e at h))
 
   first : {refusal : Refusal} → FirstIn herds count refusal
-      → (view_in view herds count).checked ≡ checks.Refused refusal 0
+      → (view_in view herds count).checked ≡ refuse refusal 0
   unfolding view_in farm_call
   first {refusal} x = rw ((in_refused herds count 0 refusal).1 (x, refl))
 

@@ -15,6 +15,5 @@ use written::Written;
 pub fn farm_view(view: View, herds: &[Herd], count: usize, out: &mut [u8]) -> Written
     ensures { Called (view_in view herds.now count) out.old out.new result }
 {
-    let farm = load(herds, count);
-    view_calls::view_by_value(view, farm, out)
+    view_calls::view_by_value(view, load(herds, count), out)
 }

@@ -7,10 +7,10 @@ use lib.ListN.{replicate}
 use Rattle.base.specs.Wrote.{Wrote}
 use Rattle.refusal_line.specs.Rooms.{line_room}
 use Rattle.limits.specs.declared.Source.{Source}
-use Rattle.above_line.specs.declared.LineAnswer.{LineAnswer}
 use Rattle.lines_above.specs.Lines.{answer_line}
 use Rattle.line_calls.specs.Files.{FileAnswers}
 use Rattle.line_answer.specs.Program.{Puts}
+use Rattle.above_line.specs.Answers.{LineAnswer}
 
 pub answer-put : (source : Source) (s : List ℕ) (line : ℕ) {a : LineAnswer} → FileAnswers source s line a
     → {new : List ℕ} {n : ℕ} → Wrote (replicate line_room 0) 0 (answer_line a) new n × (n ≤ line_room)

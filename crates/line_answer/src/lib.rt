@@ -8,7 +8,7 @@ use above_line::LineAnswer;
 use limits::Source;
 
 // An answer, and its bytes from the front on; those behind them are zeros.
-#[derive(Clone, Copy)]
+#[derive(Clone, Copy, Debug, PartialEq, Eq)]
 pub struct PutLine {
     pub answer: LineAnswer,
     pub bytes: [u8; lines_above::ANSWER_ROOM],

@@ -12,8 +12,8 @@ use Rattle.rules_theorems.specs.Rules.{allowed, farm_of, KeepsRules}
 use Rattle.rules_theorems.proofs.Farms.{herds-of}
 use Rattle.rules_theorems.proofs.Accepts.{accepts-exactly}
 use Rattle.rules_theorems.proofs.Refuses.{first-refusal}
-use Rattle.above_line.specs.declared.LineAnswer.{LineAnswer}
 use Rattle.above_line.proofs.Answers.{answers-refusal, answers-herds}
+use Rattle.above_line.specs.Answers.{LineAnswer}
 use Rattle.line_calls.specs.Files.{FileAnswers, LineByTheRules}
 
 -- a file that keeps the rules: it is read, and the herds are those that its records say

@@ -7,17 +7,15 @@ ghost use Rattle.above_line.specs.Answers.{FarmAnswers};
 ghost use Rattle.line_calls.specs.Files.{FileAnswers};
 
 use above_line::LineAnswer;
-use farm::{Checked, Farm};
+use farm::Farm;
 use limits::Source;
 
 // Of a farm by value.
 pub fn above_by_value(farm: Farm, line: u64) -> LineAnswer
     ensures { FarmAnswers line farm result }
 {
-    match checks::check_farm(farm) {
-        Checked::Accepted => LineAnswer::Screened(farm_above::above(farm, line)),
-        Checked::Refused(refusal, record) => LineAnswer::Refused(refusal, record),
-    }
+    checks::check_farm(farm)?;
+    Ok(farm_above::above(farm, line))
 }
 
 // Of a file.
@@ -25,12 +23,6 @@ pub fn file_above_line(source: Source, s: &[u8], line: u64) -> LineAnswer
     ensures { FileAnswers source s.now line result }
 {
     let answer = farm_file::read(source, s);
-    let checked = answer.checked;
-    match checked {
-        Checked::Accepted => {
-            let farm = answer.farm;
-            LineAnswer::Screened(farm_above::above(farm, line))
-        }
-        Checked::Refused(refusal, record) => LineAnswer::Refused(refusal, record),
-    }
+    answer.checked?;
+    Ok(farm_above::above(answer.farm, line))
 }

@@ -1,37 +1,32 @@
 -- A label as a field: its bytes as the code takes them, the search for a comma, and what is written in either case.
 -- Assumes nothing.
-use Prim.Native.Nat.{ℕ, ◌+◌, ◌-◌, ◌≤◌, ◌<◌}
-use mathlib.Core.Path.{◌≡◌, sym, ap, ◌∙◌}
-use mathlib.Core.Bool.{Bool, true, false}
+use Prim.Native.Nat.{ℕ, ◌-◌, ◌≤◌}
+use mathlib.Core.Path.{◌≡◌, refl, sym, ap, ◌∙◌}
+use mathlib.Core.Bool.{Bool, true, false, ◌||◌}
 use mathlib.Core.List.{List, [], ◌∷◌, ◌++◌}
 use native.Mathlib.Omega.{arith}
 use native.Mathlib.Nat.{min-le_right}
-use borrow.Author.Tests.{eq-eqb, ne_eqb}
-use lib.ListN.{length, get_or, take, drop, length-take}
+use lib.Dec.{eqb}
+use lib.ListN.{length, take, length-take}
+use Rattle.std.specs.List.{list_any}
+use Rattle.base.specs.Pick.{pick}
 use Rattle.base.specs.Part.{part}
-use Rattle.base.proofs.Rest.{rest_at, rest_end}
 use Rattle.farm.specs.declared.Label.{Label}
 use Rattle.farm.specs.Labels.{text}
 use Rattle.line_parts.specs.Bounds.{longest_label}
 use Rattle.line_parts.specs.Fields.{has_comma, label_field}
 
--- i bytes have no comma; X is what the search of the whole gives
-module _ (s : List ℕ) (i : ℕ) (X : Bool) (inv : has_comma (drop i s) ≡ X) where
-  pub comma-here : i < length s → get_or s i 0 ≡ 44 → true ≡ X
-  unfolding has_comma
-  comma-here h e = simp (rest_at s i h, has_comma, eq-eqb _ _ e) at inv
+-- what `contains` looks for
+pub comma-any : (s : List ℕ) → list_any (λ (b : ℕ). eqb b 44) s ≡ has_comma s
+unfolding has_comma
+comma-any [] = refl
+comma-any (b ∷ s) = go (eqb b 44) (comma-any s)
+  where
+    go : (t : Bool) {u v : Bool} → u ≡ v → (t || u) ≡ pick t true v
+    go true e = refl
+    go false e = e
 
-  pub comma-on : i < length s → (get_or s i 0 ≡ 44 → ⊥) → has_comma (drop (i + 1) s) ≡ X
-  unfolding has_comma
-  comma-on h e = simp (rest_at s i h, has_comma, ne_eqb _ _ e) at inv
-
-  pub comma-none : length s ≤ i → false ≡ X
-  unfolding has_comma
-  comma-none h = simp (rest_end s i h, has_comma) at inv
-
-pub ruleset comma_steps = (comma-here, comma-on, comma-none)
-
--- what `has_comma` gave is b
+-- whether the label has a comma is b
 module _ (s : List ℕ) (b : Bool) (e : b ≡ has_comma s) where
   pub quoted : b ≡ true → (34 ∷ []) ++ s ++ (34 ∷ []) ≡ label_field s
   unfolding label_field

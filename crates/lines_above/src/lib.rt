@@ -8,6 +8,7 @@ ghost use Rattle.refusal_line.specs.Rooms.{line_room};
 ghost use Rattle.lines_above.specs.Lines.{counted, above_line, answer_line};
 
 use above_line::{Above, LineAnswer};
+use base::refusals::Refused;
 
 // Room for any answer: a refusal's line is the longest.
 pub const ANSWER_ROOM: usize = refusal_line::LINE_ROOM;
@@ -38,7 +39,7 @@ pub fn put_answer(out: &mut [u8], answer: LineAnswer) -> usize
     ensures { Wrote out.old 0 (answer_line answer) out.new result × (result ≤ line_room) }
 {
     match answer {
-        LineAnswer::Screened(above) => put_above(out, above),
-        LineAnswer::Refused(refusal, record) => file_refusal_line::put_line(out, refusal, record),
+        Ok(above) => put_above(out, above),
+        Err(Refused(refusal, record)) => file_refusal_line::put_line(out, refusal, record),
     }
 }

@@ -20,8 +20,8 @@ use Rattle.amounts.specs.Units.{year, day}
 use Rattle.inputs.specs.declared.Kind.{Kind}
 use Rattle.inputs.specs.declared.Kind.TheVariants as kind
 use Rattle.farm.specs.declared.Herd.{Herd}
-use Rattle.farm.specs.declared.Checked.TheVariants.{Accepted}
 use Rattle.farm.specs.Labels.{text}
+use Rattle.farm.specs.Answers.{Accepted}
 use Rattle.checks.specs.Checks.{check_herd}
 use Rattle.checks.proofs.Accepts.{accepted-herd}
 use Rattle.kinds.specs.declared.Roughage.{Roughage}

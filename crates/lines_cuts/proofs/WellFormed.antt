@@ -41,7 +41,8 @@ module _ (label : List ℕ) (l : FieldOf label (label_field label)) (k : Kind) (
   plain_module t e = plain-append (plain-append (plain-path k) (past-plain (bytes "::") refl)) (past-plain _ e)
 
   cut_line_lem : (t : String) → plain_name t ≡ true
-      → RecordsOf 5 (cut_fields label k c t ∷ []) (cut_line label (module_of k t) (bytes t) (cut_off t c) (divisor_of t c))
+      → RecordsOf 5 (cut_fields label k c t ∷ [])
+      (cut_line label (module_of k t) (bytes t) (cut_off t c) (divisor_of t c))
   unfolding cut_line numbers_of
   cut_line_lem t e =
       let h = both_true (plain_section t) (all_past (bytes t)) e in

@@ -20,7 +20,8 @@ put_together owner middle off by = pick (ltb 0 by) (owner ++ middle ++ numbers_o
 unfoldable pub numbered : List ℕ → List ℕ → List ℕ → List ℕ → List ℕ → List ℕ → List ℕ
 numbered owner table from offs bys lines =
     each
-    (λ (n : ℕ). put_together owner (part table (get_or from n 0) (get_or from (n + 1) 0)) (get_or offs n 0) (get_or bys n 0))
+    (λ (n : ℕ). put_together owner (part table (get_or from n 0) (get_or from (n + 1) 0)) (get_or offs n 0)
+    (get_or bys n 0))
     lines
 
 -- the table has a middle for each number, of any length, and the lines are numbers of these

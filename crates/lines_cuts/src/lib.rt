@@ -7,10 +7,10 @@ mod lines; // a record, and records one after the other
 
 ghost use Rattle.std.specs.Prelude.{◌≡◌, ◌+◌, ◌≤◌, length};
 ghost use Rattle.base.specs.Wrote.{Wrote};
-ghost use Rattle.farm.specs.declared.Checked.TheVariants.{Accepted};
 ghost use Rattle.checks.specs.Checks.{check_herd};
 ghost use Rattle.lines_cuts.specs.Lines.{cuts_listing, herd_cut_lines};
 ghost use Rattle.lines_cuts.specs.Rooms.{longest_cuts};
+ghost use Rattle.farm.specs.Answers.{Accepted};
 
 use cuts::Cuts;
 use farm::{Herd, Label};
@@ -27,17 +27,14 @@ fn put_cuts(out: &mut [u8], at: usize, label: Label, kind: Kind, c: Cuts) -> usi
 {
     let mut in_owner = [0u8; owners::OWNER_MOST];
     let n = owners::put_owner(&mut in_owner, label, kind);
-    let owner = base::part_of(&in_owner, 0, n);
-    let cut_off = c.cut_off;
-    let divisor = c.divisor;
     lines::put_lines(
         out,
         at,
-        owner,
+        base::part_of(&in_owner, 0, n),
         &texts::MIDDLES,
         &texts::STARTS,
-        &cut_off,
-        &divisor,
+        &c.cut_off,
+        &c.divisor,
         &texts::LINES,
     )
 }
@@ -47,12 +44,11 @@ pub fn put_herd(out: &mut [u8], at: usize, h: Herd) -> usize
     requires { (check_herd h ≡ Accepted) × (at + longest_cuts ≤ length out.old) }
     ensures { Wrote out.old at (herd_cut_lines h) out.new result × (result ≤ at + longest_cuts) }
 {
-    let kind = h.kind;
     put_cuts(
         out,
         at,
         h.label,
-        kind,
+        h.kind,
         herd_figures::cuts_of(herd_inputs::typed_of(h)),
     )
 }

@@ -8,7 +8,7 @@ use lib.ListN.{length}
 use Rattle.base.specs.Wrote.{Wrote}
 use Rattle.base.proofs.Writes.{wrote_as}
 use Rattle.farm.specs.declared.Herd.{Herd}
-use Rattle.farm.specs.declared.Checked.TheVariants.{Accepted}
+use Rattle.farm.specs.Answers.{Accepted}
 use Rattle.checks.specs.Checks.{check_herd}
 use Rattle.kinds.specs.declared.Inputs.{Inputs}
 use Rattle.kinds.specs.Sound.{Sound}

@@ -4,8 +4,8 @@
 
 ghost use Rattle.std.specs.Prelude.{◌≡◌, ◌+◌, ◌*◌, ◌≤◌, length};
 ghost use Rattle.base.specs.Wrote.{Wrote};
-ghost use Rattle.farm.specs.declared.Checked.TheVariants.{Accepted};
 ghost use Rattle.farm.specs.Labels.{text};
+ghost use Rattle.farm.specs.Answers.{Accepted};
 ghost use Rattle.checks.specs.Checks.{check_herd};
 ghost use Rattle.line_parts.specs.Fields.{each};
 ghost use Rattle.lines_notes.specs.Records.{note_field, notes_record, herd_notes};
@@ -21,9 +21,10 @@ fn put_note(out: &mut [u8], at: usize, noted: bool) -> usize
     ensures { Wrote out.old at (note_field noted) out.new result × (result ≤ at + longest_note) }
 {
     if noted {
-        return base::put(out, at, b",yes");
+        base::put(out, at, b",yes")
+    } else {
+        base::put(out, at, b",no")
     }
-    base::put(out, at, b",no")
 }
 
 // These notes, one after the other.
@@ -33,10 +34,8 @@ fn put_notes(out: &mut [u8], at: usize, noted: &[bool]) -> usize
         × (result ≤ at + length noted.now * longest_note) }
 {
     let mut next = at;
-    let mut k = 0;
-    while k < noted.len() {
-        next = put_note(out, next, noted[k]);
-        k += 1;
+    for &note in noted {
+        next = put_note(out, next, note);
     }
     next
 }
@@ -48,8 +47,7 @@ fn put_record(out: &mut [u8], at: usize, label: Label, n: Notes) -> usize
         × (result ≤ at + longest_record) }
 {
     let a = labels::put_label(out, at, label);
-    let noted = herd_notes::in_order(n);
-    let b = put_notes(out, a, &noted);
+    let b = put_notes(out, a, &herd_notes::in_order(n));
     base::put(out, b, b"\r\n")
 }
 

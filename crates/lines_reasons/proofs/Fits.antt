@@ -13,8 +13,8 @@ use Rattle.decimal.specs.Rooms.{digits_most}
 use Rattle.decimal.specs.Writing.{whole_of}
 use Rattle.decimal.proofs.Widths.{whole-text}
 use Rattle.farm.specs.declared.Herd.{Herd}
-use Rattle.farm.specs.declared.Checked.TheVariants.{Accepted}
 use Rattle.farm.specs.Labels.{text}
+use Rattle.farm.specs.Answers.{Accepted}
 use Rattle.checks.specs.Checks.{check_herd}
 use Rattle.checks.proofs.Accepts.{accepted-herd}
 use Rattle.amounts.specs.Units.{year}

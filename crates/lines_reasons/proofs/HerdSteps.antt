@@ -5,15 +5,14 @@ use mathlib.Core.List.{List}
 use Rattle.base.specs.Wrote.{Wrote}
 use Rattle.base.proofs.Writes.{wrote_as}
 use Rattle.farm.specs.declared.Herd.{Herd}
-use Rattle.farm.specs.declared.Checked.TheVariants.{Accepted}
 use Rattle.farm.specs.Labels.{text}
+use Rattle.farm.specs.Answers.{Accepted}
 use Rattle.checks.specs.Checks.{check_herd}
 use Rattle.kinds.specs.declared.Inputs.{Inputs}
 use Rattle.kinds.specs.Sound.{Sound}
 use Rattle.typed_inputs.specs.Typed.{typed_of}
 use Rattle.typed_inputs.proofs.Sound.{typed_sound}
-use Rattle.reasons.specs.declared.YardReason.{YardReason}
-use Rattle.reasons.specs.Reasons.{told_of}
+use Rattle.reasons.specs.Reasons.{told_of, YardReason}
 use Rattle.lines_reasons.specs.declared.Wording.{Wording}
 use Rattle.lines_reasons.specs.Lines.{told_text, herd_why}
 

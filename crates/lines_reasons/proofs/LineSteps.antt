@@ -1,4 +1,5 @@
 -- A reason's line: what its parts are as the code writes them, and that its numbers are short. Assumes nothing.
+use Rattle.std.specs.Prelude.{None, Some}
 use Prim.Native.Nat.{ℕ, ◌+◌, ◌/◌, ◌%◌, ◌≤◌}
 use mathlib.Core.Path.{◌≡◌}
 use mathlib.Core.List.{List, [], ◌∷◌}
@@ -9,8 +10,7 @@ use Rattle.base.proofs.Writes.{wrote-append, wrote_nothing}
 use Rattle.decimal.specs.Writing.{whole_of}
 use Rattle.line_parts.specs.Fields.{label_field}
 use Rattle.reasons.specs.declared.Why.{Why}
-use Rattle.reasons.specs.declared.YardReason.{YardReason}
-use Rattle.reasons.specs.declared.YardReason.TheVariants.{Because, NoYard}
+use Rattle.reasons.specs.Reasons.{YardReason}
 use Rattle.lines_reasons.specs.declared.Wording.{Wording}
 use Rattle.lines_reasons.specs.declared.Wording.TheVariants.{Record, Sentence}
 use Rattle.lines_reasons.specs.Lines.{tenths_of, reason_field, numbers_of, why_record, opening, middle, because}
@@ -66,11 +66,11 @@ module _ (old new label : List ℕ) (at end : ℕ) where
       → Wrote old at (why_text v label w) new end
   as_sentence v w e l = rw e l
 
-  pub as-told : (v : Wording) (t : YardReason) (w : Why) → t ≡ Because w → Wrote old at (why_text v label w) new end
+  pub as-told : (v : Wording) (t : YardReason) (w : Why) → t ≡ Some w → Wrote old at (why_text v label w) new end
       → Wrote old at (told_text v label t) new end
   as-told v t w e l = rw e l
 
-pub as-nothing : (old label : List ℕ) (at : ℕ) (v : Wording) (t : YardReason) → t ≡ NoYard
+pub as-nothing : (old label : List ℕ) (at : ℕ) (v : Wording) (t : YardReason) → t ≡ None
     → Wrote old at (told_text v label t) old at × (at ≤ at + longest_line)
 as-nothing old label at v t e = rw e (wrote_nothing old at, omega arith)
 

@@ -1,7 +1,7 @@
 -- 02, W2: the reason of a herd with a yard as a record: `Heifers,lowered,180,0.2`, label, quoted as in the
 -- listing, reason, days with both, the yard's share on those days; or as a sentence that an adviser can read aloud,
 -- with the chosen share too. CRLF after each; other herds have none. To be believed.
-use Rattle.std.specs.Prelude.{ℕ, ◌/◌, ◌%◌, List, [], ◌++◌}
+use Rattle.std.specs.Prelude.{ℕ, ◌/◌, ◌%◌, List, [], ◌++◌, None, Some}
 use Prim.Native.String.{String}
 use Rattle.base.specs.Text.{bytes}
 use Rattle.decimal.specs.Writing.{whole_of}
@@ -12,9 +12,7 @@ use Rattle.line_parts.specs.Fields.{label_field}
 use Rattle.reasons.specs.declared.Reason.{Reason}
 use Rattle.reasons.specs.declared.Reason.TheVariants.{NoSuchDays, NotAvailable, AsChosen, Lowered}
 use Rattle.reasons.specs.declared.Why.{Why}
-use Rattle.reasons.specs.declared.YardReason.{YardReason}
-use Rattle.reasons.specs.declared.YardReason.TheVariants.{Because, NoYard}
-use Rattle.reasons.specs.Reasons.{word, told_of}
+use Rattle.reasons.specs.Reasons.{word, told_of, YardReason}
 use Rattle.lines_reasons.specs.declared.Wording.{Wording}
 use Rattle.lines_reasons.specs.declared.Wording.TheVariants.{Record, Sentence}
 
@@ -67,8 +65,8 @@ why_text Record label w = why_record label w
 why_text Sentence label w = why_sentence label w
 
 abbrev pub told_text : Wording → List ℕ → YardReason → List ℕ
-told_text wording label (Because w) = why_text wording label w
-told_text wording label NoYard = []
+told_text wording label (Some w) = why_text wording label w
+told_text wording label None = []
 
 abbrev pub herd_why : Wording → Herd → List ℕ
 herd_why wording h = told_text wording (text h.label) (told_of (typed_of h))

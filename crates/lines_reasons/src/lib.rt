@@ -7,8 +7,8 @@ ghost use Rattle.base.specs.Text.{bytes};
 ghost use Rattle.base.specs.Wrote.{Wrote};
 ghost use Rattle.decimal.specs.Writing.{whole_of};
 ghost use Rattle.decimal.specs.Rooms.{digits_most};
-ghost use Rattle.farm.specs.declared.Checked.TheVariants.{Accepted};
 ghost use Rattle.farm.specs.Labels.{text};
+ghost use Rattle.farm.specs.Answers.{Accepted};
 ghost use Rattle.checks.specs.Checks.{check_herd};
 ghost use Rattle.lines_reasons.specs.Lines.{tenths_of, reason_field, numbers_of, why_record, because, days_words};
 ghost use Rattle.lines_reasons.specs.Lines.{shares_words, why_sentence, why_text, told_text, herd_why};
@@ -18,10 +18,10 @@ ghost use Rattle.lines_reasons.specs.Rooms.{longest_because, longest_days, longe
 use amounts::TENTHS;
 use farm::{Herd, Label};
 use line_parts::labels;
-use reasons::{Reason, Why, YardReason};
+use reasons::{Reason, Why};
 
 // A reason's record, or its sentence.
-#[derive(Clone, Copy)]
+#[derive(Clone, Copy, Debug, PartialEq, Eq)]
 pub enum Wording {
     Record,
     Sentence,
@@ -97,9 +97,8 @@ fn put_record(out: &mut [u8], at: usize, label: Label, w: Why) -> usize
     ensures { Wrote out.old at (why_record (text label) w) out.new result
         × (result ≤ at + longest_line) }
 {
-    let reason = w.reason;
     let a = labels::put_label(out, at, label);
-    let b = put_reason(out, a, reason);
+    let b = put_reason(out, a, w.reason);
     put_numbers(out, b, w.days, w.share)
 }
 
@@ -118,9 +117,8 @@ fn put_shares(out: &mut [u8], at: usize, w: Why) -> usize
     requires { at + longest_shares ≤ length out.old }
     ensures { Wrote out.old at (shares_words w) out.new result × (result ≤ at + longest_shares) }
 {
-    let reason = w.reason;
     let a = put_tenths(out, at, w.share);
-    let b = put_because(out, a, reason);
+    let b = put_because(out, a, w.reason);
     let c = put_tenths(out, b, w.chosen);
     base::put(out, c, b".\r\n")
 }
@@ -147,14 +145,14 @@ fn put_why(out: &mut [u8], at: usize, label: Label, w: Why, wording: Wording) ->
 }
 
 // Nothing of a herd without a yard.
-fn put_told(out: &mut [u8], at: usize, label: Label, told: YardReason, wording: Wording) -> usize
+fn put_told(out: &mut [u8], at: usize, label: Label, told: Option<Why>, wording: Wording) -> usize
     requires { at + longest_line ≤ length out.old }
     ensures { Wrote out.old at (told_text wording (text label) told) out.new result
         × (result ≤ at + longest_line) }
 {
     match told {
-        YardReason::Because(w) => put_why(out, at, label, w, wording),
-        YardReason::NoYard => at,
+        Some(w) => put_why(out, at, label, w, wording),
+        None => at,
     }
 }
 

@@ -15,9 +15,7 @@ pub fn put_answer(out: &mut [u8], decided: Decided, totals: Totals) -> usize
     ensures { Wrote out.old 0 (step_lines decided totals) out.new result }
 {
     match decided {
-        Decided::Done => listing::put_total_lines(out, 0, totals),
-        Decided::Refused(refusal) => {
-            refusal_line::put_refusal(out, books::numbers::number_of(refusal), 0)
-        }
+        Ok(()) => listing::put_total_lines(out, 0, totals),
+        Err(refusal) => refusal_line::put_refusal(out, books::numbers::number_of(refusal), 0),
     }
 }

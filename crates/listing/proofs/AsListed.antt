@@ -92,7 +92,8 @@ as-listed label Pigs f = numbered_is label (bytes (path_of Pigs)) herd_entries f
 as-listed label DairyCow f =
     numbered_is label (bytes (path_of DairyCow)) herd_entries f.grams (map number (lines_of DairyCow)) tt
 
-pub herd-is : (l : Label) (k : Kind) (f : Figures) {owner lines : List ℕ} → owner ≡ owner_of (text l) (bytes (path_of k))
+pub herd-is : (l : Label) (k : Kind) (f : Figures) {owner lines : List ℕ}
+    → owner ≡ owner_of (text l) (bytes (path_of k))
     → lines ≡ map number (lines_of k) → numbered owner herd_table herd_starts f.grams lines ≡ herd_listing l k f
 herd-is l k f d e = rw (d, e) (as-listed (text l) k f)
 

@@ -239,7 +239,8 @@ total_lines =
 
 pub totals-listed : totals_listing (totals_of (pig_figures ∷ cattle_figures ∷ dairy_figures ∷ deer_figures ∷ []))
     ≡ each bytes total_lines
-unfolding totals_listing line_of label_field has_comma kilograms_of sign thousandths_of whole_of width totals_of by_number
+unfolding totals_listing line_of label_field has_comma kilograms_of sign thousandths_of whole_of width totals_of
+    by_number
     farm_total
 totals-listed = refl
 

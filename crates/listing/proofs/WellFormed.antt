@@ -73,7 +73,8 @@ pub listing-reads : (l : Label) (k : Kind) (f : Figures) → label_ok l ≡ true
     → RecordsOf 4 (herd_records l k f) (herd_listing l k f)
 unfolding herd_lines
 listing-reads l k f ok =
-    lines (λ (n : String). fields_of (text l) (module_of k n) (bytes n) (figure n f)) (herd_line (text l) k f) plain_name
+    lines (λ (n : String). fields_of (text l) (module_of k n) (bytes n) (figure n f))
+    (herd_line (text l) k f) plain_name
     (λ n e. let p = both_true (all_past (bytes (section_of n))) (all_past (bytes n)) e in
     line (text l) (module_of k n) (bytes n) (figure n f) (label-field (text l) (good-bytes l ok))
     (plain-append (plain-append (plain-path k) (past-plain (bytes "::") refl)) (past-plain _ p.0))

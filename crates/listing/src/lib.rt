@@ -21,20 +21,15 @@ pub fn put_herd_lines(out: &mut [u8], at: usize, label: Label, kind: Kind, f: Fi
 {
     let mut in_owner = [0u8; owners::OWNER_MOST];
     let n = owners::put_owner(&mut in_owner, label, kind);
-    let owner = base::part_of(&in_owner, 0, n);
     let k = lists::list_of(kind);
-    let from = texts::LINE_STARTS[k];
-    let to = texts::LINE_STARTS[k + 1];
-    let listed = texts::LINES;
-    let grams = f.grams;
     listing_lines::put_lines(
         out,
         at,
-        owner,
+        base::part_of(&in_owner, 0, n),
         &texts::MIDDLES,
         &texts::STARTS,
-        &grams,
-        &listed[from..to],
+        &f.grams,
+        &texts::LINES[texts::LINE_STARTS[k]..texts::LINE_STARTS[k + 1]],
     )
 }
 
@@ -43,14 +38,13 @@ pub fn put_total_lines(out: &mut [u8], at: usize, t: Totals) -> usize
     requires { at + length (totals_listing t) ≤ length out.old }
     ensures { Wrote out.old at (totals_listing t) out.new result }
 {
-    let grams = t.grams;
     listing_lines::put_lines(
         out,
         at,
         &texts::TOTAL_OWNER,
         &texts::TOTAL_MIDDLES,
         &texts::TOTAL_STARTS,
-        &grams,
+        &t.grams,
         &texts::TOTAL_LINES,
     )
 }

@@ -9,8 +9,7 @@ pub fn list_of(kind: Kind) -> usize
 {
     match kind {
         Kind::Roughage => 0,
-        Kind::Cattle => 1,
+        Kind::Cattle | Kind::DairyCow => 1,
         Kind::Pigs => 2,
-        Kind::DairyCow => 1,
     }
 }

@@ -16,4 +16,5 @@ put_together owner middle grams = owner ++ middle ++ kilograms_of grams ++ bytes
 -- the lines of these numbers; a middle stands in the table from its start to the next
 unfoldable pub numbered : List ℕ → List ℕ → List ℕ → List ℤ → List ℕ → List ℕ
 numbered owner table from grams lines =
-    each (λ (n : ℕ). put_together owner (part table (get_or from n 0) (get_or from (n + 1) 0)) (get_or grams n (pos 0))) lines
+    each (λ (n : ℕ). put_together owner (part table (get_or from n 0) (get_or from (n + 1) 0))
+    (get_or grams n (pos 0))) lines

@@ -38,13 +38,14 @@ pub fn put_lines(
         lines.now) out.new result }
 {
     let mut next = at;
-    let mut k = 0;
-    while k < lines.len() {
-        let n = lines[k];
-        let from = starts[n];
-        let to = starts[n + 1];
-        next = put_line(out, next, owner, &middles[from..to], grams[n]);
-        k += 1;
+    for &n in lines {
+        next = put_line(
+            out,
+            next,
+            owner,
+            &middles[starts[n]..starts[n + 1]],
+            grams[n],
+        );
     }
     next
 }

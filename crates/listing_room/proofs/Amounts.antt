@@ -45,7 +45,8 @@ data Shorts : List ℕ → List ℤ → Type 0 where
   next : {w : ℕ} {ws : List ℕ} {z : ℤ} {g : List ℤ} → length (kilograms_of z) ≤ w → Shorts ws g
       → Shorts (w ∷ ws) (z ∷ g)
 
-short-at : {ws : List ℕ} {g : List ℤ} → Shorts ws g → (n : ℕ) → length (kilograms_of (grams_at g n)) ≤ get_or ws n nothing
+short-at : {ws : List ℕ} {g : List ℤ} → Shorts ws g → (n : ℕ)
+    → length (kilograms_of (grams_at g n)) ≤ get_or ws n nothing
 unfolding kilograms_of sign thousandths_of whole_of width
 short-at end n = leb→le _ _ tt
 short-at (next h s) zero = h

@@ -124,6 +124,8 @@ pigs-lacking p housed.DeepLitter e =
 pub lacking : (k : Kind) (h : Herd) → Lacking k (figures_in cutting (typed_as k h))
 lacking kind.Roughage h =
     record { names = no_n2; lacks = Lacks.roughage; has-nothing = record { is-blank = rw mul-zero } }
-lacking kind.Cattle h = record { names = no_n2; lacks = Lacks.cattle; has-nothing = no_n2_lem (cattle_of OtherCattle h) }
-lacking kind.DairyCow h = record { names = no_n2; lacks = Lacks.dairy_cows_lem; has-nothing = no_n2_lem (cattle_of DairyCow h) }
+lacking kind.Cattle h =
+    record { names = no_n2; lacks = Lacks.cattle; has-nothing = no_n2_lem (cattle_of OtherCattle h) }
+lacking kind.DairyCow h =
+    record { names = no_n2; lacks = Lacks.dairy_cows_lem; has-nothing = no_n2_lem (cattle_of DairyCow h) }
 lacking kind.Pigs h = pigs-lacking (pigs_of h) (pigs_of h).housing_type refl

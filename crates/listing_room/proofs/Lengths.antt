@@ -71,7 +71,8 @@ module _ (label : List ℕ) (k : Kind) (f : Figures) (h : length label ≤ longe
   pub herd-short : {without : List String} → Lacks k without → Short without f.grams
       → length (herd_lines label k f) ≤ herd_room
   unfolding herd_lines
-  herd-short {without} l s = le_trans (each_fits (herd_line label k f) (line_room without k) fits (lines_of k)) (rooms l)
+  herd-short {without} l s =
+      le_trans (each_fits (herd_line label k f) (line_room without k) fits (lines_of k)) (rooms l)
     where
       fits : (n : String) → length (herd_line label k f n) ≤ line_room without k n
       fits n =

@@ -22,9 +22,9 @@ use Rattle.inputs.specs.declared.Kind.{Kind}
 use Rattle.kinds.specs.Sound.{Sound}
 use Rattle.farm.specs.declared.Herd.{Herd}
 use Rattle.farm.specs.declared.Farm.{Farm}
-use Rattle.farm.specs.declared.Checked.TheVariants.{Accepted}
 use Rattle.farm.specs.Limits.{herds_most}
 use Rattle.farm.specs.Labels.{text}
+use Rattle.farm.specs.Answers.{Accepted}
 use Rattle.checks.specs.Checks.{check_herd, check_farm, herds_of}
 use Rattle.checks.proofs.Accepts.{accepted-herd, farm-count, farm-each}
 use Rattle.typed_inputs.specs.Typed.{typed_as, typed_of}

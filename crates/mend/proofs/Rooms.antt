@@ -1,5 +1,6 @@
 -- From the counts to the call's answer: how long the mended file and the list are, and what is left in both slices.
 -- Assumes nothing.
+use Rattle.std.specs.Prelude.{Ok}
 use Prim.Native.Nat.{ℕ, ◌+◌, ◌-◌, ◌*◌, ◌<◌, ◌≤◌}
 use mathlib.Core.Path.{◌≡◌, sym, ap, ap₂, ◌∙◌}
 use mathlib.Core.Bool.{Bool, true, false, and-false}
@@ -11,8 +12,8 @@ use borrow.Author.Tests.{le-leb, lt-leb}
 use Rattle.base.specs.Pick.{pick}
 use Rattle.base.specs.Wrote.{Wrote}
 use Rattle.base.proofs.Writes.{wrote-append, wrote_in_front, wrote-keeps-length}
+use Rattle.base.specs.Refused.{refuse}
 use Rattle.farm.specs.declared.Refusal.TheVariants.{BufferTooShort}
-use Rattle.mend.specs.declared.Answer.TheVariants.{Mended, Refused}
 use Rattle.spreadsheet.specs.Faults.{marked}
 use Rattle.spreadsheet.specs.Mended.{entries, mended_from, changes_from, text_start, mark_change, mended_of, changes_of}
 use Rattle.mend.specs.Answer.{room, over, Mends}
@@ -64,16 +65,16 @@ module _ (s : List ℕ) (m : Bool) (em : m ≡ marked s) (f : ℕ) (ef : f ≡ t
       module _ (out list : List ℕ) where
         -- ---- how it ends
 
-        no_room : room s out list ≡ false → Mends s out list out list (Refused BufferTooShort 0)
+        no_room : room s out list ≡ false → Mends s out list out list (refuse BufferTooShort 0)
         no_room e = record { file = rw e; changes = rw e; answer = rw e }
 
-        pub out-short : length out < length s - f + n → Mends s out list out list (Refused BufferTooShort 0)
+        pub out-short : length out < length s - f + n → Mends s out list out list (refuse BufferTooShort 0)
         out-short h =
             let e : leb (length (mended_of s)) (length out)
             ≡ false = lt-leb (length (mended_of s)) (length out) (omega (arith, mended_long)) in
             no_room (rw e)
 
-        pub list-short : length list < 2 * (k + n) → Mends s out list out list (Refused BufferTooShort 0)
+        pub list-short : length list < 2 * (k + n) → Mends s out list out list (refuse BufferTooShort 0)
         list-short h =
             let e : leb (length (entries (changes_of s))) (length list)
             ≡ false = lt-leb (length (entries (changes_of s))) (length list) (omega (arith, list-long)) in
@@ -83,7 +84,7 @@ module _ (s : List ℕ) (m : Bool) (em : m ≡ marked s) (f : ℕ) (ef : f ≡ t
             → Wrote out 0 (mended_from (take f s) (drop f s)) new-out a → (mid : List ℕ) (at : ℕ)
             → Wrote list 0 (entries (mark_change m)) mid at → (new-list : List ℕ) (b : ℕ)
             → Wrote mid at (entries (changes_from (take f s) (drop f s))) new-list b
-            → Mends s out list new-out new-list (Mended (length s - f + n) (k + n))
+            → Mends s out list new-out new-list (Ok (length s - f + n, k + n))
         all-written h h2 new-out a w mid at w1 new-list b w2 =
             let e1 : leb (length (mended_of s)) (length out)
             ≡ true = le-leb (length (mended_of s)) (length out) (omega (arith, mended_long)) in
@@ -94,7 +95,7 @@ module _ (s : List ℕ) (m : Bool) (em : m ≡ marked s) (f : ℕ) (ef : f ≡ t
               changes = rw (e1, e2)
                   (wrote_in_front (wrote-append w1 w2) (omega (arith, list-long, ap length list-is))
                   ∙ ap (λ (l : List ℕ). over l list) list-is);
-              answer = rw (e1, e2) (ap₂ Mended mended_long (change_many s m em f ef n en k ek));
+              answer = rw (e1, e2) (ap₂ (λ (a b : ℕ). Ok (a, b)) mended_long (change_many s m em f ef n en k ek));
             }
 
 pub ruleset mend_steps = (

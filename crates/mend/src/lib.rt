@@ -8,7 +8,8 @@
 
 ghost use Rattle.mend.specs.Answer.{Mends};
 
-use farm::Refusal;
+use base::refusals::Refused;
+use farm::{Answer, Refusal};
 
 // How many changes mending makes.
 pub use spreadsheet::change_count;
@@ -16,16 +17,9 @@ pub use spreadsheet::change_count;
 // So many numbers a change has in the list: its kind, and its place in the old file.
 pub const ENTRY: usize = 2;
 
-// What the call says: the mended file's length and the number of changes, or the refusal and its record.
-#[derive(Clone, Copy)]
-pub enum Answer {
-    Mended(usize, usize),
-    Refused(Refusal, usize),
-}
-
 // The mended file and the list of changes, kind and place one after the other; or 13 with record 0 where either lent
 // slice has no room, and both as they were.
-pub fn mend(s: &[u8], out: &mut [u8], list: &mut [usize]) -> Answer
+pub fn mend(s: &[u8], out: &mut [u8], list: &mut [usize]) -> Answer<(usize, usize)>
     ensures { Mends s.now out.old list.old out.new list.new
         result }
 {
@@ -34,14 +28,11 @@ pub fn mend(s: &[u8], out: &mut [u8], list: &mut [usize]) -> Answer
     let crs = spreadsheet::bare_count(s, from);
     let length = s.len() - from + crs;
     let changes = spreadsheet::as_count(marked) + crs;
-    if out.len() < length {
-        return Answer::Refused(Refusal::BufferTooShort, 0);
-    }
-    if list.len() < ENTRY * changes {
-        return Answer::Refused(Refusal::BufferTooShort, 0);
+    if out.len() < length || list.len() < ENTRY * changes {
+        return Err(Refused(Refusal::BufferTooShort, 0));
     }
     mend_writes::put_text(s, from, out);
     let at = mend_writes::put_mark(list, marked);
     mend_writes::put_changes(s, from, list, at);
-    Answer::Mended(length, changes)
+    Ok((length, changes))
 }

@@ -7,9 +7,8 @@ pub mod lines; // the list as text
 ghost use Rattle.std.specs.Prelude.{◌*◌, ◌≤◌, length};
 ghost use Rattle.mend_print.specs.Lines.{round_most};
 
-use mend::Answer;
+use streams::telling;
 use streams::telling::Tell;
-use streams::{Outcome, telling};
 
 // The longest file that is mended here.
 pub const FILE_MOST: usize = 262144;
@@ -27,65 +26,42 @@ const ROUND: usize = 2048;
 
 const ROUND_ROOM: usize = ROUND * lines::NUMBER_ROOM;
 
-#[derive(Clone, Copy)]
-pub enum Input {
-    File(usize),
-    Failed,
-}
-
-// The file, and its length; where it cannot be read or is too long, that is said.
-pub fn read_file(rt: &(impl std::io::Input + Tell), file: &mut [u8]) -> Input {
+// The file, and its length; where it cannot be read or is too long, that is said, and there is none.
+pub fn read_file(rt: &(impl Input + Tell), file: &mut [u8]) -> Option<usize> {
     match streams::read_all(rt, file) {
-        Outcome::Whole(n) => {
-            if FILE_MOST < n {
-                rt.tell(b"urvendlo: the file has more than 262,144 bytes\n");
-                return Input::Failed;
-            }
-            Input::File(n)
+        Ok(n) if n <= FILE_MOST => Some(n),
+        Ok(_) => {
+            rt.tell(b"urvendlo: the file has more than 262,144 bytes\n");
+            None
         }
-        Outcome::Broken(error) => {
+        Err(error) => {
             telling::fail(rt, b"urvendlo: the input cannot be read", error);
-            Input::Failed
+            None
         }
     }
 }
 
 // A text on standard output; was all of it written?
 pub fn print(rt: &(impl Print + Tell), text: &[u8]) -> bool {
-    match streams::write_all(rt, text) {
-        Outcome::Whole(_) => true,
-        Outcome::Broken(error) => {
-            telling::fail(rt, b"urvendlo: the output cannot be written", error);
-            false
-        }
+    let printed = streams::write_all(rt, text);
+    if let Err(error) = printed {
+        telling::fail(rt, b"urvendlo: the output cannot be written", error);
     }
-}
-
-// Room for the text of so many numbers. So large an array comes from a function: where it is lent as it is made, every
-// proof counts its elements.
-fn round_room() -> [u8; ROUND_ROOM] {
-    [0u8; ROUND_ROOM]
+    printed.is_ok()
 }
 
 // Some changes, kind and place one after the other; were all of them written?
 fn print_some(rt: &(impl Print + Tell), list: &[usize]) -> bool
     requires { length list.now ≤ round_most }
 {
-    let mut text = round_room();
+    let mut text: [u8; ROUND_ROOM] = base::room();
     let n = lines::put_lines(&mut text, list);
     print(rt, base::part_of(&text, 0, n))
 }
 
 // A list of changes; was all of it written?
 pub fn print_list(rt: &(impl Print + Tell), list: &[usize]) -> bool {
-    let mut from = 0;
-    while ROUND < list.len() - from {
-        if !print_some(rt, &list[from..from + ROUND]) {
-            return false;
-        }
-        from += ROUND;
-    }
-    print_some(rt, &list[from..])
+    list.chunks(ROUND).all(|some| print_some(rt, some))
 }
 
 // The mended file, by way of these slices; was all of it written?
@@ -96,8 +72,8 @@ pub fn print_mended_by(
     list: &mut [usize],
 ) -> bool {
     match mend::mend(s, out, list) {
-        Answer::Mended(length, _) => print(rt, base::part_of(out, 0, length)),
-        Answer::Refused(_, _) => false,
+        Ok((length, _)) => print(rt, base::part_of(out, 0, length)),
+        Err(_) => false,
     }
 }
 
@@ -106,8 +82,8 @@ fn changes_listed(s: &[u8], out: &mut [u8], list: &mut [usize]) -> usize
     ensures { 2 * result ≤ length list.new }
 {
     match mend::mend(s, out, list) {
-        Answer::Mended(_, changes) => changes,
-        Answer::Refused(_, _) => 0,
+        Ok((_, changes)) => changes,
+        Err(_) => 0,
     }
 }
 
@@ -122,25 +98,22 @@ pub fn print_changes_by(
     print_list(rt, &list[..mend::ENTRY * changes])
 }
 
-// Room for the mended file, and for the list of its changes.
-fn mended_room() -> [u8; MENDED_MOST] {
-    [0u8; MENDED_MOST]
-}
-
+// Room for the list of the changes. So large an array comes from a function: where it is lent as it is made, every
+// proof counts its elements.
 fn list_room() -> [usize; LIST_MOST] {
     [0usize; LIST_MOST]
 }
 
 // The mended file, of no more than the longest; was all of it written?
 pub fn print_mended(rt: &(impl Print + Tell), s: &[u8]) -> bool {
-    let mut out = mended_room();
+    let mut out: [u8; MENDED_MOST] = base::room();
     let mut list = list_room();
     print_mended_by(rt, s, &mut out, &mut list)
 }
 
 // The list of changes of such a file; was all of it written?
 pub fn print_changes(rt: &(impl Print + Tell), s: &[u8]) -> bool {
-    let mut out = mended_room();
+    let mut out: [u8; MENDED_MOST] = base::room();
     let mut list = list_room();
     print_changes_by(rt, s, &mut out, &mut list)
 }

@@ -7,15 +7,16 @@ ghost use Rattle.mend_print.specs.Lines.{lines_of, number_room};
 pub const NUMBER_ROOM: usize = decimal::DIGITS_MOST + 2;
 
 // Changes, kind and place one after the other.
+#[tactic(auto, using(crate::proofs::LineSteps::line_steps))]
 pub fn put_lines(out: &mut [u8], list: &[usize]) -> usize
     requires { length list.now * number_room ≤ length out.old }
     ensures { Wrote out.old 0 (lines_of list.now) out.new result }
 {
     let mut at = 0;
-    let mut i = 0;
-    while i + 1 < list.len() {
-        at = decimal::put_pair(out, at, list[i] as u64, list[i + 1] as u64);
-        i += 2;
+    let mut rest = list;
+    while let [kind, place, behind @ ..] = rest {
+        at = decimal::put_pair(out, at, *kind as u64, *place as u64);
+        rest = behind;
     }
     at
 }

@@ -1,4 +1,4 @@
--- One byte or one change put into its slice, where it is bare or not: what is written, and that there is room.
+-- One change put into the list, where there is one: what is written, and that there is room.
 -- Assumes nothing.
 use Prim.Native.Nat.{ℕ, ◌+◌, ◌≤◌}
 use mathlib.Core.Path.{◌≡◌, refl}
@@ -8,10 +8,7 @@ use native.Mathlib.Numerals.{add-one}
 use native.Mathlib.Omega.{arith}
 use lib.ListN.{length, set}
 use Rattle.base.specs.Wrote.{Wrote}
-use Rattle.spreadsheet.specs.Mended.{entries, mended_byte, change_at, mark_change}
-
-one-put : (l : List ℕ) (at x : ℕ) → Wrote l at (x ∷ []) (set l at x) (at + 1)
-one-put l at x = record { bytes = refl; past = refl }
+use Rattle.spreadsheet.specs.Mended.{entries, change_at, mark_change}
 
 two-put : (l : List ℕ) (at x y : ℕ) → Wrote l at (x ∷ y ∷ []) (set (set l at x) (at + 1) y) (at + 2)
 two-put l at x y = record { bytes = rw add-one; past = refl }
@@ -22,12 +19,6 @@ none-put l at = record { bytes = refl; past = omega arith }
 -- ---- what is written
 
 module _ (l : List ℕ) (at b : ℕ) (t : Bool) where
-  pub byte_with_cr : t ≡ true → Wrote l at (mended_byte t b) (set (set l at 13) (at + 1) b) (at + 2)
-  byte_with_cr e = rw e (two-put l at 13 b)
-
-  pub byte-alone : t ≡ false → Wrote l at (mended_byte t b) (set l at b) (at + 1)
-  byte-alone e = rw e (one-put l at b)
-
   pub change_put : t ≡ true → Wrote l at (entries (change_at t b)) (set (set l at 2) (at + 1) b) (at + 2)
   change_put e = rw e (two-put l at 2 b)
 
@@ -41,17 +32,11 @@ module _ (l : List ℕ) (t : Bool) where
   pub no_mark : t ≡ false → Wrote l 0 (entries (mark_change t)) l 0
   no_mark e = rw e (none-put l 0)
 
-pub ruleset put_steps = (byte_with_cr, change_put, byte-alone, no_change, mark-put, no_mark)
+pub ruleset put_steps = (change_put, no_change, mark-put, no_mark)
 
 -- ---- the room that is asked for, in numbers
 
 module _ (n at b : ℕ) (t : Bool) where
-  pub pair_fits : t ≡ true → at + length (mended_byte t b) ≤ n → at + 2 ≤ n
-  pair_fits e h = rw e at h
-
-  pub byte_fits : t ≡ false → at + length (mended_byte t b) ≤ n → at + 1 ≤ n
-  byte_fits e h = rw e at h
-
   pub change_fits : t ≡ true → at + length (entries (change_at t b)) ≤ n → at + 2 ≤ n
   change_fits e h = rw e at h
 

@@ -19,12 +19,10 @@ fn put_mended(out: &mut [u8], at: usize, b: u8, bare: bool) -> usize
     ensures { Wrote out.old at (mended_byte bare b) out.new result }
 {
     if bare {
-        out[at] = b'\r';
-        out[at + 1] = b;
-        return at + 2;
+        base::put(out, at, &[b'\r', b])
+    } else {
+        base::put_byte(out, at, b)
     }
-    out[at] = b;
-    at + 1
 }
 
 // The mended text.
@@ -34,12 +32,9 @@ pub fn put_text(s: &[u8], from: usize, out: &mut [u8]) -> usize
 {
     let mut passed = Passed::nothing();
     let mut at = 0;
-    let mut i = from;
-    while i < s.len() {
-        let b = s[i];
-        at = put_mended(out, at, b, passed.bare(b));
-        passed = passed.with_byte(b);
-        i += 1;
+    for i in from..s.len() {
+        at = put_mended(out, at, s[i], passed.bare(s[i]));
+        passed = passed.with_byte(s[i]);
     }
     at
 }
@@ -78,12 +73,9 @@ pub fn put_changes(s: &[u8], from: usize, list: &mut [usize], start: usize) -> u
 {
     let mut passed = Passed::nothing();
     let mut at = start;
-    let mut i = from;
-    while i < s.len() {
-        let b = s[i];
-        at = put_change(list, at, i, passed.bare(b));
-        passed = passed.with_byte(b);
-        i += 1;
+    for i in from..s.len() {
+        at = put_change(list, at, i, passed.bare(s[i]));
+        passed = passed.with_byte(s[i]);
     }
     at
 }

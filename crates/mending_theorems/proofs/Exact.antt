@@ -8,7 +8,8 @@ use lib.ListN.{length, take, drop}
 use lib.Seq.{append_snoc}
 use Rattle.base.proofs.Clash.{clash}
 use Rattle.spreadsheet.specs.Faults.{lf, mark, marked, bare}
-use Rattle.spreadsheet.specs.Mended.{Change, kind_of, place_of, change_at, changes_from, text_start, mark_change, changes_of}
+use Rattle.spreadsheet.specs.Mended.{Change, kind_of, place_of, change_at, changes_from, text_start, mark_change}
+use Rattle.spreadsheet.specs.Mended.{changes_of}
 use Rattle.spreadsheet.specs.Mended.Change.{mark_dropped, cr_put}
 use Rattle.spreadsheet.proofs.Marks.{marked-take}
 use Rattle.mending_theorems.specs.Faultless.{Marked, BareAt, Lists, first, later, Rising, none, one, more}
@@ -147,7 +148,8 @@ pub rising : (s : List ℕ) → Rising (changes_of s)
 unfolding changes_of
 rising s = go (marked s) refl
   where
-    go : (m : Bool) → marked s ≡ m → Rising (mark_change m ++ changes_from (take (text_start m) s) (drop (text_start m) s))
+    go : (m : Bool) → marked s ≡ m
+        → Rising (mark_change m ++ changes_from (take (text_start m) s) (drop (text_start m) s))
     go true e =
         let f = changes-from mark (drop 3 s) in
         rw (marked-take s e) (put-before mark_dropped (omega arith) f (rising-from f))

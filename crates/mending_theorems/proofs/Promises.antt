@@ -1,4 +1,5 @@
 -- What is promised of mending (02, W6), for every file. Assumes nothing.
+use Rattle.std.specs.Prelude.{Ok, Err}
 use Prim.Native.Nat.{ℕ}
 use mathlib.Core.Path.{◌≡◌, refl, sym, ap, ◌∙◌}
 use mathlib.Core.Logic.{◌↔◌}
@@ -7,6 +8,7 @@ use mathlib.Core.List.{List, [], ◌∷◌, ◌++◌}
 use lib.ListN.{length, drop}
 use Rattle.base.specs.Pick.{pick}
 use Rattle.base.proofs.Clash.{clash}
+use Rattle.base.specs.Refused.{refuse}
 use Rattle.farm.specs.declared.Farm.{Farm}
 use Rattle.farm.specs.declared.Refusal.{Refusal}
 use Rattle.farm.specs.declared.Refusal.TheVariants.{BufferTooShort}
@@ -16,12 +18,10 @@ use Rattle.limits.specs.declared.Source.{Source}
 use Rattle.limits.specs.Limits.{limits_of}
 use Rattle.reader.specs.Files.{read_of, accepted}
 use Rattle.rules_theorems.proofs.Accepts.{accepts-exactly}
-use Rattle.mend.specs.declared.Answer.{Answer}
-use Rattle.mend.specs.declared.Answer.TheVariants.{Mended, Refused}
 use Rattle.spreadsheet.specs.Faults.{mark, marked}
 use Rattle.spreadsheet.specs.Mended.{Change, entries, text_start, mark_change, mended_of, changes_of}
 use Rattle.spreadsheet.specs.Mended.Change.{mark_dropped, cr_put}
-use Rattle.mend.specs.Answer.{room, over, Mends}
+use Rattle.mend.specs.Answer.{room, over, Mends, MendAnswer}
 use Rattle.spreadsheet.proofs.Marks.{marked-split}
 use Rattle.mending_theorems.specs.Undoing.{undone, made_from, made}
 use Rattle.mending_theorems.specs.Faultless.{Marked, TwiceMarked, BareAt, Faultless, Lists, first, Rising}
@@ -161,7 +161,8 @@ accepted-unchanged source s f e =
 -- ---- the call
 
 -- what the contract allows is one answer, and one content of both slices
-pub one_answer : {s out list o o' l l' : List ℕ} {r r' : Answer} → Mends s out list o l r → Mends s out list o' l' r'
+pub one_answer : {s out list o o' l l' : List ℕ} {r r' : MendAnswer} → Mends s out list o l r
+    → Mends s out list o' l' r'
     → (o ≡ o') × (l ≡ l') × (r ≡ r')
 one_answer a b = (a.file ∙ sym b.file, a.changes ∙ sym b.changes, a.answer ∙ sym b.answer)
 
@@ -173,22 +174,22 @@ pub record AsBefore (out list o l : List ℕ) (refusal : Refusal) (at_record : �
 
 -- a refusal is 13 with record 0, and nothing was written
 pub refusal-leaves : {s out list o l : List ℕ} {refusal : Refusal} {at_record : ℕ}
-    → Mends s out list o l (Refused refusal at_record)
+    → Mends s out list o l (refuse refusal at_record)
     → AsBefore out list o l refusal at_record
 refusal-leaves {s} {out} {list} {o} {l} {refusal} {at_record} m =
     go (room s out list) m.file m.changes m.answer
   where
-    of-refused : Answer → ℕ
-    of-refused (Mended a b) = 0
-    of-refused (Refused f a) = a
+    of-refused : MendAnswer → ℕ
+    of-refused (Ok (a, b)) = 0
+    of-refused (Err refused) = refused.1
 
-    of-refusal : Answer → ℕ
-    of-refusal (Mended a b) = 0
-    of-refusal (Refused f a) = number f
+    of-refusal : MendAnswer → ℕ
+    of-refusal (Ok (a, b)) = 0
+    of-refusal (Err refused) = number refused.0
 
     go : (t : Bool) → o ≡ pick t (over (mended_of s) out) out → l ≡ pick t (over (entries (changes_of s)) list) list
-        → Refused refusal at_record
-        ≡ pick t (Mended (length (mended_of s)) (length (changes_of s))) (Refused BufferTooShort 0)
+        → ◌≡◌ {A = MendAnswer} (refuse refusal at_record)
+        (pick t (Ok (length (mended_of s), length (changes_of s))) (refuse BufferTooShort 0))
         → AsBefore out list o l refusal at_record
     go true e f r = clash cc
     go false e f r = record { file = e; changes = f; gets_refusal = ap of-refusal r; none = ap of-refused r }

@@ -34,7 +34,8 @@ unfolding changes_of
 changes-all s = go (marked s) refl
   where
     go : (m : Bool) → marked s ≡ m
-        → mark_change m ++ changes_from (take (text_start m) s) (drop (text_start m) s) ≡ mark_change m ++ changes_from [] s
+        → mark_change m ++ changes_from (take (text_start m) s) (drop (text_start m) s)
+        ≡ mark_change m ++ changes_from [] s
     go true e =
         ap (λ l. mark_change true ++ l)
         (ap (λ (l : List ℕ). changes_from l (drop 3 s)) (marked-take s e) ∙ sym (changes-past (drop 3 s))

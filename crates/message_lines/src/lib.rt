@@ -2,6 +2,8 @@
 // a refusal in words. What has no room is left out; there is room for every line that is said.
 #![tactic(auto)]
 
+ghost use Rattle.std.specs.Prelude.{◌+◌, ◌≤◌, ◌↔◌, IsTrue, length};
+
 use limits::Source;
 use std::env::Env;
 
@@ -11,140 +13,153 @@ const LINE_MOST: usize = quoting::BYTE_MOST * asked::NAME_MOST + quoting::AROUND
 // The digits of the largest number.
 const DIGITS_MOST: usize = 20;
 
-pub fn room() -> [u8; LINE_MOST] {
-    [0u8; LINE_MOST]
-}
-
-// A text behind what stands in the line; the line as it is where it has no room.
-pub fn add(line: &mut [u8], at: usize, text: &[u8]) -> usize {
-    let most = line.len();
-    if most < text.len() {
-        return at;
-    }
-    if most - text.len() < at {
-        return at;
-    }
-    base::put(line, at, text)
-}
-
-pub fn add_number(line: &mut [u8], at: usize, n: u64) -> usize {
-    let mut digits = [0u8; DIGITS_MOST];
-    let k = decimal::put_whole(&mut digits, 0, n);
-    add(line, at, base::part_of(&digits, 0, k))
-}
-
-// A name as it is shown in messages.
-fn add_quoted(line: &mut [u8], at: usize, name: &[u8]) -> usize {
-    let most = line.len();
-    if asked::NAME_MOST < name.len() {
-        return at;
-    }
-    let needed = quoting::BYTE_MOST * name.len() + quoting::AROUND_MOST;
-    if most < needed {
-        return at;
-    }
-    if most - needed < at {
-        return at;
-    }
-    quoting::put_quoted(line, at, name)
-}
-
-// A word of the command line, as it is shown; nothing where there is none.
-fn add_word(rt: &impl Env, line: &mut [u8], at: usize, word: usize) -> usize {
-    if asked::is_past(rt, word) {
-        return at;
-    }
-    let mut given = [0u8; asked::NAME_MOST];
-    let n = asked::word_at(rt, word, &mut given);
-    add_quoted(line, at, &given[..n])
-}
-
-// A text and a word.
-pub fn add_both(rt: &impl Env, line: &mut [u8], at: usize, text: &[u8], word: usize) -> usize {
-    let next = add(line, at, text);
-    add_word(rt, line, next, word)
-}
-
-// The file's name, or what it is read from.
-pub fn add_name(rt: &impl Env, line: &mut [u8], at: usize, name: usize) -> usize {
-    if asked::is_past(rt, name) {
-        return add(line, at, b"standard input");
-    }
-    add_word(rt, line, at, name)
-}
-
-pub fn add_record(line: &mut [u8], at: usize, record: usize) -> usize {
-    if record == 0 {
-        return at;
-    }
-    let a = add(line, at, b"record ");
-    let b = add_number(line, a, record as u64);
-    add(line, b, b": ")
+// A line as it is put together.
+#[derive(Drop)]
+pub struct Line {
+    bytes: [u8; LINE_MOST],
+    length: usize,
 }
 
 // Where the words of a refusal stand, which name the limit that held.
 fn words_of(source: Source, number: usize) -> usize {
-    let cooperative = texts::COOPERATIVE_WORDS;
     if texts::REFUSALS < number {
         return 0;
     }
     match source {
         Source::StandardInput => number,
-        Source::Cooperative => cooperative[number],
+        Source::Cooperative => texts::COOPERATIVE_WORDS[number],
     }
 }
 
-fn add_words(line: &mut [u8], at: usize, i: usize) -> usize {
-    let words = texts::WORDS;
-    let starts = texts::WORDS_STARTS;
-    if texts::WORDS_LAST < i {
-        return at;
+impl Line {
+    // A line with nothing in it.
+    pub fn new() -> Line {
+        Line {
+            bytes: base::room(),
+            length: 0,
+        }
     }
-    add(line, at, base::part_of(&words, starts[i], starts[i + 1]))
-}
 
-// The refusal in words.
-pub fn add_refusal(line: &mut [u8], at: usize, source: Source, number: u64) -> usize {
-    let a = add_words(line, at, words_of(source, number as usize));
-    let b = add(line, a, b" (refusal ");
-    let c = add_number(line, b, number);
-    add(line, c, b")\n")
-}
-
-pub fn add_places(line: &mut [u8], at: usize, changes: usize) -> usize {
-    let a = add_number(line, at, changes as u64);
-    if changes == 1 {
-        return add(line, a, b" place");
+    // What stands in the line.
+    pub fn said(&self) -> &[u8] {
+        base::part_of(&self.bytes, 0, self.length)
     }
-    add(line, a, b" places")
-}
 
-pub fn add_source(rt: &impl Env, line: &mut [u8], at: usize, name: usize) -> usize {
-    if asked::is_past(rt, name) {
-        return add(line, at, b"< FILE");
+    // Is there room for so many bytes more?
+    fn has_room(&self, size: usize) -> bool
+        ensures { IsTrue result ↔ self.now.length + size ≤ length self.now.bytes }
+    {
+        self.length <= LINE_MOST && size <= LINE_MOST - self.length
     }
-    add_word(rt, line, at, name)
-}
 
-fn add_verdict(line: &mut [u8], at: usize, is_above: bool) -> usize {
-    if is_above {
-        return add(line, at, b"above ");
+    // A text behind what stands in the line; the line as it is where it has no room.
+    pub fn add(&mut self, text: &[u8]) {
+        if self.has_room(text.len()) {
+            self.length = base::put(&mut self.bytes, self.length, text);
+        }
     }
-    add(line, at, b"not above ")
-}
 
-// Is it above a line of so many grams?
-pub fn add_above(line: &mut [u8], at: usize, is_above: bool, grams: u64) -> usize {
-    let a = add_verdict(line, at, is_above);
-    let b = add_number(line, a, grams);
-    add(line, b, b" g of NH3-N a year: ")
-}
-
-// So many herds.
-pub fn add_herds(line: &mut [u8], at: usize, count: usize) -> usize {
-    let a = add_number(line, at, count as u64);
-    if count == 1 {
-        return add(line, a, b" herd");
+    pub fn add_number(&mut self, n: u64) {
+        let mut digits = [0u8; DIGITS_MOST];
+        let k = decimal::put_whole(&mut digits, 0, n);
+        self.add(base::part_of(&digits, 0, k));
     }
-    add(line, a, b" herds")
+
+    // A name as it is shown in messages.
+    fn add_quoted(&mut self, name: &[u8]) {
+        if name.len() <= asked::NAME_MOST
+            && self.has_room(quoting::BYTE_MOST * name.len() + quoting::AROUND_MOST)
+        {
+            self.length = quoting::put_quoted(&mut self.bytes, self.length, name);
+        }
+    }
+
+    // A word of the command line, as it is shown; nothing where there is none.
+    fn add_word(&mut self, rt: &impl Env, word: usize) {
+        if !asked::is_past(rt, word) {
+            let mut given = [0u8; asked::NAME_MOST];
+            let n = asked::word_at(rt, word, &mut given);
+            self.add_quoted(&given[..n]);
+        }
+    }
+
+    // A text and a word.
+    pub fn add_both(&mut self, rt: &impl Env, text: &[u8], word: usize) {
+        self.add(text);
+        self.add_word(rt, word);
+    }
+
+    // The word that names the file, or this text where there is none.
+    fn add_word_or(&mut self, rt: &impl Env, name: usize, text: &[u8]) {
+        if asked::is_past(rt, name) {
+            self.add(text);
+        } else {
+            self.add_word(rt, name);
+        }
+    }
+
+    // The file's name, or what it is read from.
+    pub fn add_name(&mut self, rt: &impl Env, name: usize) {
+        self.add_word_or(rt, name, b"standard input");
+    }
+
+    pub fn add_source(&mut self, rt: &impl Env, name: usize) {
+        self.add_word_or(rt, name, b"< FILE");
+    }
+
+    pub fn add_record(&mut self, record: usize) {
+        if record != 0 {
+            self.add(b"record ");
+            self.add_number(record as u64);
+            self.add(b": ");
+        }
+    }
+
+    fn add_words(&mut self, i: usize) {
+        if i <= texts::WORDS_LAST {
+            self.add(base::part_of(
+                &texts::WORDS,
+                texts::WORDS_STARTS[i],
+                texts::WORDS_STARTS[i + 1],
+            ));
+        }
+    }
+
+    // The refusal in words.
+    pub fn add_refusal(&mut self, source: Source, number: u64) {
+        self.add_words(words_of(source, number as usize));
+        self.add(b" (refusal ");
+        self.add_number(number);
+        self.add(b")\n");
+    }
+
+    pub fn add_places(&mut self, changes: usize) {
+        self.add_number(changes as u64);
+        if changes == 1 {
+            self.add(b" place");
+        } else {
+            self.add(b" places");
+        }
+    }
+
+    // Is it above a line of so many grams?
+    pub fn add_above(&mut self, is_above: bool, grams: u64) {
+        if is_above {
+            self.add(b"above ");
+        } else {
+            self.add(b"not above ");
+        }
+        self.add_number(grams);
+        self.add(b" g of NH3-N a year: ");
+    }
+
+    // So many herds.
+    pub fn add_herds(&mut self, count: usize) {
+        self.add_number(count as u64);
+        if count == 1 {
+            self.add(b" herd");
+        } else {
+            self.add(b" herds");
+        }
+    }
 }

@@ -1,21 +1,22 @@
 -- The steps of the answers, each in the form that a place of the code wants: an accepted record's figures, and the loop
 -- that adds up the figures of an accepted farm. Assumes nothing.
+use Rattle.std.specs.Prelude.{Err}
 use Prim.Native.Nat.{ℕ, ◌+◌, ◌*◌, ◌≤◌, ◌<◌}
 use mathlib.Core.Path.{◌≡◌, sym, ap, ◌∙◌}
 use mathlib.Core.List.{List, [], map}
 use native.Mathlib.Omega.{arith}
 use lib.ListN.{length, get_or, drop}
 use lib.IntN.{ℤ}
+use Rattle.base.specs.declared.refusals.Refused.{Refused}
 use Rattle.cut_division.specs.Total.{add_up}
 use Rattle.farm.specs.Limits.{herds_most}
 use Rattle.farm.specs.declared.Herd.{Herd}
 use Rattle.farm.specs.declared.Farm.{Farm}
 use Rattle.farm.specs.declared.Refusal.{Refusal}
-use Rattle.farm.specs.declared.Checked.{Checked}
-use Rattle.farm.specs.declared.Checked.TheVariants.{Accepted, Refused}
 use Rattle.checks.specs.Checks.{check_herd, check_farm, herds_of}
 use Rattle.checks.proofs.Accepts.{farm-count}
 use Rattle.farm.proofs.Left.{taken_at, taken-end}
+use Rattle.farm.specs.Answers.{Accepted, Checked}
 use Rattle.kinds.specs.declared.Inputs.{Inputs}
 use Rattle.kinds.specs.Sound.{Sound}
 use Rattle.notes.specs.declared.Notes.{Notes}
@@ -36,6 +37,7 @@ use Rattle.herd.specs.Herd.{figures_of}
 use Rattle.herd.proofs.Bounds.{most, figures-to}
 use Rattle.model.specs.Answers.{Added, herd_figures, herd_answer, farm_answer}
 use Rattle.model.proofs.Exact.{figures-exact, totals-exact, no-totals-exact}
+use Rattle.base.specs.Refused.{refuse}
 
 -- figures of which the grams are none
 no-grams : (f : Figures) → f.grams ≡ zeros → f ≡ no_figures
@@ -60,11 +62,11 @@ module _ (h : Herd) (k : Checked) (q : k ≡ check_herd h) where
   unfolding herd_answer
   is-herd-answer i f kg n c t e ef ek en ec = rw (← q, t, ek, ef, en, ec, e)
 
-  pub is-herd-refusal : (refusal : Refusal) (at_record : ℕ) (f : Figures) (kg : Kilograms) (n : Notes) (c : Cuts)
-      → k ≡ Refused refusal at_record → f.grams ≡ zeros → kg ≡ kilograms_of f → n ≡ no_notes → c ≡ no_cuts
-      → record { checked = Refused refusal at_record; figures = f; kilograms = kg; notes = n; cuts = c } ≡ herd_answer h
+  pub is-herd-refusal : (why : Refused Refusal) (f : Figures) (kg : Kilograms) (n : Notes) (c : Cuts)
+      → k ≡ Err why → f.grams ≡ zeros → kg ≡ kilograms_of f → n ≡ no_notes → c ≡ no_cuts
+      → record { checked = Err why; figures = f; kilograms = kg; notes = n; cuts = c } ≡ herd_answer h
   unfolding herd_answer
-  is-herd-refusal refusal at_record f kg n c t ef ek en ec = rw (← q, t, ek, no-grams f ef, en, ec)
+  is-herd-refusal why f kg n c t ef ek en ec = rw (← q, t, ek, no-grams f ef, en, ec)
 
 pub zeros-exact : (f : Figures) → f.grams ≡ zeros → GramsTo exact_most f.grams
 zeros-exact f e = rw e (zeros-to exact_most)
@@ -149,12 +151,12 @@ module _ (f : Farm) (k : Checked) (q : k ≡ check_farm f) where
   unfolding farm_answer
   is-farm-answer sum t kg e a et ek = rw (← q, e, ek, added-totals sum t a et)
 
-  pub is-farm-refusal : (refusal : Refusal) (at_record : ℕ) (sum : Figures) (t : Totals) (kg : TotalKilograms)
-      → k ≡ Refused refusal at_record → sum.grams ≡ zeros → t.grams ≡ total_grams sum.grams
+  pub is-farm-refusal : (why : Refused Refusal) (sum : Figures) (t : Totals) (kg : TotalKilograms)
+      → k ≡ Err why → sum.grams ≡ zeros → t.grams ≡ total_grams sum.grams
       → kg ≡ total_kilograms_of t
-      → record { checked = Refused refusal at_record; totals = t; kilograms = kg } ≡ farm_answer f
+      → record { checked = Err why; totals = t; kilograms = kg } ≡ farm_answer f
   unfolding farm_answer
-  is-farm-refusal refusal at_record sum t kg e es et ek = rw (← q, e, ek, no-totals sum t es et)
+  is-farm-refusal why sum t kg e es et ek = rw (← q, e, ek, no-totals sum t es et)
 
 pub added-small : (f : Farm) (sum : Figures) → Added f sum → GramsTo figure_most sum.grams
 added-small f sum a = a.small

@@ -1,5 +1,6 @@
 -- The slots behind the inputs of a herd's kind say nothing: records that differ in them alone get one answer. Assumes
 -- nothing.
+use Rattle.std.specs.Prelude.{Err}
 use Prim.Native.Nat.{ℕ, ◌<◌}
 use mathlib.Core.Path.{◌≡◌, refl, sym, ap, ◌∙◌}
 use mathlib.Core.Bool.{Bool, not, ◌||◌}
@@ -12,9 +13,8 @@ use Rattle.inputs.specs.declared.Kind.TheVariants as kinds
 use Rattle.inputs.specs.Inputs.{Row, rows_of, count_of}
 use Rattle.farm.specs.declared.Slot.{Slot}
 use Rattle.farm.specs.declared.Herd.{Herd}
-use Rattle.farm.specs.declared.Checked.{Checked}
-use Rattle.farm.specs.declared.Checked.TheVariants.{Accepted, Refused}
 use Rattle.farm.specs.Herds.{is_missing, no_slot}
+use Rattle.farm.specs.Answers.{Accepted, Checked}
 use Rattle.fits.specs.Fits.{fits, unfit_one, unfit}
 use Rattle.herd_tests.specs.Tests.{lacks_one, lacks}
 use Rattle.checks.specs.Checks.{check_herd}
@@ -119,7 +119,7 @@ module _ (h g : Herd) (same : SameInFront h g) where
 
   answers : (c : Checked) → answer_herd c g ≡ answer_herd c h
   answers Accepted = rw same_inputs
-  answers (Refused refusal at) = refl
+  answers (Err refused) = refl
 
   pub slots-behind : herd_answer g ≡ herd_answer h
   unfolding herd_answer

@@ -7,10 +7,11 @@ use mathlib.Core.Path.{◌≡◌}
 use mathlib.Core.Logic.{◌↔◌}
 use lib.IntN.{pos}
 use Rattle.base.specs.Each.{Each}
+use Rattle.base.specs.Refused.{refuse}
 use Rattle.amounts.specs.Collecting.{Division, ◌is_one_of◌}
 use Rattle.farm.specs.declared.Herd.{Herd}
 use Rattle.farm.specs.declared.Refusal.{Refusal}
-use Rattle.farm.specs.declared.Checked.TheVariants.{Accepted, Refused}
+use Rattle.farm.specs.Answers.{Accepted}
 use Rattle.checks.specs.Checks.{check_herd}
 use Rattle.typed_inputs.specs.Typed.{typed_of}
 use Rattle.outputs.specs.Grams.{figure}
@@ -26,7 +27,8 @@ use Rattle.model.specs.Answers.{herd_answer}
 
 module _ (h : Herd) (accepted : check_herd h ≡ Accepted) where
   -- quotient times divisor plus what was cut off is the dividend
-  pub herd-cuts-add-up : (t : String) → 0 < divisor_of t (herd_answer h).cuts → AddsUp (typed_of h) (herd_answer h).cuts t
+  pub herd-cuts-add-up : (t : String) → 0 < divisor_of t (herd_answer h).cuts
+      → AddsUp (typed_of h) (herd_answer h).cuts t
   unfolding herd_answer
   herd-cuts-add-up t = rw accepted (cuts-add-up (typed_of h) t)
 
@@ -58,7 +60,7 @@ module _ (h : Herd) (accepted : check_herd h ≡ Accepted) where
   herd-cuts_in_units = rw accepted (cuts_in_units_lem (typed_of h))
 
 -- a refused herd has none
-pub refused-no-cuts : (h : Herd) (refusal : Refusal) (n : ℕ) → check_herd h ≡ Refused refusal n
+pub refused-no-cuts : (h : Herd) (refusal : Refusal) (n : ℕ) → check_herd h ≡ refuse refusal n
     → (herd_answer h).cuts ≡ no_cuts
 unfolding herd_answer
 refused-no-cuts h refusal n e = rw e

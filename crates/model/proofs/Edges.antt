@@ -12,7 +12,8 @@ use Rattle.herd.specs.Herd.{figures_of}
 use Rattle.model.specs.Edges.{Edge, Holds, table}
 
 pub edges : Each Holds table
-unfolding figures_of notes_of standard_of days_with_grazing_and_yard share_lowered share_excretion_with_grazing yard_time
+unfolding figures_of notes_of standard_of days_with_grazing_and_yard share_lowered share_excretion_with_grazing
+    yard_time
     outdoor_grazing_time roughage_grazing_time k_of within_day k_at nearest growth_num growth_den exp_num exp_den
     by_number farm_total totals_of
 edges = each_same (λ (e : Edge). e.given) (λ (e : Edge). e.said) table refl

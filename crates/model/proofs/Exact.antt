@@ -9,7 +9,7 @@ use lib.ListN.{length, length-take, length-map}
 use Rattle.base.specs.Each.{Each, none, more}
 use Rattle.farm.specs.declared.Herd.{Herd}
 use Rattle.farm.specs.declared.Farm.{Farm}
-use Rattle.farm.specs.declared.Checked.TheVariants.{Accepted}
+use Rattle.farm.specs.Answers.{Accepted}
 use Rattle.checks.specs.Checks.{check_herd, check_farm, herds_of}
 use Rattle.checks.proofs.Accepts.{farm-count, farm-each}
 use Rattle.kinds.specs.declared.Inputs.{Inputs}

@@ -18,7 +18,7 @@ use Rattle.cut_division.specs.Total.{signed_total}
 use Rattle.inputs.specs.declared.Kind.TheVariants as kinds
 use Rattle.farm.specs.declared.Herd.{Herd}
 use Rattle.farm.specs.declared.Farm.{Farm}
-use Rattle.farm.specs.declared.Checked.TheVariants.{Accepted}
+use Rattle.farm.specs.Answers.{Accepted}
 use Rattle.checks.specs.Checks.{check_herd, check_farm, herds_of}
 use Rattle.checks.proofs.Accepts.{farm-each}
 use Rattle.amounts.specs.Arithmetic.{cutting}
@@ -130,7 +130,8 @@ made-keeps (of-roughage r e s m) =
 made-keeps (of-outdoor r o e hr s m) =
     let n = e.n_excretion in
     let tan = e.tan_excretion in
-    keeps-from (outdoor_on cutting r o e) (omega (arith, outdoor_into_le o s n)) (omega (arith, outdoor_into_le o s tan))
+    keeps-from (outdoor_on cutting r o e) (omega (arith, outdoor_into_le o s n))
+    (omega (arith, outdoor_into_le o s tan))
     (pasture-keeps-n r (outdoor_into_grazing cutting o n) (outdoor_into_grazing cutting o tan) hr
     (outdoor-pasture-modest o s n tan m))
     (pasture-keeps-tan r (outdoor_into_grazing cutting o n) (outdoor_into_grazing cutting o tan))

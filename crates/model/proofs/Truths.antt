@@ -17,7 +17,7 @@ use Rattle.base.proofs.Each.{each_same}
 use Rattle.inputs.specs.declared.Kind.TheVariants as kinds
 use Rattle.farm.specs.declared.Herd.{Herd}
 use Rattle.farm.specs.declared.Farm.{Farm}
-use Rattle.farm.specs.declared.Checked.TheVariants.{Accepted}
+use Rattle.farm.specs.Answers.{Accepted}
 use Rattle.checks.specs.Checks.{check_herd, check_farm, herds_of}
 use Rattle.cut_division.proofs.Shares.{part-le}
 use Rattle.amounts.specs.Units.{billionths, year}
@@ -76,7 +76,8 @@ use Rattle.outputs.specs.Grams.{grams_of, figure}
 use Rattle.outputs.specs.Equations.{Adds}
 use Rattle.outputs.proofs.Adding.{totals_in-any-order}
 use Rattle.outputs.proofs.Equations.{totals-add}
-use Rattle.herd.specs.Herd.{of_roughage, of_pigs, outdoor_from, pigs_from, pigs_through, pigs_on, figures_in, figures_of}
+use Rattle.herd.specs.Herd.{of_roughage, of_pigs, outdoor_from, pigs_from, pigs_through, pigs_on, figures_in}
+use Rattle.herd.specs.Herd.{figures_of}
 use Rattle.herd.proofs.Made.{Made, of-roughage, of-outdoor, of-pigs, made}
 use Rattle.model.specs.Answers.{herd_figures, farm_answer}
 use Rattle.model.specs.Truths.{
@@ -229,7 +230,8 @@ module _ (h g : Herd) (same : SameButYardDays h g) (k : CattleKind) where
         same 8 (λ e. omega arith),
       )
 
-  pub yard-days-without-yard : check_herd h ≡ Accepted → check_herd g ≡ Accepted → h.kind ≡ kind_of k → g.kind ≡ kind_of k
+  pub yard-days-without-yard : check_herd h ≡ Accepted → check_herd g ≡ Accepted → h.kind ≡ kind_of k
+      → g.kind ≡ kind_of k
       → (outdoor_of (kind_of k) h).exercise_yard ≡ NotAvailable → herd_figures g ≡ herd_figures h
   unfolding cattle_of
   yard-days-without-yard ah ag kh kg no-yard =
@@ -276,7 +278,8 @@ module _ (p : Pigs) where
         scrubbed = kept_back cutting p excretion.tan_excretion;
       }
 
-  empty_house : Nothing house_names (herd_of (outdoors (through_door cutting 0 0) (no_pig_house cutting) (no_nx_ox cutting)))
+  empty_house : Nothing house_names
+      (herd_of (outdoors (through_door cutting 0 0) (no_pig_house cutting) (no_nx_ox cutting)))
   empty_house =
       each_same
       (λ t. figure t (herd_of (outdoors (through_door cutting 0 0) (no_pig_house cutting) (no_nx_ox cutting))))

@@ -1,10 +1,9 @@
 -- What a record that is handed in gives: the figures in grams and in kilograms, notes and cuts, or a refusal and zeros
 -- beside it. (01, Refusal numbers: "A public call handed a record in place of a file checks it too".)
-use Rattle.std.specs.Prelude.{◌≡◌, [], map}
+use Rattle.std.specs.Prelude.{◌≡◌, [], map, Err}
 use Rattle.farm.specs.declared.Herd.{Herd}
 use Rattle.farm.specs.declared.Farm.{Farm}
-use Rattle.farm.specs.declared.Checked.{Checked}
-use Rattle.farm.specs.declared.Checked.TheVariants.{Accepted, Refused}
+use Rattle.farm.specs.Answers.{Accepted, Checked}
 use Rattle.checks.specs.Checks.{check_herd, check_farm, herds_of}
 use Rattle.notes.specs.Notes.{notes_of, no_notes}
 use Rattle.typed_inputs.specs.Typed.{typed_of}
@@ -36,9 +35,9 @@ answer_herd Accepted h =
       notes = notes_of (typed_of h);
       cuts = herd_cuts h;
     }
-answer_herd (Refused refusal at) h =
+answer_herd (Err refused) h =
     record {
-      checked = Refused refusal at;
+      checked = Err refused;
       figures = no_figures;
       kilograms = kilograms_of no_figures;
       notes = no_notes;
@@ -54,7 +53,7 @@ answer_totals c t = record { checked = c; totals = t; kilograms = total_kilogram
 
 abbrev pub answer_farm : Checked → Farm → FarmAnswer
 answer_farm Accepted f = answer_totals Accepted (totals_of (map herd_figures (herds_of f)))
-answer_farm (Refused refusal at) f = answer_totals (Refused refusal at) (totals_of [])
+answer_farm (Err refused) f = answer_totals (Err refused) (totals_of [])
 
 unfoldable pub farm_answer : Farm → FarmAnswer
 farm_answer f = answer_farm (check_farm f) f

@@ -4,8 +4,7 @@ use mathlib.Core.Path.{◌≡◌}
 use mathlib.Core.List.{List, map}
 use Rattle.base.specs.Text.{bytes}
 use Rattle.base.specs.Part.{same_bytes}
-use Rattle.words.specs.declared.Found.{Found}
-use Rattle.words.specs.Find.{first_from, words_of}
+use Rattle.words.specs.Find.{first_from, words_of, Found}
 use Rattle.words.proofs.Words.{words_found}
 use Rattle.names.specs.declared.ValueList.{ValueList}
 use Rattle.names.specs.Names.{names_of}

@@ -1,7 +1,6 @@
 -- Which name of its list a text is, counted from 0.
 use Rattle.std.specs.Prelude.{List, ℕ}
-use Rattle.words.specs.declared.Found.{Found}
-use Rattle.words.specs.Find.{find_text}
+use Rattle.words.specs.Find.{find_text, Found}
 use Rattle.names.specs.declared.ValueList.{ValueList}
 use Rattle.names.specs.Names.{names_of}
 

@@ -7,11 +7,9 @@ ghost use Rattle.std.specs.Prelude.{◌≡◌};
 ghost use Rattle.names.specs.Names.{size_of};
 ghost use Rattle.names.specs.Find.{find_name};
 
-use words::Found;
-
 // The lists. A new one is a list in specs/Names.antt, a variant here and its two arms: how many names it has, and its
 // names as words. A name of another length is passed by in one step.
-#[derive(Clone, Copy)]
+#[derive(Clone, Copy, Debug, PartialEq, Eq)]
 pub enum ValueList {
     Categories,
     Yards,
@@ -38,7 +36,7 @@ pub fn size_of(names: ValueList) -> usize
 }
 
 // Which name of the list a text is, counted from 0.
-pub fn find_name(names: ValueList, text: &[u8]) -> Found
+pub fn find_name(names: ValueList, text: &[u8]) -> Option<usize>
     ensures { result ≡ find_name names text.now }
 {
     match names {

@@ -143,7 +143,8 @@ eleven_grams = off promised (pos 0) (whole 11)
 -- ---- below zero: 01's row 4, whose TAN remaining is -5226 grams, and exactly -5226.8
 
 pub row4-figure : figure "tan_remain_grazing" (figures_of row4) ≡ negsuc 5225
-unfolding figures_of yard_time outdoor_grazing_time days_with_grazing_and_yard share_lowered share_excretion_with_grazing
+unfolding figures_of yard_time outdoor_grazing_time days_with_grazing_and_yard share_lowered
+    share_excretion_with_grazing
 row4-figure = refl
 
 pub row4-below-zero : 0 < dn (exact_figure "tan_remain_grazing" row4).num
@@ -157,7 +158,8 @@ unfolding exact_of exact_at yard_time outdoor_grazing_time days_with_grazing_and
     share_excretion_with_grazing
 row4-exact = refl
 
-pub row4-within : Within promised (figure "tan_remain_grazing" (figures_of row4)) (exact_figure "tan_remain_grazing" row4)
+pub row4-within : Within promised (figure "tan_remain_grazing" (figures_of row4))
+    (exact_figure "tan_remain_grazing" row4)
 unfolding promised_at
 row4-within = within-figure row4 (cattle (record {
   animals = lit≤ tt;
@@ -265,7 +267,8 @@ largest-sound =
     (more (cattle-sound OtherCattle (Number 10000) (number (lit≤ tt)))
     (more pigs-sound (more housed-pigs-sound (more (cattle-sound DairyCow Standard standard) none))))
 
-pub largest-herds : Each (λ i. (n : ℕ) → Within (promised_at i n) (grams_at (figures_of i).grams n) (exact_at i n)) largest
+pub largest-herds : Each
+    (λ i. (n : ℕ) → Within (promised_at i n) (grams_at (figures_of i).grams n) (exact_at i n)) largest
 largest-herds = each_map within-herd largest-sound
 
 pub largest-farm : (t : ℕ)
@@ -308,11 +311,13 @@ far_off-sound =
     })
 
 pub four-grams-broken : Within 4 (figure "nh3_nhousing" (figures_of far_off)) (exact_figure "nh3_nhousing" far_off) → ⊥
-unfolding figures_of exact_of exact_at roughage_grazing_time k_of within_day k_at nearest growth_num growth_den exp_num exp_den
+unfolding figures_of exact_of exact_at roughage_grazing_time k_of within_day k_at nearest growth_num growth_den exp_num
+    exp_den
 four-grams-broken = off 4 (figure "nh3_nhousing" (figures_of far_off)) (exact_figure "nh3_nhousing" far_off)
 
 pub five_grams-broken : Within 5 (figure "n_outhousing" (figures_of far_off)) (exact_figure "n_outhousing" far_off) → ⊥
-unfolding figures_of exact_of exact_at roughage_grazing_time k_of within_day k_at nearest growth_num growth_den exp_num exp_den
+unfolding figures_of exact_of exact_at roughage_grazing_time k_of within_day k_at nearest growth_num growth_den exp_num
+    exp_den
 five_grams-broken = off 5 (figure "n_outhousing" (figures_of far_off)) (exact_figure "n_outhousing" far_off)
 
 -- and of this pig house the NH3 is more than a gram off, and what leaves it more than 2

@@ -18,7 +18,8 @@ pub record NearExcretion (e : ExcretionIn cutting) (e' : ExcretionIn exact) : Ty
   pub tan-near : Near 1000000 0 (pos e.tan_excretion) e'.tan_excretion
   pub modest : WithinMostN e.n_excretion e.tan_excretion
 
-pub near-excreted : (animals grams fraction : ℕ) → animals ≤ most_animals → grams ≤ most_grams → fraction ≤ ten_thousandths
+pub near-excreted : (animals grams fraction : ℕ) → animals ≤ most_animals → grams ≤ most_grams
+    → fraction ≤ ten_thousandths
     → NearExcretion (excreted cutting animals grams fraction) (excreted exact animals grams fraction)
 near-excreted animals grams fraction ha hg hf =
     record {

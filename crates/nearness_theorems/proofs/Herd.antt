@@ -21,7 +21,8 @@ use Rattle.nearness_theorems.proofs.Roughage.{near-roughage}
 use Rattle.nearness_theorems.proofs.Outdoor.{near-cattle}
 use Rattle.nearness_theorems.proofs.Pigs.{near-pigs}
 
-pub near-herd : (i : Inputs) → Sound i → (n : ℕ) → NearBy (errors_at i n) (grams_at (figures_of i).grams n) (exact_at i n)
+pub near-herd : (i : Inputs) → Sound i → (n : ℕ)
+    → NearBy (errors_at i n) (grams_at (figures_of i).grams n) (exact_at i n)
 unfolding errors_at figures_of exact_of exact_at
 near-herd (kinds.Roughage r) (roughage s) =
     near-roughage r s _ _

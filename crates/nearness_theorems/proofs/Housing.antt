@@ -67,7 +67,8 @@ module _ (days hours : ℕ) (hd : days ≤ year) (hh : hours ≤ day) where
       near-div-to 1500000 500000 (all_days days hours) (omega arith) (omega (arith, days-add-up))
       (omega (arith, days-add-up))
       (near_add (near-whole (other_days days * billionths))
-      (near_mul (grazing_days days hours) most_k (most_k + 1) (le_refl (grazing_days days hours)) (k-most hours) (lit≤ tt)
+      (near_mul (grazing_days days hours) most_k (most_k + 1) (le_refl (grazing_days days hours)) (k-most hours)
+      (lit≤ tt)
       refl
       (near-whole (grazing_days days hours)) (near-k hours hh)))
 

@@ -52,7 +52,8 @@ module _ (o : Outdoor) (s : SoundOutdoor o) {lo hi x : ℕ} {q : Frac} (near : N
   onto_yard_lem = near-share (yard_time o) (tenths * year) (lit< tt) (yard_time-le o s) near
 
   onto_pasture : Near (lo + 1000000) hi (pos (outdoor_into_grazing cutting o x)) (outdoor_into_grazing exact o q)
-  onto_pasture = near-share (outdoor_grazing_time o) (day * (tenths * year)) (lit< tt) (outdoor-grazing_time_le o s) near
+  onto_pasture =
+      near-share (outdoor_grazing_time o) (day * (tenths * year)) (lit< tt) (outdoor-grazing_time_le o s) near
 
   through_door_lem : Near (lo + hi + hi) (hi + (lo + 1000000) + (lo + 1000000))
       (pos (x - into_yard cutting o x - outdoor_into_grazing cutting o x))

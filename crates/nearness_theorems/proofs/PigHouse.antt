@@ -76,11 +76,13 @@ module _ {lo hi x : ℕ} {q : Frac} (near : Near lo hi (pos x) q) where
       rw (sub_self x, +ℤ_invr)
       (near_same {q = whole 0} (mul-pos near.above near.above) (ap pos (zero-mul (q.den * q.den))) near-nothing)
 
-  pub near-all_or_nothing : (share : ℕ) → Near lo hi (pos (all_or_nothing cutting share x)) (all_or_nothing exact share q)
+  pub near-all_or_nothing : (share : ℕ)
+      → Near lo hi (pos (all_or_nothing cutting share x)) (all_or_nothing exact share q)
   near-all_or_nothing zero = near-nothing
   near-all_or_nothing (suc share) = near
 
-  pub near-others : (share : ℕ) → Near lo hi (pos (x - all_or_nothing cutting share x)) (q ⊖ all_or_nothing exact share q)
+  pub near-others : (share : ℕ)
+      → Near lo hi (pos (x - all_or_nothing cutting share x)) (q ⊖ all_or_nothing exact share q)
   near-others zero = less-nothing
   near-others (suc share) = less-itself
 

@@ -100,7 +100,8 @@ errors_at i n = said_at exactly (errors_of i) texts n
 
 -- the errors of these figures together
 abbrev pub summed_errors : Inputs → List ℕ → Errors
-summed_errors i ns = record { below = total (λ n. (errors_at i n).below) ns; above = total (λ n. (errors_at i n).above) ns }
+summed_errors i ns =
+    record { below = total (λ n. (errors_at i n).below) ns; above = total (λ n. (errors_at i n).above) ns }
 
 -- what a herd brings into a total
 unfoldable pub total_errors : Inputs → ℕ → Errors

@@ -13,12 +13,12 @@ pub fn lacking_with(before: usize, herd: Herd, first: usize) -> usize
     ensures { result ≡ lacking_with before herd first }
 {
     if before != 0 {
-        return before;
+        before
+    } else if herd_tests::lacks_input(herd) {
+        first
+    } else {
+        0
     }
-    if herd_tests::lacks_input(herd) {
-        return first;
-    }
-    0
 }
 
 // How many herds the farm has with the one being read, where there is one.
@@ -26,10 +26,7 @@ pub fn herds_so_far(count: usize, first: usize) -> usize
     requires { count < herds_most }
     ensures { result ≡ herds_so_far count first }
 {
-    if first == 0 {
-        return count;
-    }
-    count + 1
+    if first == 0 { count } else { count + 1 }
 }
 
 // Has the farm as many herds as it may have, `most`, with the one being read? Then another label is 9.

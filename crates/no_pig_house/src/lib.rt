@@ -9,6 +9,7 @@ ghost use Rattle.pig_house.specs.NxOx.{no_nx_ox, handed_nx_ox};
 
 use pig_house::{NxOx, PigFactors, PigHouse, Scrubbed};
 
+#[tactic(auto, using(pig_house::proofs::Factor::no_factors_steps))]
 pub fn no_pig_factors() -> PigFactors
     ensures { result ≡ handed_pig_factors (no_pig_factors dividing) }
 {
@@ -24,6 +25,7 @@ pub fn no_pig_factors() -> PigFactors
 }
 
 // Where a scrubber keeps nothing back, too.
+#[tactic(auto, using(pig_house::proofs::Through::none_scrubbed))]
 pub fn no_scrubbed() -> Scrubbed
     ensures { result ≡ handed_scrubbed (no_scrubbed dividing) }
 {
@@ -34,6 +36,7 @@ pub fn no_scrubbed() -> Scrubbed
     }
 }
 
+#[tactic(auto, using(pig_house::proofs::Fractions::fraction_steps))]
 pub fn no_pig_house() -> PigHouse
     ensures { result ≡ handed_pig_house (no_pig_factors dividing) (handed_scrubbed (no_scrubbed dividing))
         (no_pig_house dividing) }
@@ -48,6 +51,7 @@ pub fn no_pig_house() -> PigHouse
     }
 }
 
+#[tactic(auto, using(pig_house::proofs::Fractions::fraction_steps))]
 pub fn no_nx_ox() -> NxOx
     ensures { result ≡ handed_nx_ox (no_nx_ox dividing) }
 {

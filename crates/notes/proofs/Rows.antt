@@ -11,7 +11,8 @@ use Rattle.notes.specs.Notes.{no_notes, notes_of}
 use Rattle.notes.specs.Rows.{Row, Right, names_of, told, table}
 
 pub noted : Each Right table
-unfolding notes_of standard_of share_lowered days_with_grazing_and_yard k_of within_day k_at nearest growth_num growth_den
+unfolding notes_of standard_of share_lowered days_with_grazing_and_yard k_of within_day k_at nearest growth_num
+    growth_den
     exp_num exp_den
 noted = each_same told (λ (r : Row). r.notes) table refl
 

@@ -2,7 +2,7 @@
 // crate `herd_notes` computes it.
 #![tactic(auto)]
 
-#[derive(Clone, Copy)]
+#[derive(Clone, Copy, Debug, PartialEq, Eq, Default)]
 pub struct Notes {
     pub n_off_standard: bool,
     pub tan_off_standard: bool,

@@ -1,32 +1,30 @@
 -- What a number says, from the calls that read it: each law in the form that a place of src/lib.rt wants. Assumes
 -- nothing.
+use Rattle.std.specs.Prelude.{Err, None, Ok, Some}
 use Prim.Native.Nat.{ℕ, zero, suc, ◌<◌, ◌^◌}
 use mathlib.Core.Path.{◌≡◌, refl, sym, ◌∙◌}
 use mathlib.Core.Bool.{Bool, true, false}
-use mathlib.Core.List.{List, [], ◌∷◌}
+use mathlib.Core.List.{List}
 use native.Mathlib.Omega.{arith}
-use lib.Dec.{eqb}
 use lib.IntN.{pos, negsuc, ◌-ℤ◌, +ℤ_idl}
-use lib.ListN.{length, get_or}
+use lib.ListN.{length}
 use mir.Syntax.{w16, w32}
 use mir.Val.{Fits, SFits, to_z, of_z}
 use mir.Facts.{to_z-of_z, sfits_lit}
 use Rattle.base.specs.Part.{part}
-use Rattle.digits.specs.declared.Number.{Number}
-use Rattle.digits.specs.declared.Number.TheVariants as numbers
 use Rattle.numbers.specs.Reading.{number_of}
 use Rattle.numbers.proofs.Agrees.{number_iff}
 use Rattle.farm.specs.declared.Given.TheVariants.{Value, Signed}
-use Rattle.number_values.specs.declared.ValueRead.{ValueRead}
-use Rattle.number_values.specs.declared.ValueRead.TheVariants.{Is, Unfit}
-use Rattle.number_values.specs.Numbers.{number_read, has_minus, below_read, above_read, signed_read}
+use Rattle.number_values.specs.Numbers.{number_read, has_minus, below_read, above_read, signed_read, ValueRead}
+use Rattle.number_values.specs.declared.ValueFault.TheVariants.{Unfit}
+use Rattle.digits.specs.Digits.{Number}
 
 -- a number was read
 module _ {x y : Number} (q : x ≡ y) where
-  pub number_is : {v : ℕ} → x ≡ numbers.Value v → Is (Value v) ≡ number_read y
+  pub number_is : {v : ℕ} → x ≡ Some v → Ok (Value v) ≡ number_read y
   number_is e = simp (sym q ∙ e)
 
-  pub number-unfit : x ≡ numbers.Unreadable → Unfit ≡ number_read y
+  pub number-unfit : x ≡ None → Err Unfit ≡ number_read y
   number-unfit e = simp (sym q ∙ e)
 
 -- a number was read behind a `-`, or without one: no more than the most on either side, a u16, so an i32 holds it
@@ -35,8 +33,8 @@ minus_fits zero h = sfits_lit tt
 minus_fits (suc v) h = rw (+ℤ_idl (negsuc v)) (record { sfits = omega arith })
 
 module _ (s : List ℕ) {most : ℕ} (f : Fits w16 most) {x : Number} (q : x ≡ number_of s 0 most) {v : ℕ}
-    (e : x ≡ numbers.Value v) where
-  read : number_of s 0 most ≡ numbers.Value v
+    (e : x ≡ Some v) where
+  read : number_of s 0 most ≡ Some v
   read = sym q ∙ e
 
   small : v < 2 ^ 31
@@ -45,38 +43,30 @@ module _ (s : List ℕ) {most : ℕ} (f : Fits w16 most) {x : Number} (q : x ≡
   pub above-fits : SFits w32 (pos v)
   above-fits = record { sfits = small }
 
-  pub above-is : Is (Signed (to_z w32 v)) ≡ above_read (number_of s 0 most)
+  pub above-is : Ok (Signed (to_z w32 v)) ≡ above_read (number_of s 0 most)
   above-is = rw (read, to_z-of_z above-fits) refl
 
   pub below-fits : SFits w32 (pos 0 -ℤ to_z w32 v)
   below-fits = rw (to_z-of_z above-fits) (minus_fits v small)
 
-  pub below-is : (v ≡ 0 → ⊥) → Is (Signed (to_z w32 (of_z w32 (pos 0 -ℤ to_z w32 v)))) ≡ below_read (number_of s 0 most)
+  pub below-is : (v ≡ 0 → ⊥) → Ok (Signed (to_z w32 (of_z w32 (pos 0 -ℤ to_z w32 v)))) ≡ below_read (number_of s 0 most)
   below-is h = rw (to_z-of_z below-fits, to_z-of_z above-fits, read) (less v h)
     where
-      less : (v : ℕ) → (v ≡ 0 → ⊥) → Is (Signed (pos 0 -ℤ pos v)) ≡ below_read (numbers.Value v)
+      less : (v : ℕ) → (v ≡ 0 → ⊥) → Ok (Signed (pos 0 -ℤ pos v)) ≡ below_read (Some v)
       less zero h = absurd (h refl)
       less (suc v) h = rw (+ℤ_idl (negsuc v)) refl
 
 module _ {x y : Number} (q : x ≡ y) where
-  pub below-nought : {v : ℕ} → x ≡ numbers.Value v → v ≡ 0 → Unfit ≡ below_read y
+  pub below-nought : {v : ℕ} → x ≡ Some v → v ≡ 0 → Err Unfit ≡ below_read y
   below-nought e h = rw (sym q ∙ e, h) refl
 
-  pub below-unfit : x ≡ numbers.Unreadable → Unfit ≡ below_read y
+  pub below-unfit : x ≡ None → Err Unfit ≡ below_read y
   below-unfit e = simp (sym q ∙ e)
 
-  pub above-unfit : x ≡ numbers.Unreadable → Unfit ≡ above_read y
+  pub above-unfit : x ≡ None → Err Unfit ≡ above_read y
   above-unfit e = simp (sym q ∙ e)
 
 -- by the byte in front
-pub no_minus : (s : List ℕ) → length s ≡ 0 → false ≡ has_minus s
-no_minus [] e = refl
-no_minus (b ∷ rest) e = absurd (omega arith)
-
-pub first_minus : (s : List ℕ) → (length s ≡ 0 → ⊥) → eqb (get_or s 0 0) 45 ≡ has_minus s
-first_minus [] h = absurd (h refl)
-first_minus (b ∷ rest) h = refl
-
 module _ (s : List ℕ) {b : Bool} (q : b ≡ has_minus s) (most : ℕ) {r : ValueRead} where
   pub signed_below : {t : List ℕ} → b ≡ true → t ≡ part s 1 (length s) → r ≡ below_read (number_of t 0 most)
       → r ≡ signed_read s most
@@ -97,8 +87,6 @@ pub ruleset number_steps = (
   above-fits,
   above-is,
   above-unfit,
-  no_minus,
-  first_minus,
   signed_below,
   signed_above,
 )

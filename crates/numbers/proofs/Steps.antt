@@ -1,5 +1,6 @@
 -- The steps of reading a number, each in the form that a place of the code wants: X is what the whole text gives.
 -- Assumes nothing.
+use Rattle.std.specs.Prelude.{None, Some}
 use Prim.Native.Nat.{ℕ, ◌+◌, ◌<◌, ◌≤◌}
 use mathlib.Core.List.{List, [], ◌∷◌}
 use mathlib.Core.Path.{◌≡◌, sym, ◌∙◌}
@@ -8,9 +9,7 @@ use lib.ListN.{length, get_or, drop}
 use native.Mathlib.Omega.{arith}
 use borrow.Author.Tests.{ne_eqb, le-leb, le-ltb}
 use Rattle.base.proofs.Rest.{rest_at, rest_end}
-use Rattle.digits.specs.declared.Number.{Number}
-use Rattle.digits.specs.declared.Number.TheVariants.{Value, Unreadable}
-use Rattle.digits.specs.Digits.{if_digit◌then◌, more, with_digit, scaled_by, point_from, up_to}
+use Rattle.digits.specs.Digits.{if_digit◌then◌, more, with_digit, scaled_by, point_from, up_to, Number}
 use Rattle.digits.proofs.Steps.{Over, none, either, lost, taken, taken-small, scaled-over, point-over}
 use Rattle.numbers.specs.Reading.{whole_from, zero_from, any_number_of, number_of}
 
@@ -37,19 +36,19 @@ module _ (s : List ℕ) (i d m x : ℕ) (X : Number) (inv : up_to m (whole_from 
       unfolding whole_from
       whole-going = simp (rest_at s i h, whole_from, ne_eqb _ _ n) at inv
 
-      pub whole-more : (y : ℕ) → r ≡ Value y → up_to m (whole_from d y (drop (i + 1) s)) ≡ X
+      pub whole-more : (y : ℕ) → r ≡ Some y → up_to m (whole_from d y (drop (i + 1) s)) ≡ X
       whole-more y e =
           let t = taken m x (get_or s i 0) r q y e in
           rw t.is (simp (le-ltb _ _ t.low, le-ltb _ _ t.high) at whole-going)
 
-      pub whole-stop : r ≡ Unreadable → Unreadable ≡ X
+      pub whole-stop : r ≡ None → None ≡ X
       whole-stop e = sym (lost m x (get_or s i 0) r q e _ (whole-over d m _ (drop (i + 1) s))) ∙ whole-going
 
 pub ruleset whole_steps = (taken-small, whole-end, whole-point, whole-more, whole-stop)
 
 -- the first byte
 module _ (s : List ℕ) (d m : ℕ) where
-  pub number-none : length s ≡ 0 → Unreadable ≡ number_of s d m
+  pub number-none : length s ≡ 0 → None ≡ number_of s d m
   unfolding number_of any_number_of
   number-none h = rw (rest_end s 0 (omega arith))
 
@@ -62,7 +61,7 @@ module _ (s : List ℕ) (d m : ℕ) where
       unfolding number_of any_number_of
       zero-first = rw (first, any_number_of, z)
 
-      pub zero-alone : length s ≡ 1 → Value 0 ≡ number_of s d m
+      pub zero-alone : length s ≡ 1 → Some 0 ≡ number_of s d m
       unfolding zero_from
       zero-alone h = sym (zero-first ∙ simp (rest_end s 1 (omega arith), zero_from, le-leb 0 m (omega arith)))
 
@@ -70,26 +69,28 @@ module _ (s : List ℕ) (d m : ℕ) where
         second : drop 1 s ≡ get_or s 1 0 ∷ drop 2 s
         second = rest_at s 1 (omega arith)
 
-        pub zero-point : get_or s 1 0 ≡ 46 → (r : Number) → r ≡ up_to m (point_from d 0 (drop 2 s)) → r ≡ number_of s d m
+        pub zero-point : get_or s 1 0 ≡ 46 → (r : Number) → r ≡ up_to m (point_from d 0 (drop 2 s))
+            → r ≡ number_of s d m
         unfolding zero_from
         zero-point e r q = q ∙ sym (zero-first ∙ simp (second, zero_from, e))
 
-        pub zero-other : (get_or s 1 0 ≡ 46 → ⊥) → Unreadable ≡ number_of s d m
+        pub zero-other : (get_or s 1 0 ≡ 46 → ⊥) → None ≡ number_of s d m
         unfolding zero_from
         zero-other n = sym (zero-first ∙ simp (second, zero_from, ne_eqb _ _ n))
 
     module _ (n : get_or s 0 0 ≡ 48 → ⊥) (r : Number) (q : r ≡ up_to m (with_digit 0 (get_or s 0 0))) where
-      digit-first : up_to m (if_digit (get_or s 0 0) then whole_from d (more 0 (get_or s 0 0)) (drop 1 s)) ≡ number_of s d m
+      digit-first : up_to m (if_digit (get_or s 0 0) then whole_from d (more 0 (get_or s 0 0)) (drop 1 s))
+          ≡ number_of s d m
       unfolding number_of any_number_of
       digit-first = sym (rw (first, any_number_of, ne_eqb _ _ n))
 
-      pub number-whole : (y : ℕ) → r ≡ Value y → (z : Number) → z ≡ up_to m (whole_from d y (drop 1 s))
+      pub number-whole : (y : ℕ) → r ≡ Some y → (z : Number) → z ≡ up_to m (whole_from d y (drop 1 s))
           → z ≡ number_of s d m
       number-whole y e z p =
           let t = taken m 0 (get_or s 0 0) r q y e in
           p ∙ rw t.is (simp (le-ltb _ _ t.low, le-ltb _ _ t.high) at digit-first)
 
-      pub number-stop : r ≡ Unreadable → Unreadable ≡ number_of s d m
+      pub number-stop : r ≡ None → None ≡ number_of s d m
       number-stop e = sym (lost m 0 (get_or s 0 0) r q e _ (whole-over d m _ (drop 1 s))) ∙ digit-first
 
 pub ruleset number_steps = (taken-small, number-none, zero-alone, zero-point, zero-other, number-whole, number-stop)

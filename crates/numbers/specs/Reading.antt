@@ -1,10 +1,8 @@
 -- 01, The farm file: how a number is read, byte by byte. That this takes just the numbers of `Numbers`, with their
 -- values, is proved in proofs/Agrees.
-use Rattle.std.specs.Prelude.{ℕ, List, [], ◌∷◌}
+use Rattle.std.specs.Prelude.{ℕ, List, [], ◌∷◌, None, Some}
 use Rattle.base.specs.Pick.{if◌is◌then◌else◌}
-use Rattle.digits.specs.declared.Number.{Number}
-use Rattle.digits.specs.declared.Number.TheVariants.{Value, Unreadable}
-use Rattle.digits.specs.Digits.{if_digit◌then◌, more, scaled_by, point_from, up_to}
+use Rattle.digits.specs.Digits.{if_digit◌then◌, more, scaled_by, point_from, up_to, Number}
 
 -- `.`
 abbrev pub point : ℕ
@@ -23,12 +21,12 @@ whole_from d v (b ∷ rest) =
 
 -- behind a zero that the text begins with
 unfoldable pub zero_from : ℕ → List ℕ → Number
-zero_from d [] = Value 0
-zero_from d (b ∷ rest) = if b is point then point_from d 0 rest else Unreadable
+zero_from d [] = Some 0
+zero_from d (b ∷ rest) = if b is point then point_from d 0 rest else None
 
 -- the whole text
 unfoldable pub any_number_of : List ℕ → ℕ → Number
-any_number_of [] d = Unreadable
+any_number_of [] d = None
 any_number_of (b ∷ rest) d =
     if b is zero_digit then zero_from d rest else
     if_digit b then whole_from d (more 0 b) rest

@@ -5,49 +5,43 @@ ghost use Rattle.std.specs.Prelude.{◌≡◌, ◌≤◌, drop};
 ghost use Rattle.digits.specs.Digits.{up_to};
 ghost use Rattle.numbers.specs.Reading.{whole_from, number_of};
 
-use digits::Number;
-
 // The digits of the whole part, from `at` on: v was read before them.
-fn whole(s: &[u8], at: usize, decimals: usize, most: u32, v: u32) -> Number
+fn whole(s: &[u8], at: usize, decimals: usize, most: u32, v: u32) -> Option<u32>
     requires { v ≤ most }
     ensures { result ≡ up_to most (whole_from decimals v (drop at s.now)) }
 {
-    let mut i = at;
     let mut x = v;
-    while i < s.len() {
+    for i in at..s.len() {
         let b = s[i];
         if b == b'.' {
             return digits::point(s, i + 1, decimals, most, x);
         }
-        let Number::Value(y) = digits::with_digit(x, b, most) else {
-            return Number::Unreadable;
+        let Some(y) = digits::with_digit(x, b, most) else {
+            return None;
         };
         x = y;
-        i += 1;
     }
     digits::scaled(x, decimals, most)
 }
 
 // The number that s holds, with at most `decimals` digits behind the point and a value of at most `most`.
-pub fn read_number(s: &[u8], decimals: usize, most: u32) -> Number
+pub fn read_number(s: &[u8], decimals: usize, most: u32) -> Option<u32>
     ensures { result ≡ number_of s.now decimals most }
 {
     if s.len() == 0 {
-        return Number::Unreadable;
+        return None;
     }
-    let first = s[0];
-    if first == b'0' {
+    if s[0] == b'0' {
         if s.len() == 1 {
-            return Number::Value(0);
+            return Some(0);
         }
-        let second = s[1];
-        if second == b'.' {
+        if s[1] == b'.' {
             return digits::point(s, 2, decimals, most, 0);
         }
-        return Number::Unreadable;
+        return None;
     }
-    let Number::Value(x) = digits::with_digit(0, first, most) else {
-        return Number::Unreadable;
+    let Some(x) = digits::with_digit(0, s[0], most) else {
+        return None;
     };
     whole(s, 1, decimals, most, x)
 }

@@ -33,7 +33,7 @@ pub outdoors-is : (t : Tally) {m : ℕ} → m ≡ mean_of t.pasture t.grazing_da
     → record { grazing_days = t.grazing_days; yard_days = t.yard_days; grazing_hours = m } ≡ outdoors_by t
 outdoors-is t q = rw q
 
-pub ruleset tally_steps = (not-counted, is-counted, outdoors-is)
+pub ruleset tally_steps = (one-small, not-counted, is-counted, outdoors-is)
 
 -- ---- a day more is one more at most, and its hours more
 

@@ -6,7 +6,7 @@ pub mod tallies; // days counted, and what comes of them
 use calendar::Date;
 
 // A day of the log: its date, and the tenths of an hour on pasture and on the yard.
-#[derive(Clone, Copy)]
+#[derive(Clone, Copy, Debug, PartialEq, Eq)]
 pub struct Day {
     pub date: Date,
     pub pasture: u8,
@@ -15,7 +15,7 @@ pub struct Day {
 
 // What the days so far come to: those with hours on pasture, those with hours on the yard, and the tenths of an hour
 // on pasture.
-#[derive(Clone, Copy)]
+#[derive(Clone, Copy, Debug, PartialEq, Eq)]
 pub struct Tally {
     pub grazing_days: u32,
     pub yard_days: u32,
@@ -23,7 +23,7 @@ pub struct Tally {
 }
 
 // What a log comes to, as a farm file's inputs: days, days, and tenths of an hour.
-#[derive(Clone, Copy)]
+#[derive(Clone, Copy, Debug, PartialEq, Eq)]
 pub struct Outdoors {
     pub grazing_days: u32,
     pub yard_days: u32,

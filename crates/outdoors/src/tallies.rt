@@ -9,13 +9,11 @@ use crate::{Day, Outdoors, Tally};
 fn one_if(hours: u8) -> u32
     ensures { result ≡ one_if hours }
 {
-    if 0 < hours {
-        return 1;
-    }
-    0
+    u32::from(0 < hours)
 }
 
 // One day more; a 29 February does not count.
+#[tactic(auto, using(crate::proofs::TallySteps::tally_steps))]
 pub fn with_day(t: Tally, d: Day) -> Tally
     requires { Roomy t }
     ensures { result ≡ with_day t d }
@@ -34,12 +32,10 @@ pub fn with_day(t: Tally, d: Day) -> Tally
 fn mean(tenths: u32, days: u32) -> u32
     ensures { result ≡ mean_of tenths days }
 {
-    if days == 0 {
-        return 0;
-    }
-    tenths / days
+    if days == 0 { 0 } else { tenths / days }
 }
 
+#[tactic(auto, using(crate::proofs::TallySteps::tally_steps))]
 pub fn outdoors(t: Tally) -> Outdoors
     ensures { result ≡ outdoors_by t }
 {

@@ -1,5 +1,6 @@
 pub mod Signed
 pub mod ByNumber
+pub mod Mapped
 pub mod Adding
 pub mod Bounds
 pub mod Alone

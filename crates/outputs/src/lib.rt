@@ -13,7 +13,7 @@ pub mod names; // the names by number
 pub mod total_names; // the totals by number
 
 // A herd by the sections of 001, as they hand on what they cut: the figures and the cuts of a herd are read off it.
-#[derive(Clone, Copy)]
+#[derive(Clone, Copy, Debug, PartialEq, Eq)]
 pub struct Sections {
     pub excretion: Excretion,
     pub yard: Yard,
@@ -24,13 +24,13 @@ pub struct Sections {
 }
 
 // A herd's figures in whole grams of nitrogen a year, by the number of the name; 0 where a kind has no such flow.
-#[derive(Clone, Copy)]
+#[derive(Clone, Copy, Debug, PartialEq, Eq)]
 pub struct Figures {
     pub grams: [i64; names::COUNT],
 }
 
 // 2.1, a farm's totals in whole grams of nitrogen a year, by the number of the total.
-#[derive(Clone, Copy)]
+#[derive(Clone, Copy, Debug, PartialEq, Eq)]
 pub struct Totals {
     pub grams: [i64; total_names::COUNT],
 }

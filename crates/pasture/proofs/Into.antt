@@ -134,3 +134,5 @@ module _ (t : HousingType) (n tan a b : ℕ) (qn qt : Quotient) (ea : a ≡ pigs
 pub ruleset roughage_steps = (roughage_time_within, into_roughage, is-roughage-grazing)
 
 pub ruleset pigs_steps = (pigs-modest, is-pigs-grazing)
+
+pub ruleset outdoor_steps = (is-outdoor-grazing)

@@ -89,3 +89,5 @@ remains r into g left e fits el =
       rest_all into.n.whole g.nh3.whole g.n2.whole g.no.whole g.n2o.whole,
       e.is,
     ) refl
+
+pub ruleset pasture_steps = (emitted, remains)

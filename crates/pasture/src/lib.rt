@@ -19,7 +19,7 @@ use kinds::{HousingType, Outdoor, Roughage};
 use rates::Rates;
 
 // What a pasture emits.
-#[derive(Clone, Copy)]
+#[derive(Clone, Copy, Debug, PartialEq, Eq)]
 pub struct Gases {
     pub nh3: Quotient,
     pub n2: Quotient,
@@ -27,7 +27,7 @@ pub struct Gases {
     pub n2o: Quotient,
 }
 
-#[derive(Clone, Copy)]
+#[derive(Clone, Copy, Debug, PartialEq, Eq)]
 pub struct Grazing {
     pub into: Parts,
     pub gases: Gases,
@@ -39,6 +39,7 @@ pub struct Grazing {
 const YEAR_OF_SHARED_HOURS: u64 = DAY * (TENTHS * YEAR);
 
 // The part of the year that a herd with a yard is on pasture.
+#[tactic(auto, using(crate::proofs::Times::outdoor_time_steps))]
 fn outdoor_grazing_time(o: Outdoor) -> u64
     requires { SoundOutdoor o }
     ensures { UpTo (day * (tenths * year)) (outdoor_grazing_time o) result }
@@ -49,6 +50,7 @@ fn outdoor_grazing_time(o: Outdoor) -> u64
 }
 
 // What a herd with a yard puts on pasture, of so much N and TAN.
+#[tactic(auto, using(amounts::proofs::Amounts::shares_found))]
 fn outdoor_into_grazing(o: Outdoor, n: u64, tan: u64) -> Parts
     requires { SoundOutdoor o × WithinMostN n tan }
     ensures { PortionsOf n tan (outdoor_grazing_time o) (day * (tenths * year)) result }
@@ -57,6 +59,7 @@ fn outdoor_into_grazing(o: Outdoor, n: u64, tan: u64) -> Parts
 }
 
 // What a roughage herd puts on pasture, of so much N and TAN.
+#[tactic(auto, using(crate::proofs::Into::roughage_steps))]
 fn roughage_into_grazing(h: Roughage, n: u64, tan: u64) -> Parts
     requires { SoundRoughage h × WithinMostN n tan }
     ensures { PortionsOf n tan (roughage_grazing_time h) (day * year) result }
@@ -69,27 +72,30 @@ fn pigs_into_grazing(housing: HousingType, amount: u64) -> u64
     ensures { result ≡ pigs_into_grazing cutting housing amount }
 {
     match housing {
-        HousingType::SlurryConventional => 0,
-        HousingType::SlurryLabel => 0,
-        HousingType::SlurryLabelOpen => 0,
-        HousingType::DeepLitter => 0,
+        HousingType::SlurryConventional
+        | HousingType::SlurryLabel
+        | HousingType::SlurryLabelOpen
+        | HousingType::DeepLitter => 0,
         HousingType::Outdoor => amount,
     }
 }
 
 // What a pasture emits onto which so much N and TAN comes.
+#[tactic(auto, using(crate::proofs::OnPasture::pasture_steps))]
 fn gases_of(r: Rates, n: u64, tan: u64) -> Gases
     requires { ModestRates r × WithinMostN n tan }
     ensures { Emitted r n tan result }
 {
-    let nh3 = amounts::portion(tan, r.nh3, TEN_THOUSANDTHS);
-    let n2 = amounts::portion(n, r.n2, TEN_THOUSANDTHS);
-    let no = amounts::portion(n, r.no, TEN_THOUSANDTHS);
-    let n2o = amounts::portion(n, r.n2o, TEN_THOUSANDTHS);
-    Gases { nh3, n2, no, n2o }
+    Gases {
+        nh3: amounts::portion(tan, r.nh3, TEN_THOUSANDTHS),
+        n2: amounts::portion(n, r.n2, TEN_THOUSANDTHS),
+        no: amounts::portion(n, r.no, TEN_THOUSANDTHS),
+        n2o: amounts::portion(n, r.n2o, TEN_THOUSANDTHS),
+    }
 }
 
 // The pasture onto which so much N and TAN comes.
+#[tactic(auto, using(crate::proofs::OnPasture::pasture_steps))]
 fn on_pasture(r: Rates, into: Parts) -> Grazing
     requires { ModestRates r × WithinMostN into.n.whole into.tan.whole }
     ensures { result ≡ handed_from into (on_pasture dividing r (uncut into.n.whole) (uncut into.tan.whole)) }
@@ -107,24 +113,25 @@ fn on_pasture(r: Rates, into: Parts) -> Grazing
 }
 
 // The pasture of a herd with a yard, at its kind's rates, where the herd excretes so much N and TAN.
+#[tactic(auto, using(crate::proofs::Into::outdoor_steps))]
 pub fn outdoor_grazing(r: Rates, o: Outdoor, n: u64, tan: u64) -> Grazing
     requires { ModestRates r × SoundOutdoor o × WithinMostN n tan }
     ensures { result ≡ handed_grazing (outdoor_grazing dividing r o (uncut n) (uncut tan)) }
 {
-    let into = outdoor_into_grazing(o, n, tan);
-    on_pasture(r, into)
+    on_pasture(r, outdoor_into_grazing(o, n, tan))
 }
 
 // The pasture of a roughage herd.
+#[tactic(auto, using(crate::proofs::Into::roughage_steps))]
 pub fn roughage_grazing(h: Roughage, n: u64, tan: u64) -> Grazing
     requires { SoundRoughage h × WithinMostN n tan }
     ensures { result ≡ handed_grazing (roughage_grazing dividing h (uncut n) (uncut tan)) }
 {
-    let into = roughage_into_grazing(h, n, tan);
-    on_pasture(rates::roughage_rates(), into)
+    on_pasture(rates::roughage_rates(), roughage_into_grazing(h, n, tan))
 }
 
 // The pasture of a pig herd.
+#[tactic(auto, using(crate::proofs::Into::pigs_steps))]
 pub fn pigs_grazing(housing: HousingType, n: u64, tan: u64) -> Grazing
     requires { WithinMostN n tan }
     ensures { result ≡ handed_grazing (pigs_grazing dividing housing (uncut n) (uncut tan)) }

@@ -19,16 +19,15 @@ use pig_factors::{factors, parameters};
 use pig_house::{InPigHouse, PigHouse, Scrubbed};
 
 // An amount times 1 or 0.
+#[tactic(auto, using(pig_house::proofs::Fractions::fraction_steps))]
 pub fn all_or_nothing(share: u64, amount: u64) -> u64
     ensures { UpTo amount (all_or_nothing cutting share amount) result }
 {
-    if share == 0 {
-        return 0;
-    }
-    amount
+    if share == 0 { 0 } else { amount }
 }
 
 // The ammonia from so much TAN in the house.
+#[tactic(auto, using(amounts::proofs::Amounts::shares_found))]
 fn nh3_in_pig_house(p: Pigs, tan: u64) -> Quotient
     requires { SoundPigs p × (tan < 2 ^ 32) }
     ensures { PortionOf tan (ef_nh3_nhousing cutting p) billionths result }
@@ -37,19 +36,18 @@ fn nh3_in_pig_house(p: Pigs, tan: u64) -> Quotient
 }
 
 // The two fractions of so much N and TAN that leaves the house.
+#[tactic(auto, using(pig_house::proofs::Fractions::fraction_steps))]
 fn in_fractions(p: Pigs, scrubbed: Scrubbed, n: u64, tan: u64) -> PigHouse
     requires { SoundPigs p }
     ensures { result ≡ handed_pig_house (pig_factors dividing p) scrubbed
         (in_fractions dividing p.housing_type
         (uncut scrubbed.times_ef_housing_indoor_before_air_scrubber.whole) (uncut n) (uncut tan)) }
 {
-    let housing = p.housing_type;
-    let factors = factors::factors_of(p);
-    let share = parameters::share_liquid(housing);
+    let share = parameters::share_liquid(p.housing_type);
     let n_liquid = all_or_nothing(share, n);
     let tan_liquid = all_or_nothing(share, tan);
     PigHouse {
-        factors,
+        factors: factors::factors_of(p),
         scrubbed,
         n_outhousing_liquid: n_liquid,
         tan_outhousing_liquid: tan_liquid,
@@ -59,6 +57,7 @@ fn in_fractions(p: Pigs, scrubbed: Scrubbed, n: u64, tan: u64) -> PigHouse
 }
 
 // The house of a herd that excretes so much TAN, into which so much N and TAN goes.
+#[tactic(auto, using(pig_house::proofs::Through::house_steps))]
 pub fn in_pig_house(p: Pigs, excreted: u64, n: u64, tan: u64) -> InPigHouse
     requires { SoundPigs p × Enters p excreted n tan }
     ensures housing { result.housing

@@ -14,14 +14,13 @@ use pig_house::Scrubbed;
 const HUNDREDTH: u64 = 10000000;
 
 // What a filter keeps back, of so much TAN that the herd excretes.
+#[tactic(auto, using(pig_house::proofs::Through::scrubbed_steps))]
 fn scrubbed_of(p: Pigs, tan: u64) -> Scrubbed
     requires { SoundPigs p × (tan < 2 ^ 32) }
     ensures { result ≡ handed_scrubbed (scrubbed_of dividing p (uncut tan)) }
 {
-    let housing = p.housing_type;
-    let scrubber = p.air_scrubber;
-    let share = parameters::share_indoor(housing)
-        * parameters::red_air_scrubber(scrubber)
+    let share = parameters::share_indoor(p.housing_type)
+        * parameters::red_air_scrubber(p.air_scrubber)
         * HUNDREDTH;
     let before = factors::ef_housing_indoor_before_air_scrubber(p);
     let of_tan = amounts::portion(tan, share, BILLIONTHS);
@@ -33,14 +32,13 @@ fn scrubbed_of(p: Pigs, tan: u64) -> Scrubbed
 }
 
 // What the herd's scrubber keeps back.
+#[tactic(auto, using(pig_house::proofs::Through::scrubber_steps))]
 pub fn kept_back(p: Pigs, tan: u64) -> Scrubbed
     requires { SoundPigs p × (tan < 2 ^ 32) }
     ensures { result ≡ handed_scrubbed (kept_back dividing p (uncut tan)) }
 {
-    let scrubber = p.air_scrubber;
-    match scrubber {
-        AirScrubber::Acid => no_pig_house::no_scrubbed(),
+    match p.air_scrubber {
         AirScrubber::Biotrickling => scrubbed_of(p, tan),
-        AirScrubber::None => no_pig_house::no_scrubbed(),
+        AirScrubber::Acid | AirScrubber::None => no_pig_house::no_scrubbed(),
     }
 }

@@ -1,5 +1,7 @@
 // 2.51, ef_nh3_nhousing and what it is made of, in billionths. Each product is cut before the next, in the order of the
 // page.
+#![tactic(auto, using(pig_house::proofs::Factor::factor_steps, kinds::proofs::Leaves::free_steps))]
+
 ghost use Rattle.std.specs.Prelude.{◌≡◌};
 ghost use Rattle.cut_division.specs.Cut.{least};
 ghost use Rattle.amounts.specs.Units.{billionths};
@@ -24,13 +26,11 @@ use pig_house::PigFactors;
 const C_AREA: u64 = 1;
 
 // The ceiling of 1.
+#[tactic(auto, using(amounts::proofs::Amounts::up_to_ceiling))]
 fn at_most_one(factor: u64) -> u64
     ensures { UpTo billionths (least factor billionths) result }
 {
-    if BILLIONTHS < factor {
-        return BILLIONTHS;
-    }
-    factor
+    factor.min(BILLIONTHS)
 }
 
 // er_housing × c_area × c_free_factor_housing.
@@ -38,8 +38,7 @@ fn before_with_free(p: Pigs) -> Quotient
     requires { SoundPigs p }
     ensures { FactorOf (before_with_free dividing p) result }
 {
-    let housing = p.housing_type;
-    let rate = parameters::er_housing(housing) * C_AREA;
+    let rate = parameters::er_housing(p.housing_type) * C_AREA;
     let left = kinds::free::c_free_factor(p.free_correction_factor);
     amounts::portion_to_twice(rate, left, PERCENT)
 }
@@ -49,12 +48,9 @@ fn before_with_air(p: Pigs) -> Quotient
     requires { SoundPigs p }
     ensures { FactorOf (before_with_air dividing p) result }
 {
-    let floor = p.mitigation_housing_floor;
-    let air = p.mitigation_housing_air;
-    let left = (1 - parameters::red_housing_floor(floor))
-        * (TENTHS - parameters::red_housing_air(air));
-    let before = before_with_free(p);
-    amounts::portion(before.whole, left, TENTHS)
+    let left = (1 - parameters::red_housing_floor(p.mitigation_housing_floor))
+        * (TENTHS - parameters::red_housing_air(p.mitigation_housing_air));
+    amounts::portion(before_with_free(p).whole, left, TENTHS)
 }
 
 // Then the ceiling.
@@ -62,8 +58,7 @@ pub fn ef_housing_indoor_before_air_scrubber(p: Pigs) -> u64
     requires { SoundPigs p }
     ensures { UpTo billionths (ef_housing_indoor_before_air_scrubber cutting p) result }
 {
-    let before = before_with_air(p);
-    at_most_one(before.whole)
+    at_most_one(before_with_air(p).whole)
 }
 
 // And what a scrubber leaves of it.
@@ -71,13 +66,8 @@ fn with_scrubber(p: Pigs) -> Quotient
     requires { SoundPigs p }
     ensures { FactorOf (with_scrubber dividing p) result }
 {
-    let scrubber = p.air_scrubber;
-    let before = ef_housing_indoor_before_air_scrubber(p);
-    amounts::portion(
-        before,
-        TENTHS - parameters::red_air_scrubber(scrubber),
-        TENTHS,
-    )
+    let left = TENTHS - parameters::red_air_scrubber(p.air_scrubber);
+    amounts::portion(ef_housing_indoor_before_air_scrubber(p), left, TENTHS)
 }
 
 // Then the ceiling.
@@ -85,8 +75,7 @@ fn ef_housing_indoor(p: Pigs) -> u64
     requires { SoundPigs p }
     ensures { UpTo billionths (ef_housing_indoor cutting p) result }
 {
-    let indoor = with_scrubber(p);
-    at_most_one(indoor.whole)
+    at_most_one(with_scrubber(p).whole)
 }
 
 // er_housing × c_free_factor_housing × c_area.
@@ -94,8 +83,7 @@ fn grazing_with_free(p: Pigs) -> Quotient
     requires { SoundPigs p }
     ensures { FactorOf (grazing_with_free dividing p) result }
 {
-    let housing = p.housing_type;
-    let rate = parameters::er_housing(housing);
+    let rate = parameters::er_housing(p.housing_type);
     let left = kinds::free::c_free_factor(p.free_correction_factor);
     amounts::portion_to_twice(rate, left * C_AREA, PERCENT)
 }
@@ -105,26 +93,23 @@ fn ef_housing_grazing(p: Pigs) -> u64
     requires { SoundPigs p }
     ensures { UpTo billionths (ef_housing_grazing cutting p) result }
 {
-    let grazing = grazing_with_free(p);
-    at_most_one(grazing.whole)
+    at_most_one(grazing_with_free(p).whole)
 }
 
 fn indoor_part(p: Pigs) -> Quotient
     requires { SoundPigs p }
     ensures { FactorOf (indoor_part dividing p) result }
 {
-    let housing = p.housing_type;
-    let indoor = ef_housing_indoor(p);
-    amounts::portion(indoor, parameters::share_indoor(housing), TENTHS)
+    let share = parameters::share_indoor(p.housing_type);
+    amounts::portion(ef_housing_indoor(p), share, TENTHS)
 }
 
 fn grazing_part(p: Pigs) -> Quotient
     requires { SoundPigs p }
     ensures { FactorOf (grazing_part dividing p) result }
 {
-    let housing = p.housing_type;
-    let grazing = ef_housing_grazing(p);
-    amounts::portion(grazing, TENTHS - parameters::share_indoor(housing), TENTHS)
+    let share = TENTHS - parameters::share_indoor(p.housing_type);
+    amounts::portion(ef_housing_grazing(p), share, TENTHS)
 }
 
 // The part of the TAN that the house emits: both parts, and then the ceiling.
@@ -132,9 +117,7 @@ pub fn ef_nh3_nhousing(p: Pigs) -> u64
     requires { SoundPigs p }
     ensures { UpTo billionths (ef_nh3_nhousing cutting p) result }
 {
-    let indoor = indoor_part(p);
-    let grazing = grazing_part(p);
-    at_most_one(indoor.whole + grazing.whole)
+    at_most_one(indoor_part(p).whole + grazing_part(p).whole)
 }
 
 // Each quotient on the way.

@@ -2,7 +2,7 @@
 ghost use Rattle.std.specs.Prelude.{◌≡◌};
 ghost use Rattle.amounts.specs.Units.{tenths, billionths};
 ghost use Rattle.amounts.specs.Bounds.{UpTo};
-ghost use Rattle.pig_house.specs.Parameters.{slurry_rates, solid_rates, no_rates, row_of};
+ghost use Rattle.pig_house.specs.Parameters.{nxox_rates, slurry_rates, solid_rates, no_rates, row_of};
 ghost use Rattle.pig_house.specs.Parameters.{er_housing, share_liquid, share_indoor, rates_of};
 ghost use Rattle.pig_house.specs.Parameters.{red_air_scrubber, red_housing_floor, red_housing_air};
 ghost use Rattle.pig_house.specs.Bounds.{NxOxRatesOf};
@@ -22,61 +22,56 @@ const THOUSANDTH: u64 = 1000000;
 
 // ---- the gases of 2.62, in ten-thousandths
 
+// The same rates from both fractions.
+fn of_both(n2: u64, no: u64, n2o: u64) -> NxOxRates
+    ensures { result ≡ nxox_rates n2 no n2o n2 no n2o }
+{
+    NxOxRates {
+        er_n2_nsolid: n2,
+        er_no_nsolid: no,
+        er_n2o_nsolid: n2o,
+        er_n2_nliquid: n2,
+        er_no_nliquid: no,
+        er_n2o_nliquid: n2o,
+    }
+}
+
 // er_…_solid_Slurry and er_…_liquid_Slurry.
 fn slurry_rates() -> NxOxRates
     ensures { result ≡ slurry_rates }
 {
-    NxOxRates {
-        er_n2_nsolid: 200,
-        er_no_nsolid: 20,
-        er_n2o_nsolid: 20,
-        er_n2_nliquid: 200,
-        er_no_nliquid: 20,
-        er_n2o_nliquid: 20,
-    }
+    of_both(200, 20, 20)
 }
 
 // er_…_solid_Solid and er_…_liquid_Solid.
 fn solid_rates() -> NxOxRates
     ensures { result ≡ solid_rates }
 {
-    NxOxRates {
-        er_n2_nsolid: 500,
-        er_no_nsolid: 100,
-        er_n2o_nsolid: 100,
-        er_n2_nliquid: 500,
-        er_no_nliquid: 100,
-        er_n2o_nliquid: 100,
-    }
+    of_both(500, 100, 100)
 }
 
 // Outdoors there are none.
 fn no_rates() -> NxOxRates
     ensures { result ≡ no_rates }
 {
-    NxOxRates {
-        er_n2_nsolid: 0,
-        er_no_nsolid: 0,
-        er_n2o_nsolid: 0,
-        er_n2_nliquid: 0,
-        er_no_nliquid: 0,
-        er_n2o_nliquid: 0,
-    }
+    of_both(0, 0, 0)
 }
 
 // ---- the types of housing, a row each, under its section
 
-fn row(er: u64, liquid: u64, indoor: u64, rates: NxOxRates) -> HousingRow
-    ensures { result ≡ record { er = er; share_liquid = liquid; share_indoor = indoor; rates = rates } }
+fn row(er: u64, share_liquid: u64, share_indoor: u64, rates: NxOxRates) -> HousingRow
+    ensures { result
+        ≡ record { er = er; share_liquid = share_liquid; share_indoor = share_indoor; rates = rates } }
 {
     HousingRow {
         er,
-        share_liquid: liquid,
-        share_indoor: indoor,
+        share_liquid,
+        share_indoor,
         rates,
     }
 }
 
+#[tactic(auto, using(pig_house::proofs::Factor::row_steps))]
 fn row_of(housing: HousingType) -> HousingRow
     ensures { result ≡ row_of housing }
 {
@@ -90,35 +85,35 @@ fn row_of(housing: HousingType) -> HousingRow
 }
 
 // The emission rate, in billionths.
+#[tactic(auto, using(pig_house::proofs::Factor::row_steps))]
 pub fn er_housing(housing: HousingType) -> u64
     ensures { UpTo billionths (er_housing housing) result }
 {
-    let row = row_of(housing);
-    row.er * THOUSANDTH
+    row_of(housing).er * THOUSANDTH
 }
 
 // The part that leaves the house as slurry: all or nothing.
+#[tactic(auto, using(pig_house::proofs::Factor::row_steps))]
 pub fn share_liquid(housing: HousingType) -> u64
     ensures { UpTo 1 (share_liquid housing) result }
 {
-    let row = row_of(housing);
-    row.share_liquid
+    row_of(housing).share_liquid
 }
 
 // The part that mitigation indoors reaches, in tenths.
+#[tactic(auto, using(pig_house::proofs::Factor::row_steps))]
 pub fn share_indoor(housing: HousingType) -> u64
     ensures { UpTo tenths (share_indoor housing) result }
 {
-    let row = row_of(housing);
-    row.share_indoor
+    row_of(housing).share_indoor
 }
 
 // The rates of the gases.
+#[tactic(auto, using(pig_house::proofs::Fractions::fraction_steps))]
 pub fn rates_of(housing: HousingType) -> NxOxRates
     ensures { NxOxRatesOf (rates_of housing) result }
 {
-    let row = row_of(housing);
-    row.rates
+    row_of(housing).rates
 }
 
 // ---- the other names
@@ -135,6 +130,7 @@ pub fn red_air_scrubber(scrubber: AirScrubber) -> u64
 }
 
 // What a floor takes off: no selection is available.
+#[tactic(auto, using(pig_house::proofs::Factor::row_steps))]
 pub fn red_housing_floor(floor: HousingFloor) -> u64
     ensures { UpTo 1 (red_housing_floor floor) result }
 {

@@ -26,6 +26,7 @@ fn from_fraction(n: u64, n2: u64, no: u64, n2o: u64) -> FromFraction
 }
 
 // The gases of a house into which so much N goes.
+#[tactic(auto, using(pig_house::proofs::Fractions::fraction_steps))]
 pub fn nx_ox(housing: HousingType, n: u64) -> NxOx
     requires { n < 2 ^ 32 }
     ensures { result ≡ handed_nx_ox (nx_ox dividing housing (uncut n)) }
@@ -36,18 +37,12 @@ pub fn nx_ox(housing: HousingType, n: u64) -> NxOx
     let r = parameters::rates_of(housing);
     let s = from_fraction(solid, r.er_n2_nsolid, r.er_no_nsolid, r.er_n2o_nsolid);
     let l = from_fraction(liquid, r.er_n2_nliquid, r.er_no_nliquid, r.er_n2o_nliquid);
-    let n2_nsolid = s.n2;
-    let no_nsolid = s.no;
-    let n2o_nsolid = s.n2o;
-    let n2_nliquid = l.n2;
-    let no_nliquid = l.no;
-    let n2o_nliquid = l.n2o;
     NxOx {
-        n2_nsolid,
-        no_nsolid,
-        n2o_nsolid,
-        n2_nliquid,
-        no_nliquid,
-        n2o_nliquid,
+        n2_nsolid: s.n2,
+        no_nsolid: s.no,
+        n2o_nsolid: s.n2o,
+        n2_nliquid: l.n2,
+        no_nliquid: l.no,
+        n2o_nliquid: l.n2o,
     }
 }

@@ -1,10 +1,9 @@
 -- 2.51, the emission factor: each product on the way is the definition's, and each factor at most 1. Assumes nothing.
 use mathlib.Core.Path.{◌≡◌, refl, ap, ◌∙◌}
-use Prim.Native.Nat.{ℕ, ◌+◌, ◌-◌, ◌*◌, ◌≤◌, ◌<◌}
+use Prim.Native.Nat.{ℕ, ◌+◌, ◌-◌, ◌*◌, ◌≤◌}
 use native.Mathlib.Nat.{le_trans, le_refl}
 use native.Mathlib.Omega.{arith}
 use Rattle.std.proofs.Common.{zero-le}
-use borrow.Author.Tests.{lt-ltb, le-ltb}
 use mir.Syntax.{w64}
 use mir.Val.{Fits}
 use Rattle.cut_division.specs.declared.Quotient.{Quotient}
@@ -54,16 +53,6 @@ use Rattle.pig_house.specs.PigHouse.{
   handed_pig_factors,
 }
 use Rattle.pig_house.specs.Bounds.{FactorOf}
-
--- ---- the ceiling
-
-pub above-one : (f : ℕ) → billionths < f → UpTo billionths (least f billionths) billionths
-above-one f h = record { is = rw (lt-ltb billionths f h) refl; most = le_refl billionths }
-
-pub below_one : (f : ℕ) → f ≤ billionths → UpTo billionths (least f billionths) f
-below_one f h = record { is = rw (le-ltb billionths f h) refl; most = h }
-
-pub ruleset ceiling_steps = (above-one, below_one)
 
 -- ---- the rates, and the shares, at most 1
 
@@ -117,11 +106,11 @@ module _ (t : HousingType) (r : HousingRow) (e : r ≡ row_of t) where
   pub is-share-indoor : UpTo tenths (share_indoor t) r.share_indoor
   is-share-indoor = rw e (record { is = refl; most = share-indoor-le t })
 
-pub ruleset row_steps = (er-fits, is-er, is-share-liquid, is-share-indoor)
-
 -- no selection of floors is available
 pub floor-takes-none : (f : HousingFloor) → UpTo 1 (red_housing_floor f) 0
 floor-takes-none floor.None = record { is = refl; most = zero-le }
+
+pub ruleset row_steps = (is_row, er-fits, is-er, is-share-liquid, is-share-indoor, floor-takes-none)
 
 module _ (floor air : ℕ) where
   pub left-fits : Fits w64 ((1 - floor) * (tenths - air))
@@ -249,6 +238,21 @@ module _ (p : Pigs) where
       (handed_pig_factors (pig_factors dividing p))
   are-factors a b c d e f ha hb hc hd he hf = rw (ha.is, hb.is, hc.is, hd.is, he.is, hf.is) refl
 
+pub ruleset factor_steps = (
+  left_steps,
+  is-before-free,
+  is-before-air,
+  is-before,
+  is_with_scrubber,
+  is-indoor,
+  is-grazing-free,
+  is-grazing,
+  is-indoor-part,
+  is-grazing-part,
+  is_ef,
+  are-factors,
+)
+
 pub are-no-factors : (q : Quotient) → q ≡ undivided 0
     → ◌≡◌ {A = PigFactors}
     (record {
@@ -261,3 +265,5 @@ pub are-no-factors : (q : Quotient) → q ≡ undivided 0
     })
     (handed_pig_factors (no_pig_factors dividing))
 are-no-factors q e = rw e refl
+
+pub ruleset no_factors_steps = (are-no-factors)

@@ -205,3 +205,5 @@ nxox-le t n =
       no_liquid = emitted-le l n (rates_of t).er_no_nliquid r.no_liquid;
       n2o_liquid = emitted-le l n (rates_of t).er_n2o_nliquid r.n2o_liquid;
     }
+
+pub ruleset fraction_steps = (is_all, are-fractions, is-no_house, are-rates, are-gases, are-no-gases)

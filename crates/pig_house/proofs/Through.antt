@@ -276,6 +276,8 @@ pub are-none-scrubbed : (q : Quotient) → q ≡ undivided 0
     (handed_scrubbed (no_scrubbed dividing))
 are-none-scrubbed q e = rw e refl
 
+pub ruleset none_scrubbed = (are-none-scrubbed)
+
 module _ (p : Pigs) (excreted n tan : ℕ) (nh3 : Quotient) (s : Scrubbed)
     (cn : PortionOf tan (ef_nh3_nhousing cutting p) billionths nh3)
     (es : s ≡ handed_scrubbed (kept_back dividing p (uncut excreted))) where

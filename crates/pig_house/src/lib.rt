@@ -6,7 +6,7 @@ use cut_division::Quotient;
 use housing::Housing;
 
 // What the emission factor is made of, and what an air scrubber keeps back: each quotient on the way.
-#[derive(Clone, Copy)]
+#[derive(Clone, Copy, Debug, PartialEq, Eq)]
 pub struct PigFactors {
     pub before_times_c_free_factor_housing: Quotient,
     pub before_times_red_housing_air: Quotient,
@@ -16,14 +16,14 @@ pub struct PigFactors {
     pub times_ef_housing_grazing: Quotient,
 }
 
-#[derive(Clone, Copy)]
+#[derive(Clone, Copy, Debug, PartialEq, Eq)]
 pub struct Scrubbed {
     pub times_tan_excretion: Quotient,
     pub times_ef_housing_indoor_before_air_scrubber: Quotient,
 }
 
 // What a pig house has beside what every house has.
-#[derive(Clone, Copy)]
+#[derive(Clone, Copy, Debug, PartialEq, Eq)]
 pub struct PigHouse {
     pub factors: PigFactors,
     pub scrubbed: Scrubbed,
@@ -34,14 +34,14 @@ pub struct PigHouse {
 }
 
 // A pig house as a house, and what it has beside.
-#[derive(Clone, Copy)]
+#[derive(Clone, Copy, Debug, PartialEq, Eq)]
 pub struct InPigHouse {
     pub housing: Housing,
     pub pig_house: PigHouse,
 }
 
 // 2.62, Technical Parameters, in ten-thousandths.
-#[derive(Clone, Copy)]
+#[derive(Clone, Copy, Debug, PartialEq, Eq)]
 pub struct NxOxRates {
     pub er_n2_nsolid: u64,
     pub er_no_nsolid: u64,
@@ -53,7 +53,7 @@ pub struct NxOxRates {
 
 // What a type of housing stands for: er of 2.53 to 2.57 in thousandths, share_liquid, all or nothing, share_indoor of
 // 2.52 in tenths, the rates of the gases.
-#[derive(Clone, Copy)]
+#[derive(Clone, Copy, Debug, PartialEq, Eq)]
 pub struct HousingRow {
     pub er: u64,
     pub share_liquid: u64,
@@ -62,7 +62,7 @@ pub struct HousingRow {
 }
 
 // The gases from one fraction.
-#[derive(Clone, Copy)]
+#[derive(Clone, Copy, Debug, PartialEq, Eq)]
 pub struct FromFraction {
     pub n2: Quotient,
     pub no: Quotient,
@@ -70,7 +70,7 @@ pub struct FromFraction {
 }
 
 // 2.62.
-#[derive(Clone, Copy)]
+#[derive(Clone, Copy, Debug, PartialEq, Eq)]
 pub struct NxOx {
     pub n2_nsolid: Quotient,
     pub no_nsolid: Quotient,

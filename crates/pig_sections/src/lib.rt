@@ -19,21 +19,18 @@ fn pigs_from(p: Pigs, n: u64) -> Sections
     requires { SoundPigs p × (n ≤ most_n) }
     ensures { result ≡ handed_sections (pigs_handed p (with_tan dividing n p.tan_fraction)) }
 {
-    let housing_type = p.housing_type;
     let e = excretion::excreted(n, p.tan_fraction);
-    let g = pasture::pigs_grazing(housing_type, e.n_excretion, e.tan_excretion.whole);
+    let g = pasture::pigs_grazing(p.housing_type, e.n_excretion, e.tan_excretion.whole);
     let n_in = e.n_excretion - g.into.n.whole;
     let tan_in = e.tan_excretion.whole - g.into.tan.whole;
     let house = house::in_pig_house(p, e.tan_excretion.whole, n_in, tan_in);
-    let h = house.housing;
-    let q = house.pig_house;
     Sections {
         excretion: e,
         yard: yard::no_yard(),
         grazing: g,
-        housing: h,
-        pig_house: q,
-        nx_ox: pig_gases::nx_ox(housing_type, n_in),
+        housing: house.housing,
+        pig_house: house.pig_house,
+        nx_ox: pig_gases::nx_ox(p.housing_type, n_in),
     }
 }
 

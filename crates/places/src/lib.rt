@@ -10,7 +10,7 @@ use progress::Effect;
 use records::entries;
 
 // What stands at a place of the file: its effect, the herd that is being read then, and the place past it.
-#[derive(Clone, Copy)]
+#[derive(Clone, Copy, Debug, PartialEq, Eq)]
 pub struct PlaceRead {
     pub effect: Effect,
     pub herd: Herd,
@@ -33,9 +33,11 @@ pub fn read_at(s: &[u8], place: ReaderPlace, herd: Herd) -> PlaceRead
         },
         Step::Record(f, next) => {
             let after = progress::effect_of(herd, entries::entry_of(s, f));
-            let effect = after.effect;
-            let herd = after.herd;
-            PlaceRead { effect, herd, next }
+            PlaceRead {
+                effect: after.effect,
+                herd: after.herd,
+                next,
+            }
         }
     }
 }

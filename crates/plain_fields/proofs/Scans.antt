@@ -7,6 +7,8 @@ use mathlib.Core.List.{List}
 use mathlib.Core.Bool.{Bool, true, false, true≢false}
 use mathlib.Core.Path.{◌≡◌, refl, sym, ap, ◌∙◌}
 use lib.ListN.{length, get_or, drop}
+use Rattle.std.proofs.Common.{inl, inr}
+use mathlib.Core.Logic.{◌⊎◌}
 use lib.Dec.{eqb}
 use native.Mathlib.Omega.{arith}
 use borrow.Author.Tests.{ne_eqb}
@@ -45,6 +47,17 @@ module _ (b : ℕ) where
     ne_eqb b quote (λ e. omega arith),
   )
 
+  pub ends-one : (b ≡ lf) ⊎ ((b ≡ cr) ⊎ ((b ≡ quote) ⊎ (b ≡ comma))) → true ≡ ends_plain b
+  unfolding ends_plain
+  ends-one (inl e) = rw e refl
+  ends-one (inr (inl e)) = rw e refl
+  ends-one (inr (inr (inl e))) = rw e refl
+  ends-one (inr (inr (inr e))) = rw e refl
+
+  pub ends-none : (b ≡ comma → ⊥) → (b ≡ cr → ⊥) → (b ≡ lf → ⊥) → (b ≡ quote → ⊥) → false ≡ ends_plain b
+  unfolding ends_plain
+  ends-none n1 n2 n3 n4 = simp (ne_eqb _ _ n1, ne_eqb _ _ n2, ne_eqb _ _ n3, ne_eqb _ _ n4)
+
   -- a byte of text is none that ends the field
   text-not : (k : ℕ) → ends_plain k ≡ true → ends_plain b ≡ false → b ≡ k → ⊥
   text-not k y n e = true≢false (sym y ∙ ap ends_plain (sym e) ∙ n)
@@ -81,11 +94,13 @@ module _ (s : List ℕ) (from i : ℕ) (X : FieldEnd) (inv : plain_from from i (
     unfolding plain_from
     plain-comma e = simp (rest_at s i h, plain_from, e) at inv
 
-    pub plain-cr : get_or s i 0 ≡ cr → (r : FieldEnd) → r ≡ line_from (place from i) (i + 1 + 1) (drop (i + 1) s) → r ≡ X
+    pub plain-cr : get_or s i 0 ≡ cr → (r : FieldEnd) → r ≡ line_from (place from i) (i + 1 + 1) (drop (i + 1) s)
+        → r ≡ X
     unfolding plain_from
     plain-cr e r q = q ∙ (simp (rest_at s i h, plain_from, e) at inv)
 
-    pub plain-broken : ends_plain (get_or s i 0) ≡ true → (get_or s i 0 ≡ comma → ⊥) → (get_or s i 0 ≡ cr → ⊥) → Broken ≡ X
+    pub plain-broken : ends_plain (get_or s i 0) ≡ true → (get_or s i 0 ≡ comma → ⊥) → (get_or s i 0 ≡ cr → ⊥)
+        → Broken ≡ X
     unfolding plain_from ends_plain
     plain-broken y n1 n2 =
         go (eqb (get_or s i 0) lf) (eqb (get_or s i 0) quote) _ (simp (ne_eqb _ _ n1, ne_eqb _ _ n2) at y)

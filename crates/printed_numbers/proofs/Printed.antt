@@ -1,5 +1,6 @@
 -- Every parameter of the formulas is the decimal that 001 prints: one test of the whole table, which antt computes,
 -- carried to each row. Assumes nothing.
+use Rattle.std.specs.Prelude.{None, Some}
 use Prim.Native.Nat.{ℕ, ◌^◌}
 use mathlib.Core.Bool.{Bool, false, ◌&&◌}
 use mathlib.Core.List.{map}
@@ -9,21 +10,19 @@ use Rattle.base.specs.Text.{bytes}
 use Rattle.base.specs.Each.{Each}
 use Rattle.base.proofs.Each.{each-passed}
 use Rattle.base.proofs.Table.{both_left, both_right}
-use Rattle.digits.specs.declared.Number.{Number}
-use Rattle.digits.specs.declared.Number.TheVariants.{Value, Unreadable}
 use Rattle.numbers.specs.Reading.{number_of, any_number_of, zero_from, whole_from}
-use Rattle.digits.specs.Digits.{point_from, fraction_from}
+use Rattle.digits.specs.Digits.{point_from, fraction_from, Number}
 use Rattle.names.specs.Names.{categories}
 use Rattle.tables.specs.Standards.{standard_of}
 use Rattle.printed_numbers.specs.Printed.{Printed, table, IsPrinted, standards, soluble_shares, keyed, name}
 
 abbrev pub is_value : ℕ → Number → Bool
-is_value n (Value v) = eqb v n
-is_value n Unreadable = false
+is_value n (Some v) = eqb v n
+is_value n None = false
 
-pub is-value : (n : ℕ) (r : Number) → T (is_value n r) → r ≡ Value n
-is-value n (Value v) t = ap Value (eqb→eq v n t)
-is-value n Unreadable t = absurd t
+pub is-value : (n : ℕ) (r : Number) → T (is_value n r) → r ≡ Some n
+is-value n (Some v) t = ap Some (eqb→eq v n t)
+is-value n None t = absurd t
 
 abbrev unit_right : Printed → Bool
 unit_right p = eqb (10 ^ p.unit.decimals) p.unit.in_one

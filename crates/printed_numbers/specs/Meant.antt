@@ -2,12 +2,10 @@
 -- for it. A name is looked up among those of its input, as reading does it; the choice is the one of the place where it
 -- is found, and the number is the parameter of the choice. The theorem over the table is `every-name_meant` of
 -- proofs/Meant: so no name is misspelt, and none stands for another's choice.
-use Rattle.std.specs.Prelude.{ℕ, List, [], ◌∷◌, ◌++◌, ◌≡◌}
+use Rattle.std.specs.Prelude.{ℕ, List, [], ◌∷◌, ◌++◌, ◌≡◌, Some}
 use Prim.Native.String.{String}
 use Rattle.base.specs.Text.{bytes}
-use Rattle.digits.specs.declared.Number.TheVariants.{Value}
 use Rattle.numbers.specs.Reading.{number_of}
-use Rattle.words.specs.declared.Found.TheVariants.{At}
 use Rattle.names.specs.declared.ValueList.{ValueList}
 use Rattle.names.specs.declared.ValueList.TheVariants.{
   Yards,
@@ -129,7 +127,7 @@ values = yards ++ floors ++ houses ++ mitigation
 -- reads as
 pub record IsMeant (m : Meant) : Type 0 where
   pub place : ℕ
-  pub found : find_name m.parameter.among (bytes m.value) ≡ At place
+  pub found : find_name m.parameter.among (bytes m.value) ≡ Some place
   pub reads :
       number_of (bytes m.text) m.parameter.unit.decimals (m.parameter.number_at place)
-      ≡ Value (m.parameter.number_at place)
+      ≡ Some (m.parameter.number_at place)

@@ -4,10 +4,9 @@
 -- dairy cows do not have (02, W9); and of the numbers inside their formulas those that
 -- have a name in ours. The theorem over the table is `every-parameter-printed` of proofs/Printed; `second/printed.py`
 -- looks each name and text up in 001.
-use Rattle.std.specs.Prelude.{ℕ, ◌^◌, List, [], ◌∷◌, ◌++◌, map, ◌≡◌, get_or}
+use Rattle.std.specs.Prelude.{ℕ, ◌^◌, List, [], ◌∷◌, ◌++◌, map, ◌≡◌, get_or, Some}
 use Prim.Native.String.{String}
 use Rattle.base.specs.Text.{bytes}
-use Rattle.digits.specs.declared.Number.TheVariants.{Value}
 use Rattle.numbers.specs.Reading.{number_of}
 use Rattle.words.specs.Find.{place_in}
 use Rattle.names.specs.Names.{yards, floors, housing_types, air_scrubbers, housing_floors, housing_airs}
@@ -231,11 +230,15 @@ pigs_grazing =
 abbrev pub pig_nx_ox : List Printed
 pig_nx_ox =
     prints "2.62" (out "er_n2_nsolid") "0" in_ten_thousandths (housing_of (λ t. (rates_of t).er_n2_nsolid) "Outdoor")
-    ∷ prints "2.62" (out "er_n2_nliquid") "0" in_ten_thousandths (housing_of (λ t. (rates_of t).er_n2_nliquid) "Outdoor")
+    ∷ prints "2.62" (out "er_n2_nliquid") "0" in_ten_thousandths
+    (housing_of (λ t. (rates_of t).er_n2_nliquid) "Outdoor")
     ∷ prints "2.62" (out "er_no_nsolid") "0" in_ten_thousandths (housing_of (λ t. (rates_of t).er_no_nsolid) "Outdoor")
-    ∷ prints "2.62" (out "er_no_nliquid") "0" in_ten_thousandths (housing_of (λ t. (rates_of t).er_no_nliquid) "Outdoor")
-    ∷ prints "2.62" (out "er_n2o_nsolid") "0" in_ten_thousandths (housing_of (λ t. (rates_of t).er_n2o_nsolid) "Outdoor")
-    ∷ prints "2.62" (out "er_n2o_nliquid") "0" in_ten_thousandths (housing_of (λ t. (rates_of t).er_n2o_nliquid) "Outdoor")
+    ∷ prints "2.62" (out "er_no_nliquid") "0" in_ten_thousandths
+    (housing_of (λ t. (rates_of t).er_no_nliquid) "Outdoor")
+    ∷ prints "2.62" (out "er_n2o_nsolid") "0" in_ten_thousandths
+    (housing_of (λ t. (rates_of t).er_n2o_nsolid) "Outdoor")
+    ∷ prints "2.62" (out "er_n2o_nliquid") "0" in_ten_thousandths
+    (housing_of (λ t. (rates_of t).er_n2o_nliquid) "Outdoor")
     ∷ prints "2.62" (tech "er_n2_solid_Slurry") "0.02" in_ten_thousandths slurry_rates.er_n2_nsolid
     ∷ prints "2.62" (tech "er_n2_solid_Solid") "0.05" in_ten_thousandths solid_rates.er_n2_nsolid
     ∷ prints "2.62" (tech "er_n2_liquid_Slurry") "0.02" in_ten_thousandths slurry_rates.er_n2_nliquid
@@ -329,7 +332,7 @@ table =
 -- what the theorem says of a row: its decimals make the unit, and the parameter is the number that the text reads as
 pub record IsPrinted (p : Printed) : Type 0 where
   pub unit_is : 10 ^ p.unit.decimals ≡ p.unit.in_one
-  pub reads : number_of (bytes p.text) p.unit.decimals p.parameter ≡ Value p.parameter
+  pub reads : number_of (bytes p.text) p.unit.decimals p.parameter ≡ Some p.parameter
 
 -- 2.84's key of a category, `standard_N_excretion_` and its name, and what a row has in its place
 abbrev pub keyed : String → String → List ℕ

@@ -1,4 +1,5 @@
 // Answers on standard output, a line each.
+use base::refusals::Refused;
 use farm::{Checked, Refusal};
 use written::Written;
 
@@ -27,22 +28,22 @@ pub fn kilograms(rt: &impl Print, grams: i64) {
 }
 
 fn refusal_line(rt: &impl Print, refusal: Refusal, record: usize) {
-    crate::print_refusal(rt, refusal, record);
+    let _ = crate::print_refusal(rt, refusal, record);
 }
 
 pub fn checked_line(rt: &impl Print, checked: Checked) {
     match checked {
-        Checked::Accepted => line(rt, b"accepted"),
-        Checked::Refused(refusal, record) => refusal_line(rt, refusal, record),
+        Ok(()) => line(rt, b"accepted"),
+        Err(Refused(refusal, record)) => refusal_line(rt, refusal, record),
     }
 }
 
 pub fn written_line(rt: &impl Print, written: Written) {
     match written {
-        Written::Length(n) => {
+        Ok(n) => {
             say(rt, b"length,");
             number(rt, n as u64);
         }
-        Written::Refused(refusal, record) => refusal_line(rt, refusal, record),
+        Err(Refused(refusal, record)) => refusal_line(rt, refusal, record),
     }
 }

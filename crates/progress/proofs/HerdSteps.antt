@@ -1,23 +1,21 @@
 -- What a record does to a herd, from the calls that look at it: each law in the form that a place of src/lib.rt
 -- wants. Assumes nothing.
+use Rattle.std.specs.Prelude.{Err, Ok}
 use Prim.Native.Nat.{ℕ, ◌<◌}
 use mathlib.Core.Path.{◌≡◌, refl, sym, ◌∙◌, ap}
 use mathlib.Core.Bool.{Bool, true, false, not}
 use lib.ListN.{get_or, set, replicate}
 use Rattle.inputs.specs.declared.Kind.{Kind}
-use Rattle.inputs.specs.Inputs.{same_kind}
 use Rattle.farm.specs.declared.Label.{Label}
 use Rattle.farm.specs.declared.Given.{Given}
 use Rattle.farm.specs.declared.Herd.{Herd}
 use Rattle.farm.specs.declared.Refusal.{Refusal}
-use Rattle.farm.specs.declared.Refusal.TheVariants.{OtherKind, GivenAlready}
 use Rattle.farm.specs.Limits.{slots}
 use Rattle.farm.specs.Labels.{same_label}
 use Rattle.farm.specs.Herds.{is_missing, no_slot}
-use Rattle.records.specs.declared.RecordRead.TheVariants as reads
 use Rattle.records.specs.declared.Entry.{Entry}
 use Rattle.records.specs.Entries.{HasSlot}
-use Rattle.progress.specs.declared.Effect.TheVariants.{Adds, Begins, Wrong}
+use Rattle.progress.specs.declared.Effect.TheVariants.{Begins, Wrong}
 use Rattle.progress.specs.declared.HerdAfter.{HerdAfter}
 use Rattle.progress.specs.Herds.{with_input, new_herd, has_input, after, adding_to, effect_of}
 
@@ -33,38 +31,18 @@ pub herd-new : (l : Label) (k : Kind) (slot : ℕ) (g : Given)
 unfolding new_herd with_input
 herd-new l k slot g = refl
 
--- ---- a record of the herd's own label: 10 and 11
-
-module _ (h : Herd) (k : Kind) (i : ℕ) (g : Given) {b : Bool} (q : b ≡ same_kind h.kind k) where
-  pub other_kind : not b ≡ true → after (Wrong OtherKind) h ≡ adding_to h k i g
-  unfolding adding_to
-  other_kind n = simp (adding_to, sym q, n)
-
-  module _ (same : not b ≡ false) {r : Bool} (w : r ≡ has_input h i) where
-    pub given_already : r ≡ true → after (Wrong GivenAlready) h ≡ adding_to h k i g
-    unfolding adding_to
-    given_already e = simp (adding_to, sym q, same, sym w ∙ e)
-
-    pub adds : r ≡ false
-        → after Adds (record { label = h.label; kind = h.kind; slots = set h.slots i (record { given = g }) })
-        ≡ adding_to h k i g
-    unfolding adding_to with_input
-    adds e = simp (adding_to, sym q, same, sym w ∙ e)
-
-pub ruleset adding_steps = (other_kind, given_already, adds)
-
 -- ---- what a record does to the herd being read
 
 module _ (h : Herd) (e : Entry) where
-  pub effect_wrong : {refusal : Refusal} → e.read ≡ reads.Wrong refusal → after (Wrong refusal) h ≡ effect_of h e
+  pub effect_wrong : {refusal : Refusal} → e.read ≡ Err refusal → after (Wrong refusal) h ≡ effect_of h e
   unfolding effect_of
   effect_wrong t = simp (effect_of, t)
 
-  module _ {k : Kind} {i : ℕ} {g : Given} (t : e.read ≡ reads.Gives k i g) where
+  module _ {k : Kind} {i : ℕ} {g : Given} (t : e.read ≡ Ok (k, i, g)) where
     pub slot-inside : HasSlot e.read → i < slots
     slot-inside l = go (rw t at l)
       where
-        go : {k : Kind} {i : ℕ} {g : Given} → HasSlot (reads.Gives k i g) → i < slots
+        go : {k : Kind} {i : ℕ} {g : Given} → HasSlot (Ok (k, i, g)) → i < slots
         go (HasSlot.gives b) = b
 
     module _ {r : Bool} (w : r ≡ same_label h.label e.label) where

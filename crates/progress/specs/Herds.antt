@@ -1,7 +1,7 @@
 -- What a record does to the herd being read: it adds an input, begins another herd, or is refused with 10 or 11. It
 -- mirrors the code for its contracts; what 10 and 11 mean is said of the records in `rules_theorems/specs`, and proved
 -- to be the same there.
-use Rattle.std.specs.Prelude.{ℕ, Bool, not, [], ◌∷◌, get_or, set, replicate}
+use Rattle.std.specs.Prelude.{ℕ, Bool, not, [], ◌∷◌, get_or, set, replicate, Err, Ok}
 use Rattle.base.specs.Pick.{pick}
 use Rattle.base.specs.First.{◌when◌, first}
 use Rattle.inputs.specs.declared.Kind.{Kind}
@@ -13,9 +13,8 @@ use Rattle.farm.specs.declared.Refusal.TheVariants.{OtherKind, GivenAlready}
 use Rattle.farm.specs.Limits.{slots}
 use Rattle.farm.specs.Labels.{same_label}
 use Rattle.farm.specs.Herds.{is_missing, no_slot}
-use Rattle.records.specs.declared.RecordRead.{RecordRead}
-use Rattle.records.specs.declared.RecordRead.TheVariants as reads
 use Rattle.records.specs.declared.Entry.{Entry}
+use Rattle.records.specs.Entries.{RecordRead}
 use Rattle.progress.specs.declared.Effect.{Effect}
 use Rattle.progress.specs.declared.Effect.TheVariants.{Adds, Begins, Wrong}
 use Rattle.progress.specs.declared.HerdAfter.{HerdAfter}
@@ -44,8 +43,8 @@ adding_to h k slot g =
 
 -- what a record of this label does that says this
 abbrev pub effect_by : Herd → Label → RecordRead → HerdAfter
-effect_by h l (reads.Wrong refusal) = after (Wrong refusal) h
-effect_by h l (reads.Gives k slot g) =
+effect_by h l (Err refusal) = after (Wrong refusal) h
+effect_by h l (Ok (k, slot, g)) =
     pick (same_label h.label l) (adding_to h k slot g) (after Begins (new_herd l k slot g))
 
 unfoldable pub effect_of : Herd → Entry → HerdAfter

@@ -8,11 +8,11 @@ ghost use Rattle.progress.specs.Herds.{new_herd, has_input, adding_to, effect_of
 
 use farm::{Given, Herd, Label, Refusal, SLOTS, Slot, herds, labels};
 use inputs::Kind;
-use records::{Entry, RecordRead};
+use records::Entry;
 
 // What comes next does to the herd being read: it is a record that adds to it, that begins another, or that is wrong;
 // or the file ends.
-#[derive(Clone, Copy)]
+#[derive(Clone, Copy, Debug, PartialEq, Eq)]
 pub enum Effect {
     Adds,
     Begins,
@@ -21,7 +21,7 @@ pub enum Effect {
 }
 
 // The effect, and the herd that is being read then.
-#[derive(Clone, Copy)]
+#[derive(Clone, Copy, Debug, PartialEq, Eq)]
 pub struct HerdAfter {
     pub effect: Effect,
     pub herd: Herd,
@@ -48,18 +48,16 @@ fn has_input(h: Herd, slot: usize) -> bool
     requires { slot < slots }
     ensures { result ≡ has_input h slot }
 {
-    let there = h.slots[slot];
-    let given = there.given;
-    !herds::is_missing(given)
+    !herds::is_missing(h.slots[slot].given)
 }
 
 // A record of the herd's own label: 10, 11, or one input more.
+#[tactic(auto, unfolding(crate::specs::Herds::adding_to, crate::specs::Herds::with_input))]
 fn adding_to(h: Herd, kind: Kind, slot: usize, given: Given) -> HerdAfter
     requires { slot < slots }
     ensures { result ≡ adding_to h kind slot given }
 {
-    let own = h.kind;
-    if !inputs::same_kind(own, kind) {
+    if h.kind != kind {
         return HerdAfter {
             effect: Effect::Wrong(Refusal::OtherKind),
             herd: h,
@@ -83,20 +81,19 @@ pub fn effect_of(h: Herd, entry: Entry) -> HerdAfter
     requires { HasSlot entry.read }
     ensures { result ≡ effect_of h entry }
 {
-    let label = entry.label;
-    let read = entry.read;
-    match read {
-        RecordRead::Wrong(refusal) => HerdAfter {
+    match entry.read {
+        Err(refusal) => HerdAfter {
             effect: Effect::Wrong(refusal),
             herd: h,
         },
-        RecordRead::Gives(kind, slot, given) => {
-            if labels::same_label(h.label, label) {
-                return adding_to(h, kind, slot, given);
-            }
-            HerdAfter {
-                effect: Effect::Begins,
-                herd: new_herd(label, kind, slot, given),
+        Ok((kind, slot, given)) => {
+            if labels::same_label(h.label, entry.label) {
+                adding_to(h, kind, slot, given)
+            } else {
+                HerdAfter {
+                    effect: Effect::Begins,
+                    herd: new_herd(entry.label, kind, slot, given),
+                }
             }
         }
     }

@@ -90,7 +90,8 @@ unlimited notes text e = clash cc
 unlimited cuts text e = clash cc
 unlimited reasons text e = clash cc
 
-herd-reads : (t : Recorded) (h : Herd) → GoodHerd h → RecordsOf (field_count t) (herd_records t h) (herd_text (view_of t) h)
+herd-reads : (t : Recorded) (h : Herd) → GoodHerd h
+    → RecordsOf (field_count t) (herd_records t h) (herd_text (view_of t) h)
 unfolding herd_text
 herd-reads figures h good = listing-reads h.label h.kind (herd_figures h) good.label
 herd-reads notes h good = notes-read h good.label

@@ -9,7 +9,7 @@ use Rattle.kinds.specs.declared.Roughage.{Roughage}
 use Rattle.kinds.specs.declared.Cattle.{Cattle}
 use Rattle.kinds.specs.declared.Inputs.TheVariants as kinds
 use Rattle.farm.specs.declared.Herd.{Herd}
-use Rattle.farm.specs.declared.Checked.TheVariants.{Accepted}
+use Rattle.farm.specs.Answers.{Accepted}
 use Rattle.checks.specs.Checks.{check_herd}
 use Rattle.typed_inputs.specs.Typed.{typed_of}
 use Rattle.housing.specs.Housing.{c_grazing, with_rate, uncapped}
@@ -28,7 +28,8 @@ module _ (h : Herd) (accepted : check_herd h ≡ Accepted) (c : Cattle) (is-catt
   answered-yard-exactly = rw (accepted, is-cattle) (yard-exactly c)
 
   pub answered-pasture-exactly : Same (exact_figure "n_into_grazing" (typed_of h))
-      (and_over (figure "n_into_grazing" (herd_answer h).figures) (cut_off "n_into_grazing" (herd_answer h).cuts) 876000)
+      (and_over (figure "n_into_grazing" (herd_answer h).figures)
+      (cut_off "n_into_grazing" (herd_answer h).cuts) 876000)
   unfolding herd_answer
   answered-pasture-exactly = rw (accepted, is-cattle) (pasture-exactly c)
 

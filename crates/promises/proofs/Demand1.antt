@@ -3,6 +3,7 @@
 -- that a call's contract allows are equal. So of a record that is handed in. What a call says is told in 01's numbers,
 -- by `says` of crate `farm` and `says_of` of crate `written`; what the checks of a record say, by `herd-says` and
 -- `farm-says` of crate `checks`. Assumes nothing.
+use Rattle.std.specs.Prelude.{Ok, Err}
 use Prim.Native.Nat.{ℕ, ◌≤◌, ◌<◌}
 use mathlib.Core.Path.{◌≡◌, refl, sym, ap, ◌∙◌}
 use mathlib.Core.Bool.{Bool, true, false}
@@ -13,13 +14,13 @@ use lib.Dec.{leb}
 use lib.ListN.{length, drop}
 use Rattle.base.specs.Pick.{pick}
 use Rattle.base.proofs.Clash.{clash}
+use Rattle.base.specs.Refused.{refuse}
 use Rattle.farm.specs.declared.Herd.{Herd}
 use Rattle.farm.specs.declared.Farm.{Farm}
 use Rattle.farm.specs.declared.Refusal.{Refusal}
 use Rattle.farm.specs.declared.Refusal.TheVariants.{BufferTooShort}
-use Rattle.farm.specs.declared.Checked.{Checked}
-use Rattle.farm.specs.declared.Checked.TheVariants as checks
 use Rattle.farm.specs.Refusals.{number, Says, accepts, gives, refuses, says}
+use Rattle.farm.specs.Answers.{Accepted, Checked}
 use Rattle.checks.specs.Refusals.{herd, farm as farm-record, RecordGets}
 use Rattle.checks.proofs.Refuses.{record_gets}
 use Rattle.limits.specs.declared.Limits.{Limits}
@@ -50,9 +51,7 @@ use Rattle.rules_theorems.specs.Refusals.{
 use Rattle.rules_theorems.proofs.Accepts.{accepts-exactly}
 use Rattle.rules_theorems.proofs.Refuses.{Outcome, takes, gives as gives-first, outcome-of}
 use Rattle.model.specs.Answers.{herd_answer, farm_answer}
-use Rattle.written.specs.declared.Written.{Written}
-use Rattle.written.specs.declared.Written.TheVariants.{Length, Refused}
-use Rattle.written.specs.Answer.{leaves, answers, says_of}
+use Rattle.written.specs.Answer.{leaves, answers, says_of, Written}
 use Rattle.views.specs.declared.View.{View}
 use Rattle.views.specs.declared.Output.{Output}
 use Rattle.views.specs.Program.{read_for, ended_of, PutOutput}
@@ -129,21 +128,21 @@ pub data CallSays (c : Call) (old : List ℕ) : Says → Type 0 where
 
 module _ (c : Call) (old : List ℕ) where
   by-room : says c.checked ≡ accepts → (t : Bool) → leb (length c.listing) (length old) ≡ t
-      → CallSays c old (says_of (pick t (Length (length c.listing)) (Refused BufferTooShort 0)))
+      → CallSays c old (says_of (pick t (Ok (length c.listing)) (refuse BufferTooShort 0)))
   by-room a true e = listed a (leb-true _ _ e)
   by-room a false e = too_short a (leb-false _ _ e)
 
   by_finding : (k : Checked) → c.checked ≡ k → CallSays c old (says_of (answer_of k c.listing old))
   unfolding answers
-  by_finding checks.Accepted e = by-room (ap says e) (leb (length c.listing) (length old)) refl
-  by_finding (checks.Refused refusal n) e = as-found (ap says e)
+  by_finding Accepted e = by-room (ap says e) (leb (length c.listing) (length old)) refl
+  by_finding (Err refused) e = as-found (ap says e)
 
 pub call_says : {c : Call} {old new : List ℕ} {r : Written} → Called c old new r → CallSays c old (says_of r)
 call_says {c} {old} w = rw w.answer (by_finding c old c.checked refl)
 
 -- one that says a refusal, 13 too, leaves the buffer as it was
 fits_or_not : (listing old : List ℕ) (t : Bool) (k n : ℕ)
-    → says_of (pick t (Length (length listing)) (Refused BufferTooShort 0)) ≡ refuses k n
+    → says_of (pick t (Ok (length listing)) (refuse BufferTooShort 0)) ≡ refuses k n
     → pick t (listing ++ drop (length listing) old) old ≡ old
 fits_or_not listing old true k n e = clash cc
 fits_or_not listing old false k n e = refl
@@ -151,10 +150,11 @@ fits_or_not listing old false k n e = refl
 by_checks : (c : Checked) (listing old : List ℕ) (k n : ℕ) → says_of (answer_of c listing old) ≡ refuses k n
     → left c listing old ≡ old
 unfolding leaves answers
-by_checks checks.Accepted listing old k n e = fits_or_not listing old (leb (length listing) (length old)) k n e
-by_checks (checks.Refused f m) listing old k n e = refl
+by_checks Accepted listing old k n e = fits_or_not listing old (leb (length listing) (length old)) k n e
+by_checks (Err refused) listing old k n e = refl
 
-pub refusal-leaves : {c : Call} {old new : List ℕ} {r : Written} (k n : ℕ) → Called c old new r → says_of r ≡ refuses k n
+pub refusal-leaves : {c : Call} {old new : List ℕ} {r : Written} (k n : ℕ) → Called c old new r
+    → says_of r ≡ refuses k n
     → new ≡ old
 refusal-leaves {c} {old} {new} {r} k n w e = w.buffer
     ∙ by_checks c.checked c.listing old k n (sym (ap says_of w.answer) ∙ e)

@@ -1,6 +1,7 @@
 -- Demand 2: every figure equals what the published formulas and tables give, cut only where the rules name it; a file
 -- is accepted exactly when it keeps the file rules; the listing's bytes are fixed. The rows of 01 that are proved stand
 -- as one table in crate `model`, proofs/Edges. Assumes nothing.
+use Rattle.std.specs.Prelude.{Ok}
 use Prim.Native.Nat.{ℕ, ◌≤◌}
 use mathlib.Core.Path.{◌≡◌, ap, ◌∙◌}
 use mathlib.Core.Logic.{◌↔◌}
@@ -10,7 +11,7 @@ use borrow.Author.Tests.{le-leb}
 use Rattle.base.proofs.Each.{each_map}
 use Rattle.farm.specs.declared.Herd.{Herd}
 use Rattle.farm.specs.declared.Farm.{Farm}
-use Rattle.farm.specs.declared.Checked.TheVariants.{Accepted}
+use Rattle.farm.specs.Answers.{Accepted}
 use Rattle.checks.specs.Checks.{check_herd, check_farm, herds_of}
 use Rattle.checks.proofs.Accepts.{farm-each}
 use Rattle.limits.specs.declared.Source.{Source}
@@ -21,9 +22,7 @@ use Rattle.rules_theorems.proofs.Farms.{herds-of}
 use Rattle.rules_theorems.proofs.Accepts.{accepts-exactly}
 use Rattle.rules_theorems.proofs.Passing.{accepted-passes}
 use Rattle.model.specs.Answers.{herd_answer, farm_answer}
-use Rattle.written.specs.declared.Written.{Written}
-use Rattle.written.specs.declared.Written.TheVariants.{Length}
-use Rattle.written.specs.Answer.{leaves, answers}
+use Rattle.written.specs.Answer.{leaves, answers, Written}
 use Rattle.contracts.specs.Listings.{Call, Called}
 use Rattle.promises.specs.Formulas.{herd_gets, farm_gets, FileGets}
 
@@ -67,7 +66,7 @@ demand_2_figures source {s} {f} k =
 
 pub record Listed (listing old new : List ℕ) (r : Written) : Type 0 where
   pub bytes : new ≡ listing ++ drop (length listing) old
-  pub answer : r ≡ Length (length listing)
+  pub answer : r ≡ Ok (length listing)
 
 pub demand_2_listing : {c : Call} {old new : List ℕ} {r : Written} → Called c old new r → c.checked ≡ Accepted
     → length c.listing ≤ length old → Listed c.listing old new r

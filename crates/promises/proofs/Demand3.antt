@@ -12,7 +12,7 @@ use Rattle.cut_division.specs.Frac.{Within}
 use Rattle.cut_division.proofs.Near.{within_weaken}
 use Rattle.farm.specs.declared.Herd.{Herd}
 use Rattle.farm.specs.declared.Farm.{Farm}
-use Rattle.farm.specs.declared.Checked.TheVariants.{Accepted}
+use Rattle.farm.specs.Answers.{Accepted}
 use Rattle.checks.specs.Checks.{check_farm, herds_of}
 use Rattle.checks.proofs.Accepts.{farm-each}
 use Rattle.limits.specs.declared.Source.{Source}
@@ -50,7 +50,8 @@ typed_herds f = map typed_of (herds_of f)
 -- herd by herd: 40 grams for a herd of pigs and 20 for one of roughage where its housing enters the total, else 10
 abbrev pub TotalsWithinByHerd : Farm → Type 0
 TotalsWithinByHerd f = (t : ℕ)
-    → Within (promised_by_herd (typed_herds f) t) (grams_at (farm_answer f).totals.grams t) (exact_of_total (typed_herds f) t)
+    → Within (promised_by_herd (typed_herds f) t) (grams_at (farm_answer f).totals.grams t)
+    (exact_of_total (typed_herds f) t)
 
 pub demand_3_by-herd : (f : Farm) → (farm_answer f).checked ≡ Accepted → TotalsWithinByHerd f
 unfolding farm_answer

@@ -5,8 +5,8 @@ use mathlib.Core.Path.{◌≡◌, refl, ap, ◌∙◌}
 use mathlib.Core.List.{List, [], ◌∷◌}
 use Rattle.base.specs.Text.{bytes}
 use Rattle.inputs.specs.declared.Kind.TheVariants.{Pigs}
-use Rattle.farm.specs.declared.Checked.TheVariants.{Accepted}
 use Rattle.farm.specs.Labels.{label_of}
+use Rattle.farm.specs.Answers.{Accepted}
 use Rattle.limits.specs.declared.Source.TheVariants.{StandardInput}
 use Rattle.limits.specs.Limits.{limits_of}
 use Rattle.reader.specs.Files.{read_of, accepted}

@@ -9,9 +9,9 @@ use lib.Seq.{length-take-le}
 use Rattle.cut_division.specs.Frac.{Within}
 use Rattle.farm.specs.declared.Herd.{Herd}
 use Rattle.farm.specs.declared.Refusal.TheVariants.{NoRoomForHerd}
-use Rattle.farm.specs.declared.Checked.TheVariants.{Accepted, Refused}
 use Rattle.farm.specs.Limits.{herds_most}
 use Rattle.farm.specs.Refusals.{refuses, says}
+use Rattle.farm.specs.Answers.{Accepted}
 use Rattle.checks.specs.Checks.{check_farm, herds_of}
 use Rattle.lent.specs.Laid.{farm_in}
 use Rattle.lent.proofs.Loaded.{loaded_herds}
@@ -21,9 +21,7 @@ use Rattle.model.specs.declared.FarmAnswer.{FarmAnswer}
 use Rattle.model.specs.Answers.{farm_answer, herd_figures}
 use Rattle.nearness_theorems.specs.Promised.{promised_of_total, promised_by_herd}
 use Rattle.nearness_theorems.specs.Exact.{exact_of_total}
-use Rattle.written.specs.declared.Written.{Written}
-use Rattle.written.specs.declared.Written.TheVariants as writing
-use Rattle.written.specs.Answer.{says_of}
+use Rattle.written.specs.Answer.{says_of, Written}
 use Rattle.listing.specs.Listing.{totals_listing}
 use Rattle.contracts.specs.Listings.{Called, totals_call}
 use Rattle.contracts.specs.Files.{totals_text}
@@ -35,6 +33,7 @@ use Rattle.promises.specs.Formulas.{farm_gets}
 use Rattle.promises.proofs.Demand1.{Same, one-result}
 use Rattle.promises.proofs.Demand2.{demand_2_farm, Listed, demand_2_listing}
 use Rattle.promises.proofs.Demand3.{demand_3_farm, demand_3_by-herd}
+use Rattle.base.specs.Refused.{refuse}
 
 module _ (herds : List Herd) (count : ℕ) where
   -- ---- demand 1: no refusal applies; or the first that applies is given, with record 0
@@ -48,7 +47,7 @@ module _ (herds : List Herd) (count : ℕ) where
 
   -- a count beyond the slice, or beyond the herds that any farm may have
   module _ (b : Beyond herds count) where
-    pub beyond-refused : (totals_in herds count).checked ≡ Refused NoRoomForHerd 0
+    pub beyond-refused : (totals_in herds count).checked ≡ refuse NoRoomForHerd 0
     beyond-refused = checked ∙ beyond-checked b
 
     pub beyond-says : says (totals_in herds count).checked ≡ refuses 9 0
@@ -56,7 +55,7 @@ module _ (herds : List Herd) (count : ℕ) where
 
     -- and nothing is written
     pub beyond-writes-nothing : {old new : List ℕ} {r : Written} → Called (listing_in herds count) old new r
-        → (new ≡ old) × (r ≡ writing.Refused NoRoomForHerd 0)
+        → (new ≡ old) × (r ≡ refuse NoRoomForHerd 0)
     unfolding listing_in totals_call
     beyond-writes-nothing w = (rw (beyond-checked b) at w.buffer, rw (beyond-checked b) at w.answer)
 
@@ -101,7 +100,8 @@ module _ (herds : List Herd) (count : ℕ) where
     -- ---- demand 3: each total lies within what is promised of the herds
 
     pub demand_3_lent-by-herd : (t : ℕ)
-        → Within (promised_by_herd (map typed_of (take count herds)) t) (grams_at (totals_in herds count).totals.grams t)
+        → Within (promised_by_herd (map typed_of (take count herds)) t)
+        (grams_at (totals_in herds count).totals.grams t)
         (exact_of_total (map typed_of (take count herds)) t)
     unfolding totals_in
     demand_3_lent-by-herd t = rw the_first at (demand_3_by-herd (farm_in herds count) e t)

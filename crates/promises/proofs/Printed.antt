@@ -36,7 +36,8 @@ use Rattle.file_text.specs.Files.{input_text, record_text, inputs_text, herd_fil
 use Rattle.lines_figures.specs.Lines.{farm_listing}
 use Rattle.lines_notes.specs.Records.{notes_record}
 use Rattle.lines_cuts.specs.Lines.{cut_line, numbers_of as cut_numbers, cut_lines as herd_cuts}
-use Rattle.lines_reasons.specs.Lines.{tenths_of, numbers_of as why_numbers, why_record, days_words, shares_words, why_sentence}
+use Rattle.lines_reasons.specs.Lines.{tenths_of, numbers_of as why_numbers, why_record, days_words, shares_words}
+use Rattle.lines_reasons.specs.Lines.{why_sentence}
 use Rattle.views.specs.declared.View.{View}
 use Rattle.views.specs.declared.View.TheVariants.{Figures, Notes, Cuts, Reasons, Sentences, File}
 use Rattle.views.specs.Views.{herd_text, viewed, checked_for}
@@ -174,12 +175,16 @@ totals-are = farm_figured (farm_of four_herds)
     (accepted-passes StandardInput four_kinds (farm_of four_herds) four-kinds-read)
 
 viewed-whole : (v : View) → viewed v (farm_of four_herds) ≡ each bytes (lines_of v)
-unfolding viewed herd_text farm_listing herd_lines totals_listing line_of notes_record herd_cuts cut_line cut_numbers why_record
-    why_numbers why_sentence days_words shares_words tenths_of label_field has_comma label_of kilograms_of sign thousandths_of
-    whole_of width totals_of by_number farm_total figures_of notes_of cuts_of told_of reason_of typed_of roughage_of outdoor_of
+unfolding viewed herd_text farm_listing herd_lines totals_listing line_of notes_record herd_cuts cut_line cut_numbers
+    why_record
+    why_numbers why_sentence days_words shares_words tenths_of label_field has_comma label_of kilograms_of sign
+    thousandths_of
+    whole_of width totals_of by_number farm_total figures_of notes_of cuts_of told_of reason_of typed_of roughage_of
+    outdoor_of
     cattle_of pigs_of yard_at floor_at housing_at scrubber_at housing_floor_at housing_air_at standard_of
     days_with_grazing_and_yard share_lowered share_excretion_with_grazing yard_time outdoor_grazing_time
-    roughage_grazing_time k_of within_day k_at nearest growth_num growth_den exp_num exp_den herd_file inputs_text record_text
+    roughage_grazing_time k_of within_day k_at nearest growth_num growth_den exp_num exp_den herd_file inputs_text
+    record_text
     input_text value_text number_text signed_text name_text shortest pointed
 viewed-whole Figures = rw totals-are refl
 viewed-whole Notes = refl

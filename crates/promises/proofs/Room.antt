@@ -17,6 +17,7 @@ use Rattle.base.specs.Text.{bytes}
 use Rattle.base.specs.Part.{same_bytes}
 use Rattle.base.proofs.Clash.{clash}
 use Rattle.base.proofs.Each.{each_map}
+use Rattle.base.specs.Refused.{refuse}
 use Rattle.decimal.specs.Writing.{width, whole_of}
 use Rattle.kilogram_text.specs.Kilograms.{kilograms_of}
 use Rattle.decimal.proofs.Widths.{whole_length, width_small, width-step}
@@ -27,9 +28,9 @@ use Rattle.farm.specs.declared.Slot.{Slot}
 use Rattle.farm.specs.declared.Herd.{Herd}
 use Rattle.farm.specs.declared.Farm.{Farm}
 use Rattle.farm.specs.declared.Refusal.TheVariants.{FileTooLong}
-use Rattle.farm.specs.declared.Checked.TheVariants.{Accepted, Refused}
 use Rattle.farm.specs.Herds.{no_slot}
 use Rattle.farm.specs.Labels.{text, byte_ok, label_ok, same_label, label_of}
+use Rattle.farm.specs.Answers.{Accepted}
 use Rattle.herd_tests.specs.Tests.{lacks}
 use Rattle.fits.specs.Fits.{unfit}
 use Rattle.checks.specs.Checks.{herds_of, check_herd, check_farm}
@@ -105,7 +106,7 @@ limited-fits : (v : View) (f : Farm) (room : ℕ) → length (viewed v f) ≤ ro
 unfolding view_checked file_checked refusal_line whole_of width
 limited-fits v f room a b = go (has_limit v) (ltb cooperative_bytes (length (viewed v f)))
   where
-    go : (t u : Bool) → length (printed v (pick t (pick u (Refused FileTooLong 0) Accepted) Accepted) f) ≤ room
+    go : (t u : Bool) → length (printed v (pick t (pick u (refuse FileTooLong 0) Accepted) Accepted) f) ≤ room
     go true true = omega (arith, b)
     go true false = a
     go false u = a
@@ -202,7 +203,8 @@ abbrev herd_least : Herd → String → ℕ
 herd_least h n = 18 + length (module_of Pigs n) + length (bytes n) + amount_least (figure n (herd_figures h)) + 5
 
 herd-long : (i : ℕ) → 1756 ≤ length (listing_of (herd i))
-unfolding label_of label_field has_comma herd_lines typed_of pigs_of housing_at scrubber_at housing_floor_at housing_air_at
+unfolding label_of label_field has_comma herd_lines typed_of pigs_of housing_at scrubber_at housing_floor_at
+    housing_air_at
     figures_of
 herd-long i =
     le_trans (leb→le 1756 (sum_of (herd_least (herd i)) (lines_of Pigs)) tt)

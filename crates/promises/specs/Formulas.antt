@@ -3,7 +3,7 @@
 use Rattle.std.specs.Prelude.{ℕ, ◌≡◌, List, map}
 use Rattle.base.specs.Each.{Each}
 use Rattle.farm.specs.declared.Herd.{Herd}
-use Rattle.farm.specs.declared.Checked.TheVariants.{Accepted}
+use Rattle.farm.specs.Answers.{Accepted}
 use Rattle.limits.specs.declared.Source.{Source}
 use Rattle.limits.specs.Limits.{limits_of}
 use Rattle.reader.specs.Files.{read_of, accepted}

@@ -85,7 +85,8 @@ from-reads f (b ∷ c ∷ rest) t w (more h (more i a)) e r =
         → worse (pick t' (form_from rest) (worse (form_needed b) (form_from (c ∷ rest)))) f ≡ f
         → (worse (form_from rest) f ≡ f → Reads f (shown_from f rest ++ t) (rest ++ w))
         → (worse (form_from (c ∷ rest)) f ≡ f → Reads f (shown_from f (c ∷ rest) ++ t) (c ∷ (rest ++ w)))
-        → Reads f (pick t' (b ∷ c ∷ shown_from f rest) (shown f b ++ shown_from f (c ∷ rest)) ++ t) (b ∷ c ∷ (rest ++ w))
+        → Reads f (pick t' (b ∷ c ∷ shown_from f rest) (shown f b ++ shown_from f (c ∷ rest)) ++ t)
+        (b ∷ c ∷ (rest ++ w))
     go true l e behind next = two l (behind e)
     go false l e behind next =
         let p = parts (form_needed b) (form_from (c ∷ rest)) f e in
@@ -101,7 +102,8 @@ name-reads s a Plain e h =
     rw (sym e) (subst (λ (x : List ℕ). Reads Plain (shown_from Plain s ++ []) x) (append-nil s) r)
 name-reads s a Quoted e h =
     let r = from-reads Quoted s (39 ∷ []) [] a h (closes end) in
-    rw (sym e) (subst (λ (x : List ℕ). Reads Plain (39 ∷ (shown_from Quoted s ++ (39 ∷ []))) x) (append-nil s) (opens r))
+    rw (sym e)
+    (subst (λ (x : List ℕ). Reads Plain (39 ∷ (shown_from Quoted s ++ (39 ∷ []))) x) (append-nil s) (opens r))
 name-reads s a Escaped e h =
     let r = from-reads Escaped s (39 ∷ []) [] a h (dollar_closes end) in
     rw (sym e)

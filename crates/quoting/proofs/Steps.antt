@@ -4,6 +4,8 @@ use mathlib.Core.Path.{◌≡◌, refl, sym, ap, subst, ◌∙◌}
 use mathlib.Core.Bool.{Bool, true, false}
 use mathlib.Core.List.{List, [], ◌∷◌, ◌++◌, append-nil}
 use native.Mathlib.Omega.{arith}
+use lib.Dec.{ltb}
+use borrow.Author.Tests.{le-ltb}
 use lib.ListN.{length, get_or, take, drop, length-drop, length-take}
 use lib.Seq.{drop-drop}
 use Rattle.base.specs.Part.{part}
@@ -23,12 +25,12 @@ use Rattle.quoting.specs.Units.{paired, unit_of, unit_form, unit_shown, quoted_m
 
 -- ---- one unit
 
-pub no-pair : (s : List ℕ) (i : ℕ) → i < length s → length s - i < 2 → false ≡ paired (drop i s)
+pub no-pair : (s : List ℕ) (i : ℕ) → i < length s → length s ≤ i + 1 → ltb (i + 1) (length s) ≡ paired (drop i s)
 no-pair s i h k =
-    let e : drop (i + 1) s ≡ [] = rest_end s (i + 1) (omega arith) in
-    sym (ap paired (rest_at s i h ∙ ap (λ (l : List ℕ). get_or s i 0 ∷ l) e))
+    let e : drop (i + 1) s ≡ [] = rest_end s (i + 1) k in
+    le-ltb (i + 1) (length s) k ∙ sym (ap paired (rest_at s i h ∙ ap (λ (l : List ℕ). get_or s i 0 ∷ l) e))
 
-pub two-there : (s : List ℕ) (i : ℕ) (r : Bool) → i < length s → 2 ≤ length s - i
+pub two-there : (s : List ℕ) (i : ℕ) (r : Bool) → i < length s → i + 1 < length s
     → r ≡ letter (get_or s i 0) (get_or s (i + 1) 0) → r ≡ paired (drop i s)
 two-there s i r h k e =
     let next : drop (i + 1) s ≡ get_or s (i + 1) 0 ∷ drop (i + 1 + 1) s = rest_at s (i + 1) (omega arith) in
@@ -225,7 +227,8 @@ module _ (f : Form) (old : List ℕ) (at : ℕ) (new : List ℕ) (r : ℕ) where
 pub ruleset quote_steps = (quote-opens, dollar_opens, quote-closes, escapes_close)
 
 pub all-put : (s old mid more new : List ℕ) (at a b r : ℕ) (f : Form) → f ≡ form_of s
-    → Wrote old at (opening f) mid a × (a ≤ at + 2) → Wrote mid a (shown_from f s) more b × (b ≤ a + byte_most * length s)
+    → Wrote old at (opening f) mid a × (a ≤ at + 2)
+    → Wrote mid a (shown_from f s) more b × (b ≤ a + byte_most * length s)
     → Wrote more b (closing f) new r × (r ≤ b + 1)
     → Wrote old at (quoted s) new r × (r ≤ at + quoted_most (length s))
 unfolding quoted

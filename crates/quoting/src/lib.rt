@@ -21,24 +21,13 @@ fn is_paired(s: &[u8], i: usize) -> bool
     requires { i < length s.now }
     ensures { result ≡ paired (drop i s.now) }
 {
-    if s.len() - i < 2 {
-        return false;
-    }
-    shown_bytes::is_letter(s[i], s[i + 1])
+    i + 1 < s.len() && shown_bytes::is_letter(s[i], s[i + 1])
 }
 
 fn worse(a: Form, b: Form) -> Form
     ensures { result ≡ worse a b }
 {
-    match a {
-        Form::Plain => b,
-        Form::Quoted => match b {
-            Form::Plain => Form::Quoted,
-            Form::Quoted => Form::Quoted,
-            Form::Escaped => Form::Escaped,
-        },
-        Form::Escaped => Form::Escaped,
-    }
+    a.max(b)
 }
 
 // How many bytes the one at i stands with, and the form that they ask for.
@@ -46,10 +35,7 @@ fn unit_at(s: &[u8], i: usize) -> usize
     requires { i < length s.now }
     ensures { (result ≡ unit_of (drop i s.now)) × (0 < result) × (i + result ≤ length s.now) }
 {
-    if is_paired(s, i) {
-        return 2;
-    }
-    1
+    if is_paired(s, i) { 2 } else { 1 }
 }
 
 fn form_at(s: &[u8], i: usize) -> Form
@@ -57,9 +43,10 @@ fn form_at(s: &[u8], i: usize) -> Form
     ensures { result ≡ unit_form (drop i s.now) }
 {
     if is_paired(s, i) {
-        return Form::Plain;
+        Form::Plain
+    } else {
+        shown_bytes::form_needed(s[i])
     }
-    shown_bytes::form_needed(s[i])
 }
 
 // The form that the whole name asks for.
@@ -70,6 +57,7 @@ fn form_of(s: &[u8]) -> Form
         return Form::Quoted;
     }
     let mut form = Form::Plain;
+    // Not a `for`: a letter of two bytes is passed at once.
     let mut i = 0;
     while i < s.len() {
         form = worse(form, form_at(s, i));
@@ -84,9 +72,10 @@ fn put_unit(out: &mut [u8], at: usize, form: Form, s: &[u8], i: usize) -> usize
     ensures { Wrote out.old at (unit_shown form (drop i s.now)) out.new result }
 {
     if is_paired(s, i) {
-        return base::put(out, at, base::part_of(s, i, i + 2));
+        base::put(out, at, base::part_of(s, i, i + 2))
+    } else {
+        shown_bytes::put_shown(out, at, form, s[i])
     }
-    shown_bytes::put_shown(out, at, form, s[i])
 }
 
 fn put_units(out: &mut [u8], at: usize, form: Form, s: &[u8]) -> usize
@@ -95,6 +84,7 @@ fn put_units(out: &mut [u8], at: usize, form: Form, s: &[u8]) -> usize
         × (result ≤ at + byte_most * length s.now) }
 {
     let mut o = at;
+    // Not a `for`, as in `form_of`.
     let mut i = 0;
     while i < s.len() {
         o = put_unit(out, o, form, s, i);
@@ -120,8 +110,7 @@ fn put_closing(out: &mut [u8], at: usize, form: Form) -> usize
 {
     match form {
         Form::Plain => at,
-        Form::Quoted => base::put_byte(out, at, b'\''),
-        Form::Escaped => base::put_byte(out, at, b'\''),
+        Form::Quoted | Form::Escaped => base::put_byte(out, at, b'\''),
     }
 }
 

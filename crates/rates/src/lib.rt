@@ -9,7 +9,7 @@ ghost use Rattle.rates.specs.Bounds.{RatesOf};
 use kinds::CattleKind;
 
 // Emission rates in ten-thousandths, of NH3 from the TAN, of the others from the N.
-#[derive(Clone, Copy)]
+#[derive(Clone, Copy, Debug, PartialEq, Eq)]
 pub struct Rates {
     pub nh3: u64,
     pub n2: u64,
@@ -24,7 +24,8 @@ fn rates_of(nh3: u64, n2: u64, no: u64, n2o: u64) -> Rates
     Rates { nh3, n2, no, n2o }
 }
 
-// 2.35 and 2.20.
+// 2.35 and 2.20: each section has its own rates, alike as they are.
+#[tactic(auto, using(crate::proofs::Modest::rates_in))]
 pub fn cattle_rates(kind: CattleKind) -> Rates
     ensures { RatesOf (cattle_rates kind) result }
 {

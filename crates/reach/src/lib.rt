@@ -8,7 +8,7 @@ ghost use Rattle.reach.specs.Reach.{reach_of, further};
 
 // How far reading a file came: not into it, since it is too long; to a record that is refused; to the end, where
 // something is missing; or through it.
-#[derive(Clone, Copy)]
+#[derive(Clone, Copy, Debug, PartialEq, Eq)]
 pub enum Reach {
     TooLong,
     At(usize),
@@ -25,45 +25,15 @@ const INPUT_MISSING: u64 = 12;
 const WRONG_DATE: u64 = 14;
 
 // By a refusal's number and its record.
+#[tactic(auto, using(base::proofs::Picks::picks), unfolding(crate::specs::Reach::reach_of))]
 pub fn reach_of(number: u64, record: usize) -> Reach
     ensures { result ≡ reach_of number «record» }
 {
-    if number == FILE_TOO_LONG {
-        return Reach::TooLong;
-    }
-    if number == INPUT_MISSING {
-        return Reach::End;
-    }
-    if number == WRONG_DATE {
-        if record == 0 {
-            return Reach::End;
-        }
-        return Reach::At(record);
-    }
-    Reach::At(record)
-}
-
-// Did reading come further than to record n?
-fn is_past(n: usize, after: Reach) -> bool
-    ensures { result ≡ further (At n) after }
-{
-    match after {
-        Reach::TooLong => false,
-        Reach::At(m) => n < m,
-        Reach::End => true,
-        Reach::Through => true,
-    }
-}
-
-// Did it come further than to the end?
-fn is_through(after: Reach) -> bool
-    ensures { result ≡ further End after }
-{
-    match after {
-        Reach::TooLong => false,
-        Reach::At(_) => false,
-        Reach::End => false,
-        Reach::Through => true,
+    match number {
+        FILE_TOO_LONG => Reach::TooLong,
+        INPUT_MISSING => Reach::End,
+        WRONG_DATE if record == 0 => Reach::End,
+        _ => Reach::At(record),
     }
 }
 
@@ -71,20 +41,21 @@ fn is_through(after: Reach) -> bool
 fn is_further(before: Reach, after: Reach) -> bool
     ensures { result ≡ further before after }
 {
-    match before {
-        Reach::TooLong => false,
-        Reach::At(n) => is_past(n, after),
-        Reach::End => is_through(after),
-        Reach::Through => false,
+    match (before, after) {
+        (Reach::At(n), Reach::At(m)) => n < m,
+        (Reach::At(_), Reach::End | Reach::Through) | (Reach::End, Reach::Through) => true,
+        _ => false,
     }
 }
 
 // The number where reading came further, else 0.
+#[tactic(auto, using(base::proofs::Picks::picks))]
 pub fn if_further(before: Reach, after: Reach, changes: usize) -> usize
     ensures { result ≡ pick (further before after) changes 0 }
 {
     if is_further(before, after) {
-        return changes;
+        changes
+    } else {
+        0
     }
-    0
 }

@@ -1,6 +1,7 @@
 -- The code looks at 3 to 7, then at the label: where it is that of the herd being read at 10 and 11, else at 8 and 9.
 -- That gives the first that applies of 3 to 11 as they are listed, since 8 and 9 are of another label and 10 and 11 of
 -- the herd's own. Assumes nothing.
+use Rattle.std.specs.Prelude.{Err, Ok}
 use Prim.Native.Nat.{ℕ}
 use mathlib.Core.Path.{◌≡◌, refl, sym, ap, ◌∙◌, subst}
 use mathlib.Core.Bool.{Bool, true, false, true≢false, not, ◌&&◌}
@@ -21,11 +22,9 @@ use Rattle.farm.specs.Herds.{no_herd}
 use Rattle.farm.proofs.LabelTexts.{no-label}
 use Rattle.herd_tests.specs.Tests.{earlier_label}
 use Rattle.checks.specs.Checks.{herds_of}
-use Rattle.records.specs.declared.RecordRead.{RecordRead}
-use Rattle.records.specs.declared.RecordRead.TheVariants as reads
 use Rattle.progress.specs.declared.Effect.{Effect}
 use Rattle.progress.specs.declared.Effect.TheVariants.{Adds, Begins, Wrong}
-use Rattle.records.specs.Entries.{label_in, kind_in, slot_in, given_in, record_read, entry_of}
+use Rattle.records.specs.Entries.{label_in, kind_in, slot_in, given_in, record_read, entry_of, RecordRead}
 use Rattle.progress.specs.Herds.{with_input, new_herd, has_input, after, adding_to, effect_by, effect_of}
 use Rattle.records.proofs.RecordReads.{faults, decided, read_first, read-gives, input-good}
 use Rattle.reader.specs.declared.FileAnswer.{FileAnswer}
@@ -109,8 +108,8 @@ module _ (most n : ℕ) (p : Progress) (x : Parts) where
   read_effect : (t : RecordRead) → record_read x ≡ t
       → EffectSays most n p x (effect_by p.herd (label_in x) t).effect (effect_by p.herd (label_in x) t).herd
   unfolding record_read taken
-  read_effect (reads.Wrong refusal) e = EffectSays.wrong (read-lines e)
-  read_effect (reads.Gives m j v) e =
+  read_effect (Err refusal) e = EffectSays.wrong (read-lines e)
+  read_effect (Ok (m, j, v)) e =
       subst (λ (t : RecordRead). EffectSays most n p x (effect_by p.herd (label_in x) t).effect
       (effect_by p.herd (label_in x) t).herd) (read-gives k i g (faults x) e)
       (gives_effect (input-good x e) (is_current p x) refl (read-lines e) refl)

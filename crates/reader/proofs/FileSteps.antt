@@ -8,7 +8,6 @@ use Rattle.farm.specs.declared.Herd.{Herd}
 use Rattle.farm.specs.declared.Farm.{Farm}
 use Rattle.farm.specs.declared.Refusal.{Refusal}
 use Rattle.farm.specs.declared.Refusal.TheVariants.{InputMissing}
-use Rattle.farm.specs.declared.Checked.TheVariants.{Refused}
 use Rattle.farm.specs.Herds.{no_farm}
 use Rattle.herd_tests.specs.Tests.{lacks}
 use Rattle.next_herd.specs.Farms.{lacking_with, herds_so_far}
@@ -16,11 +15,12 @@ use Rattle.reader.specs.declared.files.Current.{Current}
 use Rattle.reader.specs.declared.FileAnswer.{FileAnswer}
 use Rattle.reader.specs.Files.{Progress, nothing_read, refused, accepted, lacking_now, closed, finished}
 use Rattle.reader.proofs.Progress.{progress, Underway}
+use Rattle.base.specs.Refused.{refuse}
 
 -- ---- a refusal
 
 pub gets_refusal : (n : ℕ) (refusal : Refusal) {f : Farm} → f ≡ no_farm
-    → record { checked = Refused refusal n; farm = f } ≡ refused n refusal
+    → record { checked = refuse refusal n; farm = f } ≡ refused n refusal
 gets_refusal n refusal e = cc
 
 -- ---- how many herds there are

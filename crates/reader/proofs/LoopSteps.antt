@@ -55,7 +55,8 @@ on_from most s place n p = read_from most n p (reading_of (drop place.at s))
 
 data PlaceSays (most : ℕ) (s : List ℕ) (place : ReaderPlace) (n : ℕ) (p : Progress) : Effect → Herd → ReaderPlace
     → Type 0 where
-  ends : {h : Herd} {next : ReaderPlace} → on_from most s place n p ≡ finished p → PlaceSays most s place n p Ends h next
+  ends : {h : Herd} {next : ReaderPlace} → on_from most s place n p ≡ finished p
+      → PlaceSays most s place n p Ends h next
   wrong : {refusal : Refusal} {h : Herd} {next : ReaderPlace} → on_from most s place n p ≡ refused n refusal
       → PlaceSays most s place n p (Wrong refusal) h next
   adds : {h : Herd} {next : ReaderPlace} → (p.herd ≡ no_herd → ⊥)

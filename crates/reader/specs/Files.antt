@@ -5,6 +5,7 @@
 use Rattle.std.specs.Prelude.{ℕ, ◌+◌, min, Bool, not, ◌&&◌, List, [], ◌∷◌, ◌++◌, length, set, eqb, leb, ltb}
 use Rattle.base.specs.Pick.{pick}
 use Rattle.base.specs.First.{Test, ◌when◌, first}
+use Rattle.base.specs.Refused.{refuse}
 use Rattle.grammar.specs.Reading.{Parts, parts_of, Reading, ◌then◌, end, broken, reading_of}
 use Rattle.inputs.specs.Inputs.{same_kind}
 use Rattle.farm.specs.declared.Herd.{Herd}
@@ -19,10 +20,10 @@ use Rattle.farm.specs.declared.Refusal.TheVariants.{
   GivenAlready,
   InputMissing,
 }
-use Rattle.farm.specs.declared.Checked.TheVariants.{Accepted, Refused}
 use Rattle.farm.specs.Limits.{herds_most}
 use Rattle.farm.specs.Labels.{same_label}
 use Rattle.farm.specs.Herds.{no_herd, no_farm}
+use Rattle.farm.specs.Answers.{Accepted}
 use Rattle.limits.specs.declared.Limits.{Limits}
 use Rattle.herd_tests.specs.Tests.{earlier_label}
 use Rattle.checks.specs.Checks.{herds_of}
@@ -32,7 +33,7 @@ use Rattle.next_herd.specs.Farms.{lacking_with}
 use Rattle.reader.specs.declared.FileAnswer.{FileAnswer}
 
 abbrev pub refused : ℕ → Refusal → FileAnswer
-refused record' refusal = record { checked = Refused refusal record'; farm = no_farm }
+refused record' refusal = record { checked = refuse refusal record'; farm = no_farm }
 
 abbrev pub accepted : Farm → FileAnswer
 accepted f = record { checked = Accepted; farm = f }

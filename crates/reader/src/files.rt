@@ -5,8 +5,9 @@ ghost use Rattle.farm.specs.Limits.{herds_most};
 ghost use Rattle.reader.specs.Files.{refused, nothing_read, read_from};
 
 use crate::FileAnswer;
+use base::refusals::Refused;
 use csv_reader::ReaderPlace;
-use farm::{Checked, Farm, HERDS_MOST, Herd, Refusal, herds, prints};
+use farm::{Farm, HERDS_MOST, Herd, Refusal, herds, prints};
 use progress::Effect;
 
 // The herd being read, and the number of its first record, 0 where there is none yet; and of the herds before it, the
@@ -22,14 +23,14 @@ pub fn refused(record: usize, refusal: Refusal) -> FileAnswer
     ensures { result ≡ refused «record» refusal }
 {
     FileAnswer {
-        checked: Checked::Refused(refusal, record),
+        checked: Err(Refused(refusal, record)),
         farm: herds::no_farm(),
     }
 }
 
 // The records from the front, of a farm that may have `most` herds; then 12. The herds are kept here, and handed back
-// once: to hand them on would copy them all. For the same reason a label is compared with those of the herds before it
-// only where one of them has its print.
+// once: to hand them on would copy them all. A label is compared with those of the herds before it only where one of
+// them has its print.
 pub fn read_records(s: &[u8], most: usize) -> FileAnswer
     requires { most ≤ herds_most }
     ensures { result ≡ read_from most 1 nothing_read (reading_of s.now) }
@@ -46,10 +47,8 @@ pub fn read_records(s: &[u8], most: usize) -> FileAnswer
     let mut number: usize = 1;
     loop {
         let read = places::read_at(s, place, c.herd);
-        let effect = read.effect;
-        let herd = read.herd;
         let after = number + 1;
-        match effect {
+        match read.effect {
             Effect::Ends => {
                 let done = c.herd;
                 let lacking = next_herd::lacking_with(c.lacking, done, c.first);
@@ -59,20 +58,20 @@ pub fn read_records(s: &[u8], most: usize) -> FileAnswer
                 herds[count] = done;
                 count = next_herd::herds_so_far(count, c.first);
                 return FileAnswer {
-                    checked: Checked::Accepted,
+                    checked: Ok(()),
                     farm: Farm { herds, count },
                 };
             }
             Effect::Wrong(refusal) => return refused(number, refusal),
             Effect::Adds => {
-                c.herd = herd;
+                c.herd = read.herd;
                 place = read.next;
                 number = after;
                 continue;
             }
             Effect::Begins => {
-                if herd_tests::has_print(&prints, count, prints::print_of(herd.label)) {
-                    if herd_tests::earlier_label(herds, count, herd.label) {
+                if herd_tests::has_print(&prints[..count], prints::print_of(read.herd.label)) {
+                    if herd_tests::earlier_label(&herds[..count], read.herd.label) {
                         return refused(number, Refusal::EarlierLabel);
                     }
                 }
@@ -85,7 +84,7 @@ pub fn read_records(s: &[u8], most: usize) -> FileAnswer
                 herds[count] = done;
                 count = next_herd::herds_so_far(count, c.first);
                 c = Current {
-                    herd,
+                    herd: read.herd,
                     first: number,
                     lacking,
                 };

@@ -4,7 +4,7 @@ use mathlib.Core.Path.{◌≡◌, refl, subst}
 use mathlib.Core.Bool.{Bool, true, false}
 use Rattle.base.proofs.Clash.{clash}
 use Rattle.farm.specs.declared.Herd.{Herd}
-use Rattle.farm.specs.declared.Checked.{Checked}
+use Rattle.farm.specs.Answers.{Checked}
 use Rattle.checks.specs.Refusals.{RecordGets, fine, gets_refusal}
 use Rattle.checks.specs.Refusals as handed
 use Rattle.checks.proofs.Refuses.{record_gets, one-first}

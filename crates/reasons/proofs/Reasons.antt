@@ -1,6 +1,7 @@
 -- 02, W2: the reason that is given is the first in order whose fact holds, and there is one; the share of the figures'
 -- formula is the one that follows from it; and it is `Lowered` exactly where the note on the share holds.
 -- Assumes nothing.
+use Rattle.std.specs.Prelude.{None, Some}
 use Prim.Native.Nat.{ℕ, ◌+◌, ◌-◌, ◌*◌, ◌≤◌, ◌<◌}
 use mathlib.Core.Path.{◌≡◌, refl, sym, ap, subst, ◌∙◌}
 use mathlib.Core.Logic.{◌↔◌}
@@ -23,8 +24,8 @@ use Rattle.yard.specs.Yard.{share_excretion_with_grazing, yard_time}
 use Rattle.notes.specs.Notes.{notes_of}
 use Rattle.reasons.specs.declared.Reason.{Reason}
 use Rattle.reasons.specs.declared.Reason.TheVariants.{NoSuchDays, NotAvailable, AsChosen, Lowered}
-use Rattle.reasons.specs.declared.YardReason.TheVariants.{Because, NoYard}
-use Rattle.reasons.specs.Reasons.{number, partly, chosen_share, is_not_available, reason_of, share_from, why_of, told_of}
+use Rattle.reasons.specs.Reasons.{number, partly, chosen_share, is_not_available, reason_of, share_from, why_of}
+use Rattle.reasons.specs.Reasons.{told_of}
 use Rattle.reasons.specs.Reasons.{Fact, no_such_days, not_available, as_chosen, lowered, FirstReason}
 use Rattle.reasons.specs.Reasons.{HasOutdoor, cattle}
 
@@ -176,13 +177,13 @@ noted_where_lowered (cattle {c = c}) = let w = lowered_where_noted c.outdoor in 
 
 -- ---- who is told, and who has no yard
 
-pub told_of_lem : {i : Inputs} {o : Outdoor} → HasOutdoor i o → told_of i ≡ Because (why_of o)
+pub told_of_lem : {i : Inputs} {o : Outdoor} → HasOutdoor i o → told_of i ≡ Some (why_of o)
 unfolding told_of
 told_of_lem cattle = refl
 
 -- a herd without a yard is told so, and no note says that its share is lowered
 pub no-yard : (i : Inputs) → ((o : Outdoor) → HasOutdoor i o → ⊥)
-    → (told_of i ≡ NoYard) × ((notes_of i).share_lowered ≡ false)
+    → (told_of i ≡ None) × ((notes_of i).share_lowered ≡ false)
 unfolding told_of notes_of
 no-yard (kinds.Roughage r) n = (refl, refl)
 no-yard (kinds.Cattle c) n = absurd (n c.outdoor cattle)

@@ -2,7 +2,7 @@
 -- lowered, with the number of overlapping days. Exactly one is given, the first in that order whose fact holds in the
 -- herd's record, and the share follows from it." Over 2.33 and 2.34, and of dairy cows 2.18 and
 -- 2.19 (crate `yard`). To be believed.
-use Rattle.std.specs.Prelude.{ℕ, ◌+◌, ◌≤◌, ◌<◌, ◌≡◌, Bool, true, false, List, [], ◌∷◌, eqb, leb}
+use Rattle.std.specs.Prelude.{ℕ, ◌+◌, ◌≤◌, ◌<◌, ◌≡◌, Bool, true, false, List, [], ◌∷◌, eqb, leb, None, Some, Option}
 use Prim.Native.String.{String}
 use Rattle.base.specs.First.{Test, ◌when◌, first}
 use Rattle.amounts.specs.Units.{year}
@@ -17,8 +17,10 @@ use Rattle.yard.specs.Yard.{share_available_roughage_is_partly_supplied_in_the_e
 use Rattle.reasons.specs.declared.Reason.{Reason}
 use Rattle.reasons.specs.declared.Reason.TheVariants.{NoSuchDays, NotAvailable, AsChosen, Lowered}
 use Rattle.reasons.specs.declared.Why.{Why}
-use Rattle.reasons.specs.declared.YardReason.{YardReason}
-use Rattle.reasons.specs.declared.YardReason.TheVariants.{Because, NoYard}
+
+-- what a kind of herd is told: the reason, or nothing where it has no yard
+abbrev pub YardReason : Type 0
+YardReason = Option Why
 
 -- the number of each, in 02's order, and the word that is printed
 abbrev pub number : Reason → ℕ
@@ -79,9 +81,9 @@ why_of o =
 
 -- a kind with the module `Outdoor` of 2.33 or 2.18 is told the reason; the others have no yard
 unfoldable pub told_of : Inputs → YardReason
-told_of (kinds.Roughage r) = NoYard
-told_of (kinds.Cattle c) = Because (why_of c.outdoor)
-told_of (kinds.Pigs p) = NoYard
+told_of (kinds.Roughage r) = None
+told_of (kinds.Cattle c) = Some (why_of c.outdoor)
+told_of (kinds.Pigs p) = None
 
 -- ---- the same without a word of how it is found: proofs/Reasons.antt shows that it is that one
 

@@ -3,10 +3,10 @@
 // crate `herd_reasons` finds it.
 #![tactic(auto)]
 
-use farm::Refusal;
+use farm::Answer;
 
 // In 02's order.
-#[derive(Clone, Copy)]
+#[derive(Clone, Copy, Debug, PartialEq, Eq)]
 pub enum Reason {
     NoSuchDays,
     NotAvailable,
@@ -15,7 +15,7 @@ pub enum Reason {
 }
 
 // The reason, the number of days with both, and the yard's shares in tenths: as chosen, and on those days.
-#[derive(Clone, Copy)]
+#[derive(Clone, Copy, Debug, PartialEq, Eq)]
 pub struct Why {
     pub reason: Reason,
     pub days: u64,
@@ -23,17 +23,5 @@ pub struct Why {
     pub share: u64,
 }
 
-// What a kind of herd is told: the reason, or that it has no yard.
-#[derive(Clone, Copy)]
-pub enum YardReason {
-    Because(Why),
-    NoYard,
-}
-
-// The answer of a herd's record; `NoHerd` is that of a file that has no such herd.
-#[derive(Clone, Copy)]
-pub enum ReasonAnswer {
-    Given(Why),
-    NoHerd,
-    Refused(Refusal, usize),
-}
+// The answer of a herd's record; of a file that has no such herd, no reason.
+pub type ReasonAnswer = Answer<Option<Why>>;

@@ -1,5 +1,6 @@
 -- What a record says by itself, from the calls that look at its fields: each law in the form that a place of
 -- src/entries.rt wants. Assumes nothing.
+use Rattle.std.specs.Prelude.{Err, None, Ok, Some}
 use Prim.Native.Nat.{ℕ}
 use mathlib.Core.Path.{◌≡◌, sym, ◌∙◌}
 use mathlib.Core.Bool.{Bool, true, false, not}
@@ -10,19 +11,18 @@ use Rattle.csv_reader.specs.Places.{parts_at}
 use Rattle.csv_reader.specs.declared.Fields.{Fields}
 use Rattle.inputs.specs.declared.Form.{Form}
 use Rattle.inputs.specs.declared.Kind.{Kind}
-use Rattle.finding.specs.declared.FoundInput.{FoundInput}
-use Rattle.finding.specs.declared.FoundInput.TheVariants.{At, Nowhere}
-use Rattle.finding.specs.Find.{find_input}
+use Rattle.finding.specs.Find.{find_input, FoundInput}
 use Rattle.farm.specs.declared.Label.{Label}
 use Rattle.farm.specs.declared.Given.{Given}
+use Rattle.farm.specs.declared.Refusal.{Refusal}
 use Rattle.farm.specs.declared.Refusal.TheVariants.{NotFourFields, BadLabel, NotInTheList, StandardForbidden, BadValue}
 use Rattle.farm.specs.Labels.{label_ok, label_of}
-use Rattle.number_values.specs.declared.ValueRead.{ValueRead}
-use Rattle.number_values.specs.declared.ValueRead.TheVariants.{Is, Forbidden, Unfit}
-use Rattle.records.specs.declared.RecordRead.{RecordRead}
-use Rattle.records.specs.declared.RecordRead.TheVariants.{Gives, Wrong}
 use Rattle.values.specs.Values.{value_of}
-use Rattle.records.specs.Entries.{label_in, record_read, input_read, entry_of}
+use Rattle.records.specs.Entries.{label_in, record_read, input_read, entry_of, RecordRead}
+use Rattle.number_values.specs.Numbers.{ValueRead}
+use Rattle.number_values.specs.declared.ValueFault.{ValueFault}
+use Rattle.number_values.specs.declared.ValueFault.TheVariants.{Forbidden, Unfit}
+use Rattle.number_values.specs.Faults.{refusal_of}
 
 -- ---- what it says: 5 to 7
 
@@ -31,28 +31,33 @@ module _ (s : List ℕ) (f : Fields) {a b : List ℕ} (qa : a ≡ held s f.secon
   found_at : find_input (held s f.second) (held s f.third) ≡ x
   found_at = rw (qa, qb) at (sym q)
 
-  pub read-nowhere : x ≡ Nowhere → Wrong NotInTheList ≡ input_read (parts_at s f)
+  pub read-nowhere : x ≡ None → Err NotInTheList ≡ input_read (parts_at s f)
   unfolding input_read
   read-nowhere e = simp (input_read, found_at ∙ e)
 
-  module _ {k : Kind} {i : ℕ} {form : Form} (e : x ≡ At k i form) {v : List ℕ} (qv : v ≡ held s f.fourth)
+  module _ {k : Kind} {i : ℕ} {form : Form} (e : x ≡ Some (k, i, form)) {v : List ℕ} (qv : v ≡ held s f.fourth)
       {y : ValueRead} (u : y ≡ value_of form v) where
     value-at : value_of form (held s f.fourth) ≡ y
     value-at = rw qv at (sym u)
 
-    pub read-gives : {g : Given} → y ≡ Is g → Gives k i g ≡ input_read (parts_at s f)
+    pub read-gives : {g : Given} → y ≡ Ok g → Ok (k, i, g) ≡ input_read (parts_at s f)
     unfolding input_read
     read-gives z = simp (input_read, found_at ∙ e, value-at ∙ z)
 
-    pub read_forbidden : y ≡ Forbidden → Wrong StandardForbidden ≡ input_read (parts_at s f)
+    read_forbidden : y ≡ Err Forbidden → Err StandardForbidden ≡ input_read (parts_at s f)
     unfolding input_read
     read_forbidden z = simp (input_read, found_at ∙ e, value-at ∙ z)
 
-    pub read-unfit : y ≡ Unfit → Wrong BadValue ≡ input_read (parts_at s f)
+    read-unfit : y ≡ Err Unfit → Err BadValue ≡ input_read (parts_at s f)
     unfolding input_read
     read-unfit z = simp (input_read, found_at ∙ e, value-at ∙ z)
 
-pub ruleset input_steps = (read-nowhere, read-gives, read_forbidden, read-unfit)
+    pub read-refused : (fault : ValueFault) {refusal : Refusal} → y ≡ Err fault → refusal ≡ refusal_of fault
+        → Err refusal ≡ input_read (parts_at s f)
+    read-refused Forbidden z r = rw r (read_forbidden z)
+    read-refused Unfit z r = rw r (read-unfit z)
+
+pub ruleset input_steps = (read-nowhere, read-gives, read-refused)
 
 -- ---- the whole record: 3 and 4 before them
 
@@ -64,7 +69,7 @@ module _ (s : List ℕ) (f : Fields) {a : List ℕ} (qa : a ≡ held s f.first) 
   unfolding entry_of
   entry e = let z = label_at in cc
 
-  pub not-four : (f.count ≡ 4 → ⊥) → record { label = l; read = Wrong NotFourFields } ≡ entry_of (parts_at s f)
+  pub not-four : (f.count ≡ 4 → ⊥) → record { label = l; read = Err NotFourFields } ≡ entry_of (parts_at s f)
   unfolding record_read
   not-four n = entry (simp (record_read, ne_eqb f.count 4 n))
 
@@ -72,7 +77,7 @@ module _ (s : List ℕ) (f : Fields) {a : List ℕ} (qa : a ≡ held s f.first) 
     good-at : label_ok (label_of (held s f.first)) ≡ r
     good-at = rw (q, qa) at (sym w)
 
-    pub bad_label : not r ≡ true → record { label = l; read = Wrong BadLabel } ≡ entry_of (parts_at s f)
+    pub bad_label : not r ≡ true → record { label = l; read = Err BadLabel } ≡ entry_of (parts_at s f)
     unfolding record_read
     bad_label n = entry (simp (record_read, eq-eqb f.count 4 four, good-at, n))
 

@@ -7,16 +7,9 @@ pub mod entries; // what a record says
 use farm::{Given, Label, Refusal};
 use inputs::Kind;
 
-// What a record says by itself: a value for the input of this kind and slot, or what is wrong with it.
-#[derive(Clone, Copy)]
-pub enum RecordRead {
-    Gives(Kind, usize, Given),
-    Wrong(Refusal),
-}
-
 // A record's label and what it says.
-#[derive(Clone, Copy)]
+#[derive(Clone, Copy, Debug, PartialEq, Eq)]
 pub struct Entry {
     pub label: Label,
-    pub read: RecordRead,
+    pub read: Result<(Kind, usize, Given), Refusal>,
 }

@@ -7,6 +7,15 @@ use gate_days::LogRefusal;
 use hints::Input;
 use limits::Source;
 
+// A farm file that was read: by the limits of where it comes from, its bytes, and the word of the command line that
+// names it in messages.
+#[derive(Clone, Copy, Debug, PartialEq, Eq)]
+pub struct FarmInput<'a> {
+    pub source: Source,
+    pub bytes: &'a [u8],
+    pub name: usize,
+}
+
 // The command `mend`, where it helps a refused file.
 fn hint(rt: &impl Surroundings, kind: Input, s: &[u8], name: usize) -> Ended {
     let changes = hints::hint(kind, s);
@@ -16,36 +25,25 @@ fn hint(rt: &impl Surroundings, kind: Input, s: &[u8], name: usize) -> Ended {
     Ended::Refused
 }
 
-// The option --cooperative, where a farm file is too large without it.
-fn tell_larger(rt: &impl Surroundings, number: u64) {
-    if number == refusal_numbers::number_of(Refusal::FileTooLong) {
-        messages::larger(rt);
-    }
-    if number == refusal_numbers::number_of(Refusal::NoRoomForHerd) {
-        messages::larger(rt);
-    }
+// Is a farm file of standard input too large, by its bytes or by its herds?
+fn is_too_large(source: Source, refusal: Refusal) -> bool {
+    source == Source::StandardInput
+        && matches!(refusal, Refusal::FileTooLong | Refusal::NoRoomForHerd)
 }
 
-fn tell_if_larger(rt: &impl Surroundings, source: Source, number: u64) {
-    match source {
-        Source::StandardInput => tell_larger(rt, number),
-        Source::Cooperative => {}
-    }
-}
-
-// A farm file.
+// A farm file. Where it is too large without the option --cooperative, that is named too.
 pub fn of_farm(
     rt: &impl Surroundings,
-    source: Source,
-    s: &[u8],
-    name: usize,
+    file: FarmInput<'_>,
     refusal: Refusal,
     record: usize,
 ) -> Ended {
     let number = refusal_numbers::number_of(refusal);
-    messages::refused(rt, source, name, number, record);
-    tell_if_larger(rt, source, number);
-    hint(rt, Input::Farm(source), s, name)
+    messages::refused(rt, file.source, file.name, number, record);
+    if is_too_large(file.source, refusal) {
+        messages::larger(rt);
+    }
+    hint(rt, Input::Farm(file.source), file.bytes, file.name)
 }
 
 // A gate's log.

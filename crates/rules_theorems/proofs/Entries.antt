@@ -1,5 +1,6 @@
 -- A record by itself: it says a label, an input and a value, or one of 3 to 7 is given, the first that applies. Assumes
 -- nothing.
+use Rattle.std.specs.Prelude.{Err, None, Ok, Some}
 use Prim.Native.Nat.{ℕ}
 use mathlib.Core.Path.{◌≡◌, refl, sym, ap, ◌∙◌}
 use mathlib.Core.Bool.{Bool, true, false}
@@ -13,10 +14,8 @@ use Rattle.base.proofs.Clash.{clash}
 use Rattle.grammar.specs.Reading.{parts_of}
 use Rattle.inputs.specs.declared.Kind.{Kind}
 use Rattle.inputs.specs.declared.Form.{Form}
-use Rattle.finding.specs.declared.FoundInput.{FoundInput}
-use Rattle.finding.specs.declared.FoundInput.TheVariants.{At, Nowhere}
 use Rattle.inputs.specs.Inputs.{form_of}
-use Rattle.finding.specs.Find.{find_input}
+use Rattle.finding.specs.Find.{find_input, FoundInput}
 use Rattle.finding.proofs.Finds.{find_input-at, find_input-of}
 use Rattle.farm.specs.declared.Given.{Given}
 use Rattle.farm.specs.declared.Refusal.{Refusal}
@@ -24,8 +23,6 @@ use Rattle.farm.specs.declared.Refusal.TheVariants.{NotFourFields, BadLabel, Not
 use Rattle.farm.specs.Labels.{label_ok, label_of}
 use Rattle.farm.specs.Refusals.{number}
 use Rattle.limits.specs.declared.Limits.{Limits}
-use Rattle.number_values.specs.declared.ValueRead.{ValueRead}
-use Rattle.number_values.specs.declared.ValueRead.TheVariants.{Is, Forbidden, Unfit}
 use Rattle.reader.specs.declared.FileAnswer.{FileAnswer}
 use Rattle.values.specs.Values.{value_of}
 use Rattle.records.specs.Entries.{kind_in, slot_in, given_in, entry_tests}
@@ -46,22 +43,32 @@ use Rattle.rules_theorems.specs.Refusals.{
 use Rattle.rules_theorems.proofs.Labels.{ok_good, good_ok}
 use Rattle.rules_theorems.proofs.Values.{value-said, said-value, forbidden_said, said_forbidden}
 use Rattle.rules_theorems.proofs.Faults.{NoneBelow, none_yet, none-next}
+use Rattle.number_values.specs.Numbers.{ValueRead}
+use Rattle.number_values.specs.declared.ValueFault.TheVariants.{Forbidden, Unfit}
 
 -- ---- the input that a record names
 
-found-named : (m n : List ℕ) {k : Kind} {i : ℕ} {form : Form} → find_input m n ≡ At k i form
+found-named : (m n : List ℕ) {k : Kind} {i : ℕ} {form : Form} → find_input m n ≡ Some (k, i, form)
     → Names m n k i × (form ≡ form_of k i)
 found-named m n e = let x = find_input-at m n e in
     (record { inside = x.0.inside; path = x.0.path; name = x.0.name }, x.1)
 
-named-found : {m n : List ℕ} {k : Kind} {i : ℕ} → Names m n k i → find_input m n ≡ At k i (form_of k i)
+named-found : {m n : List ℕ} {k : Kind} {i : ℕ} → Names m n k i → find_input m n ≡ Some (k, i, form_of k i)
 named-found {m} {n} {k} {i} x = find_input-of m n k i (record { inside = x.inside; path = x.path; name = x.name })
 
-pub one-kind : {m n : List ℕ} {k k' : Kind} {i j : ℕ} → Names m n k i → Names m n k' j → k ≡ k'
-one-kind x y = let a = named-found x in let b = named-found y in cc
+-- what is found is one input
+same_found : {f g : Kind × ℕ × Form} → Some f ≡ Some g → f ≡ g
+same_found e = cc
 
-pub one-slot : {m n : List ℕ} {k k' : Kind} {i j : ℕ} → Names m n k i → Names m n k' j → i ≡ j
-one-slot x y = let a = named-found x in let b = named-found y in cc
+module _ {m n : List ℕ} {k k' : Kind} {i j : ℕ} (x : Names m n k i) (y : Names m n k' j) where
+  one-found : ◌≡◌ {A = Kind × ℕ × Form} (k, i, form_of k i) (k', j, form_of k' j)
+  one-found = same_found (sym (named-found x) ∙ named-found y)
+
+  pub one-kind : k ≡ k'
+  one-kind = ap (λ (f : Kind × ℕ × Form). f.0) one-found
+
+  pub one-slot : i ≡ j
+  one-slot = ap (λ (f : Kind × ℕ × Form). f.1) one-found
 
 -- ---- a record that says something passes 3 to 7, and is read as what it says
 
@@ -144,7 +151,7 @@ module _ (limits : Limits) (before : List Record) (cs : Record) where
     one_form x = let q = one-kind x names in let s = one-slot x names in cc
 
     module _ {r : ValueRead} (e : value_of (form_of k i) (value_in cs) ≡ r) where
-      no_6 : (r ≡ Forbidden → ⊥) → Applies limits before cs StandardForbidden → ⊥
+      no_6 : (r ≡ Err Forbidden → ⊥) → Applies limits before cs StandardForbidden → ⊥
       no_6 n (standard_forbidden x f s) =
           n (sym e ∙ ap (λ form. value_of form (value_in cs)) (sym (one_form x)) ∙ forbidden_said (value_in cs) f s)
 
@@ -156,16 +163,16 @@ module _ (limits : Limits) (before : List Record) (cs : Record) where
     where
       value : {k : Kind} {i : ℕ} → length cs ≡ 4 → eqb (length cs) 4 ≡ true → GoodLabel (label_text cs)
           → label_ok (label_of (label_text cs)) ≡ true → NamesInput cs k i
-          → find_input (get_or cs 1 []) (get_or cs 2 []) ≡ At k i (form_of k i) → NoneBelow limits before cs 6
+          → find_input (get_or cs 1 []) (get_or cs 2 []) ≡ Some (k, i, form_of k i) → NoneBelow limits before cs 6
           → (r : ValueRead)
           → value_of (form_of k i) (value_in cs) ≡ r → Alone limits before cs
-      value {k} {i} h e3 good e4 names e5 below (Is g) e =
+      value {k} {i} h e3 good e4 names e5 below (Ok g) e =
           let v = said-value (form_of k i) (value_in cs) e in
           tells (four cs h good names v) (none-next 7 (none-next 6 below (no_6 names e (λ d. clash cc))) (no_7 names v))
-      value {k} {i} h e3 good e4 names e5 below Forbidden e =
+      value {k} {i} h e3 good e4 names e5 below (Err Forbidden) e =
           let f = said_forbidden (form_of k i) (value_in cs) e in
           wrong (standard_forbidden names f.0 f.1) below (λ n z. rw (e3, e4, e5, e))
-      value h e3 good e4 names e5 below Unfit e =
+      value h e3 good e4 names e5 below (Err Unfit) e =
           wrong
           (bad_value names (λ g v. let s = value-said v in clash cc))
           (none-next 6 below (no_6 names e (λ d. clash cc)))
@@ -174,11 +181,11 @@ module _ (limits : Limits) (before : List Record) (cs : Record) where
       input : length cs ≡ 4 → eqb (length cs) 4 ≡ true → GoodLabel (label_text cs)
           → label_ok (label_of (label_text cs)) ≡ true → NoneBelow limits before cs 5
           → (r : FoundInput) → find_input (get_or cs 1 []) (get_or cs 2 []) ≡ r → Alone limits before cs
-      input h e3 good e4 below (At k i form) e =
+      input h e3 good e4 below (Some (k, i, form)) e =
           let x = found-named (get_or cs 1 []) (get_or cs 2 []) e in
           value h e3 good e4 x.0 (named-found x.0) (none-next 5 below (no_5 x.0))
           (value_of (form_of k i) (value_in cs)) refl
-      input h e3 good e4 below Nowhere e =
+      input h e3 good e4 below None e =
           wrong
           (not_in_the_list (λ k i names. let f = named-found names in clash cc))
           below

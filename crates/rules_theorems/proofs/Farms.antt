@@ -70,7 +70,8 @@ module _ {cs : Record} {l : List ℕ} {k : Kind} {i : ℕ} {g : Given} (said : R
   unfolding taken
   record_took =
       let r = reads said in
-      ap (λ (t : List ℕ). took_to n p (label_of t) (kind_in (parts_of cs)) (slot_in (parts_of cs)) (given_in (parts_of cs)))
+      ap (λ (t : List ℕ). took_to n p (label_of t) (kind_in (parts_of cs)) (slot_in (parts_of cs))
+      (given_in (parts_of cs)))
       r.label
       ∙ ap (λ (x : Kind). took_to n p (label_of l) x (slot_in (parts_of cs)) (given_in (parts_of cs))) r.kind
       ∙ ap (λ (j : ℕ). took_to n p (label_of l) k j (given_in (parts_of cs))) r.slot
@@ -86,7 +87,8 @@ farm-eq a b p q = ap (λ (x : List Herd). record { herds = x; count = a.count })
     ∙ ap (λ (n : ℕ). record { herds = b.herds; count = n }) q
 
 -- one herd more
-pub one_more : (hs : List Herd) (h : Herd) → length hs < herds_most → with_herd (farm_of hs) h ≡ farm_of (hs ++ (h ∷ []))
+pub one_more : (hs : List Herd) (h : Herd) → length hs < herds_most
+    → with_herd (farm_of hs) h ≡ farm_of (hs ++ (h ∷ []))
 one_more hs h room =
     farm-eq (with_herd (farm_of hs) h) (farm_of (hs ++ (h ∷ [])))
     (ap (λ (n : ℕ). set (hs ++ replicate n no_herd) (length hs) h) front

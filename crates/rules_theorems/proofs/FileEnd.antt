@@ -135,7 +135,8 @@ pub data Ended (limits : Limits) (rs : List Record) : FileAnswer → Type 0 wher
       → Each (λ r. Lacks rs r → ⊥) before
       → Ended limits rs (refused (length before + 1) InputMissing)
 
-ended : {limits : Limits} {rs : List Record} {hs : List Herd} {k : ℕ} → StandTogether PartOf rs hs → Apart (labels_of hs)
+ended : {limits : Limits} {rs : List Record} {hs : List Herd} {k : ℕ} → StandTogether PartOf rs hs
+    → Apart (labels_of hs)
     → length hs ≤ limits.herds → Lack rs hs k
     → Ended limits rs (first (refused k InputMissing when not (eqb k 0) ∷ []) (accepted (farm_of hs)))
 ended {rs = rs} {hs = hs} s d room (nowhere ns) =

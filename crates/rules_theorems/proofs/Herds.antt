@@ -136,7 +136,8 @@ module _ {cs : Record} {l : List ℕ} {k : Kind} {i : ℕ} {g : Given} (said : R
     where
       fresh : (j : ℕ) → Each (λ i. i ≡ j → ⊥) (i ∷ [])
           → get_or (set (replicate slots no_slot) i (record { given = g })) j no_slot ≡ no_slot
-      fresh j (more n none) = get_or-set_other (replicate slots no_slot) i j (record { given = g }) no_slot (λ e. n (sym e))
+      fresh j (more n none) =
+          get_or-set_other (replicate slots no_slot) i j (record { given = g }) no_slot (λ e. n (sym e))
           ∙ blank slots j
 
   module _ (h : Herd) (own : h.label ≡ label_of l) (kind : h.kind ≡ k) where
@@ -162,7 +163,8 @@ module _ {cs : Record} {l : List ℕ} {k : Kind} {i : ℕ} {g : Given} (said : R
           has = get_or-set_same h.slots i (record { given = g }) no_slot (omega (arith, inside));
         }
 
-    pub part-more : {rs : List Record} → PartOf rs h → has_input h i ≡ false → PartOf (rs ++ (cs ∷ [])) (with_input h i g)
+    pub part-more : {rs : List Record} → PartOf rs h → has_input h i ≡ false
+        → PartOf (rs ++ (cs ∷ [])) (with_input h i g)
     unfolding with_input
     part-more {rs} p e =
         let open' = unfilled i p.each (not-false (missing_at h i) e) in

@@ -19,7 +19,8 @@ use Rattle.rules_theorems.proofs.Lists.{both}
 
 pub text_of : (s : List ℕ) → length s ≤ label_most → text (label_of s) ≡ s
 unfolding label_of
-text_of s h = take-take (length s) label_most (s ++ replicate label_most 0) h ∙ take-append_seam s (replicate label_most 0)
+text_of s h =
+    take-take (length s) label_most (s ++ replicate label_most 0) h ∙ take-append_seam s (replicate label_most 0)
 
 pub room : (s : List ℕ) → length (label_of s).bytes ≡ label_most
 unfolding label_of

@@ -15,7 +15,6 @@ use Rattle.farm.specs.declared.Given.{Given}
 use Rattle.farm.specs.declared.Slot.{Slot}
 use Rattle.farm.specs.declared.Herd.{Herd}
 use Rattle.farm.specs.declared.Farm.{Farm}
-use Rattle.farm.specs.declared.Checked.TheVariants.{Accepted}
 use Rattle.farm.specs.Labels.{label_ok, same_label}
 use Rattle.farm.specs.Limits.{herds_most}
 use Rattle.limits.specs.declared.Limits.{Limits}
@@ -28,6 +27,7 @@ use Rattle.checks.specs.Accepts.{Passes, GoodHerd, Distinct, GoodFarm}
 use Rattle.checks.proofs.Accepts.{good-farm}
 use Rattle.farm.specs.Herds.{is_missing, no_slot}
 use Rattle.farm.proofs.Slots.{count_most}
+use Rattle.farm.specs.Answers.{Accepted}
 use Rattle.reader.specs.Files.{accepted, read_of}
 use Rattle.rules_theorems.specs.Lists.{Apart}
 use Rattle.first_refusal.specs.Records.{Record}

@@ -7,6 +7,7 @@ use mathlib.Core.List.{List, ◌∷◌, ◌++◌}
 use native.Mathlib.Omega.{arith}
 use lib.ListN.{length, length-append}
 use Rattle.base.proofs.Clash.{clash}
+use Rattle.base.proofs.SameRefused.{same-record, same-refusal}
 use Rattle.base.specs.Each.{Each}
 use Rattle.grammar.specs.Reading.{Reading, ◌then◌, end, broken, reading_of}
 use Rattle.grammar.proofs.Files.{file-read, read-file, breaks-read, read-breaks}
@@ -276,9 +277,7 @@ module _ {limits : Limits} (s : List ℕ) (n : ℕ) (refusal : Refusal) where
   refused-first (takes _) e = let c = ap (λ (a : FileAnswer). a.checked) e in clash cc
   refused-first (gives {n = m} {refusal = f} x) e =
       let c = ap (λ (a : FileAnswer). a.checked) e in
-      let p : m ≡ n = cc in
-      let q : f ≡ refusal = cc in
-      rw (p, q) at x
+      rw (same-record c, same-refusal c) at x
 
   first-refused : {x : FileAnswer} → Outcome limits s x → First limits s n refusal → x ≡ refused n refusal
   first-refused (takes none) x = absurd (none n refusal x.applies)

@@ -90,7 +90,8 @@ module _ (most : ℕ) (H : Herd) (rs : List Record) (whole' : PartOf rs H) (hs :
     (rest : Reading) where
   through : (b c : List Record) {is js : List ℕ} → rs ≡ b ++ c → Pairs (Gives H) b is → Pairs (Gives H) c js
       → Apart (is ++ js) → (h : Herd) → PartOf b h → (n : ℕ)
-      → read_from most n (progress_at hs h m k) (thens c rest) ≡ read_from most (n + length c) (progress_at hs H m k) rest
+      → read_from most n (progress_at hs h m k) (thens c rest)
+      ≡ read_from most (n + length c) (progress_at hs H m k) rest
   through b [] e ps Pairs.none d h p n =
       let q : PartOf b H = rw (e ∙ append-nil b) at whole' in
       ap (λ (x : Herd). read_from most n (progress_at hs x m k) rest) (one-herd p q)
@@ -149,7 +150,8 @@ ready_next hs h m room ls x whole' =
 module _ {most : ℕ} {hs : List Herd} {p : Progress} (r : Ready hs p) (room : length hs < most) {cs : Record}
     {l : List ℕ} {k : Kind} {i : ℕ} {g : Given} (said : RecordSays cs l k i g)
     (new : Each (λ h. h.label ≡ label_of l → ⊥) hs) (n : ℕ) (rest : Reading) where
-  begins : read_from most n p (cs then rest) ≡ read_from most (n + 1) (progress_at hs (new_herd (label_of l) k i g) n 0) rest
+  begins : read_from most n p (cs then rest)
+      ≡ read_from most (n + 1) (progress_at hs (new_herd (label_of l) k i g) n 0) rest
   begins =
       let f = r.new l (reads said).good new in
       let full : leb most (closed p).farm.count ≡ false = ap (λ (x : Farm). leb most x.count) r.farm

@@ -188,7 +188,8 @@ module _ {limits : Limits} {cs : Record} {l : List ℕ} {kind : Kind} {i : ℕ} 
           (none-next 11 (none-next 10 (none-next 9 (none-next 8 below not_8) (not_9 some)) not_10) not_11)
           (λ z. record_tests_lem said 1 nothing_read limits.herds z ∙ rw (new, e))
           (subst (λ (q : Progress). Inv limits (cs ∷ []) q) (sym (record_took said 1 nothing_read ∙ took))
-          (going {a = []} {b = cs ∷ []} {hs = []} {h = new_herd (label_of l) kind i g} StandTogether.none (part-new said)
+          (going {a = []} {b = cs ∷ []} {hs = []} {h = new_herd (label_of l) kind i g} StandTogether.none
+          (part-new said)
           none
           Apart.none some (nowhere none)))
 
@@ -221,7 +222,8 @@ module _ {limits : Limits} (fit : limits.herds ≤ herds_most) {a b : List Recor
 
   goes_to : (q : Progress) → took_to (length (a ++ b) + 1) (progress_at hs h (length a + 1) k) (label_of l) kind i g ≡ q
       → Inv limits ((a ++ b) ++ (cs ∷ [])) q
-      → Inv limits ((a ++ b) ++ (cs ∷ [])) (taken (length (a ++ b) + 1) (progress_at hs h (length a + 1) k) (parts_of cs))
+      → Inv limits ((a ++ b) ++ (cs ∷ []))
+      (taken (length (a ++ b) + 1) (progress_at hs h (length a + 1) k) (parts_of cs))
   goes_to q e on = subst (Inv limits ((a ++ b) ++ (cs ∷ [])))
       (sym (record_took said (length (a ++ b) + 1) (progress_at hs h (length a + 1) k) ∙ e)) on
 

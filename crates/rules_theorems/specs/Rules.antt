@@ -3,7 +3,8 @@
 -- through a file; proofs/Accepts.antt shows that the reader accepts exactly the files that keep these rules, each as
 -- the farm that its records say. To be believed; the limits stand here a second time on purpose, apart from those that
 -- the code goes by.
-use Rattle.std.specs.Prelude.{ℕ, ◌-◌, ◌<◌, ◌≤◌, ◌≡◌, List, [], ◌∷◌, ◌++◌, ℤ, pos, nat_abs, ◌-ℤ◌, length, get_or, replicate}
+use Rattle.std.specs.Prelude.{ℕ, ◌-◌, ◌<◌, ◌≤◌, ◌≡◌, List, [], ◌∷◌, ◌++◌, ℤ, pos, nat_abs, ◌-ℤ◌, length, get_or}
+use Rattle.std.specs.Prelude.{replicate}
 use Rattle.base.specs.Text.{bytes}
 use Rattle.base.specs.Part.{lowered}
 use Rattle.base.specs.Each.{Each}

@@ -2,7 +2,8 @@
 use Prim.Native.Nat.{ℕ, zero, suc, ◌+◌, ◌-◌, ◌/◌, ◌%◌, ◌^◌, ◌≤◌, ◌<◌}
 use mathlib.Core.Path.{◌≡◌, sym, ap, ◌∙◌}
 use mathlib.Core.List.{List, [], ◌∷◌, ◌++◌}
-use native.Mathlib.Nat.{div-one}
+use native.Mathlib.Nat.{div-one, div-div-eq-div-mul, pow-suc}
+use native.Mathlib.Numerals.{add-one}
 use native.Mathlib.Omega.{arith}
 use borrow.Author.Tests.{eq-eqb, ne_eqb}
 use lib.ListN.{length}
@@ -10,22 +11,20 @@ use Rattle.base.specs.Wrote.{Wrote}
 use Rattle.decimal.specs.Writing.{lowest, whole_of}
 use Rattle.decimal.proofs.Widths.{whole_length}
 use Rattle.shortest_numbers.specs.Shortest.{pointed, shortest}
-use Rattle.shortest_numbers.proofs.Written.{tenths}
 use Rattle.shortest_numbers.proofs.NoShorter.{pointed-length}
 
--- X is the whole part
-module _ (whole left X : ℕ) (inv : whole / 10 ^ left ≡ X) where
-  pub part_cut : 0 < left → whole / 10 / 10 ^ (left - 1) ≡ X
-  part_cut h = go left inv h
-    where
-      go : (n : ℕ) → whole / 10 ^ n ≡ X → 0 < n → whole / 10 / 10 ^ (n - 1) ≡ X
-      go zero e h = absurd (omega arith)
-      go (suc n) e h = let z : suc n - 1 ≡ n = omega arith in rw z (sym (tenths whole n) ∙ e)
+-- i of the decimals were cut off
+module _ (v whole i : ℕ) (inv : whole ≡ v / 10 ^ i) where
+  pub part_cut : whole / 10 ≡ v / 10 ^ (i + 1)
+  part_cut = rw inv (div-div-eq-div-mul v (10 ^ i) 10 ∙ ap (λ (n : ℕ). v / n) (sym (rw add-one (pow-suc 10 i))))
 
-  pub part-is : left ≤ 0 → whole ≡ X
-  part-is h = let z : left ≡ 0 = omega arith in sym (div-one whole) ∙ ap (λ (n : ℕ). whole / 10 ^ n) (sym z) ∙ inv
+  pub part-is : (k : ℕ) → i ≤ k → k ≤ i → whole ≡ v / 10 ^ k
+  part-is k h l = let e : k ≡ i = omega arith in rw e inv
 
-pub ruleset part_steps = (part_cut, part-is)
+pub part-starts : (v : ℕ) → v ≡ v / 10 ^ 0
+part-starts v = sym (div-one v)
+
+pub ruleset part_steps = (part-starts, part_cut, part-is)
 
 -- X is the shortest form, and the buffer is as it was
 module _ (left m : ℕ) (X : List ℕ) (inv : shortest left m ≡ X) where
@@ -52,16 +51,16 @@ module _ (left m : ℕ) (X : List ℕ) (inv : shortest left m ≡ X) where
   none-shown h = let z : 0 ≡ left = omega arith in ap (λ (n : ℕ). shortest n m) z ∙ inv
 
   module _ (old now : List ℕ) (same : now ≡ old) (at : ℕ) where
-    pub pointed-room : at + length X ≤ length old → 0 < left → (m % 10 ≡ 0 → ⊥)
-        → at + length (pointed left m) ≤ length now
-    pointed-room h o z = omega (arith, h, ap length same, ap length (all_shown o z))
+    pub pointed-room : at + length X ≤ length old → 0 < left → (m % 10 ≡ 0 → ⊥) → (n : ℕ) → n ≡ left
+        → at + length (pointed n m) ≤ length now
+    pointed-room h o z n e = rw e (omega (arith, h, ap length same, ap length (all_shown o z)))
 
     pub whole_room : at + length X ≤ length old → left ≤ 0 → at + length (whole_of m) ≤ length now
     whole_room h o = omega (arith, h, ap length same, ap length (none-shown o))
 
-    pub pointed-put : {new : List ℕ} {next : ℕ} → 0 < left → (m % 10 ≡ 0 → ⊥) → Wrote now at (pointed left m) new next
-        → Wrote old at X new next
-    pointed-put o z w = rw (← same, ← (all_shown o z)) w
+    pub pointed-put : {new : List ℕ} {next : ℕ} → 0 < left → (m % 10 ≡ 0 → ⊥) → (n : ℕ) → n ≡ left
+        → Wrote now at (pointed n m) new next → Wrote old at X new next
+    pointed-put o z n e w = rw (← same, ← (all_shown o z), ← e) w
 
     pub whole-put : {new : List ℕ} {next : ℕ} → left ≤ 0 → Wrote now at (whole_of m) new next → Wrote old at X new next
     whole-put o w = rw (← same, ← (none-shown o)) w

@@ -55,7 +55,8 @@ unfolding pointed
 pointed-number d v =
     let e : suc d - length (lowest (suc d) v) ≡ 0 = omega (arith, lowest-length (suc d) v) in
     same_number refl
-    (ap (λ (n : ℕ). value (whole_of (v / 10 ^ suc d) ++ lowest (suc d) v) * 10 ^ n) e ∙ mul-one _ ∙ both-value (suc d) v)
+    (ap (λ (n : ℕ). value (whole_of (v / 10 ^ suc d) ++ lowest (suc d) v) * 10 ^ n) e ∙ mul-one _
+    ∙ both-value (suc d) v)
     (IsNumber.pointed (whole_from_lem (v / 10 ^ suc d)) (lowest-digits (suc d) v)
     (omega (arith, lowest-length (suc d) v)) (omega (arith, lowest-length (suc d) v)))
 

@@ -10,10 +10,8 @@ fn whole_part(decimals: usize, v: u32) -> u32
     ensures { result ≡ v / 10 ^ decimals }
 {
     let mut whole = v;
-    let mut left = decimals;
-    while 0 < left {
-        whole = whole / 10;
-        left -= 1;
+    for _ in 0..decimals {
+        whole /= 10;
     }
     whole
 }
@@ -34,13 +32,11 @@ pub fn put_shortest(out: &mut [u8], at: usize, decimals: usize, v: u32) -> usize
     ensures { Wrote out.old at (shortest decimals v) out.new result }
 {
     let mut m = v;
-    let mut left = decimals;
-    while 0 < left {
+    for left in (0..decimals).rev() {
         if m % 10 != 0 {
-            return put_pointed(out, at, left, m);
+            return put_pointed(out, at, left + 1, m);
         }
-        m = m / 10;
-        left -= 1;
+        m /= 10;
     }
     decimal::put_whole(out, at, m as u64)
 }

@@ -8,7 +8,7 @@ ghost use Rattle.shown_bytes.specs.Shown.{between, harmless, letter, form_needed
 ghost use Rattle.shown_bytes.specs.Shown.{octal, in_quotes, stays, escaped, shown, byte_most};
 
 // How a name is shown: as it is, in single quotes, or between $' and ' with what stands behind backslashes.
-#[derive(Clone, Copy)]
+#[derive(Clone, Copy, Debug, PartialEq, Eq, PartialOrd, Ord)]
 pub enum Form {
     Plain,
     Quoted,
@@ -38,52 +38,41 @@ const SECOND_LAST: u8 = 0xBF;
 fn between(low: u8, b: u8, high: u8) -> bool
     ensures { result ≡ between low b high }
 {
-    if b < low {
-        return false;
-    }
-    b <= high
+    (low..=high).contains(&b)
 }
 
 // Is it a letter, a digit, or one of + , - . / : @ _?
+#[tactic(auto, using(base::proofs::Picks::picks), unfolding(crate::specs::Shown::harmless))]
 fn is_harmless(b: u8) -> bool
     ensures { result ≡ harmless b }
 {
-    if between(b'+', b, b':') {
-        return true;
-    }
-    if between(b'@', b, b'Z') {
-        return true;
-    }
-    if between(b'a', b, b'z') {
-        return true;
-    }
-    b == b'_'
+    matches!(b, b'+'..=b':' | b'@'..=b'Z' | b'a'..=b'z' | b'_')
 }
 
 // Are these two bytes one letter?
+#[tactic(auto, using(base::proofs::Picks::picks), unfolding(crate::specs::Shown::letter))]
 pub fn is_letter(b: u8, c: u8) -> bool
     ensures { result ≡ letter b c }
 {
     if b == LATIN {
-        return between(LATIN_SECOND, c, SECOND_LAST);
+        between(LATIN_SECOND, c, SECOND_LAST)
+    } else {
+        between(LATIN, b, LAST_OF_TWO) && between(SECOND, c, SECOND_LAST)
     }
-    if between(LATIN, b, LAST_OF_TWO) {
-        return between(SECOND, c, SECOND_LAST);
-    }
-    false
 }
 
 // The form that a byte asks for.
+#[tactic(auto, using(base::proofs::Picks::picks), unfolding(crate::specs::Shown::form_needed))]
 pub fn form_needed(b: u8) -> Form
     ensures { result ≡ form_needed b }
 {
     if is_harmless(b) {
-        return Form::Plain;
+        Form::Plain
+    } else if between(PRINTABLE, b, PRINTABLE_LAST) {
+        Form::Quoted
+    } else {
+        Form::Escaped
     }
-    if between(PRINTABLE, b, PRINTABLE_LAST) {
-        return Form::Quoted;
-    }
-    Form::Escaped
 }
 
 // A backslash, and the byte in three octal digits.
@@ -101,21 +90,17 @@ fn put_in_quotes(out: &mut [u8], at: usize, b: u8) -> usize
     ensures { Wrote out.old at (in_quotes b) out.new result }
 {
     if b == b'\'' {
-        return base::put(out, at, b"'\\''");
+        base::put(out, at, b"'\\''")
+    } else {
+        base::put_byte(out, at, b)
     }
-    base::put_byte(out, at, b)
 }
 
+#[tactic(auto, using(base::proofs::Picks::picks), unfolding(crate::specs::Shown::stays))]
 fn stays(b: u8) -> bool
     ensures { result ≡ stays b }
 {
-    if b == b'\'' {
-        return false;
-    }
-    if b == b'\\' {
-        return false;
-    }
-    between(PRINTABLE, b, PRINTABLE_LAST)
+    b != b'\'' && b != b'\\' && between(PRINTABLE, b, PRINTABLE_LAST)
 }
 
 fn put_escaped(out: &mut [u8], at: usize, b: u8) -> usize
@@ -123,9 +108,10 @@ fn put_escaped(out: &mut [u8], at: usize, b: u8) -> usize
     ensures { Wrote out.old at (escaped b) out.new result }
 {
     if stays(b) {
-        return base::put_byte(out, at, b);
+        base::put_byte(out, at, b)
+    } else {
+        put_octal(out, at, b)
     }
-    put_octal(out, at, b)
 }
 
 pub fn put_shown(out: &mut [u8], at: usize, form: Form, b: u8) -> usize

@@ -13,10 +13,8 @@ fn number_in(given: Given) -> u64
     ensures { result ≡ number_in given }
 {
     match given {
-        Given::Missing => 0,
-        Given::Standard => 0,
-        Given::Value(v) => v as u64,
-        Given::Signed(v) => 0,
+        Given::Value(v) => u64::from(v),
+        Given::Missing | Given::Standard | Given::Signed(_) => 0,
     }
 }
 
@@ -24,10 +22,8 @@ fn signed_in(given: Given) -> i64
     ensures { result ≡ signed_in given }
 {
     match given {
-        Given::Missing => 0,
-        Given::Standard => 0,
-        Given::Value(v) => 0,
-        Given::Signed(v) => v as i64,
+        Given::Signed(v) => i64::from(v),
+        Given::Missing | Given::Standard | Given::Value(_) => 0,
     }
 }
 
@@ -35,10 +31,9 @@ fn entered_in(given: Given) -> Entered
     ensures { result ≡ entered_in given }
 {
     match given {
-        Given::Missing => Entered::Number(0),
         Given::Standard => Entered::Standard,
-        Given::Value(v) => Entered::Number(v as u64),
-        Given::Signed(v) => Entered::Number(0),
+        Given::Value(v) => Entered::Number(u64::from(v)),
+        Given::Missing | Given::Signed(_) => Entered::Number(0),
     }
 }
 
@@ -47,25 +42,19 @@ pub fn number_at(h: Herd, place: usize) -> u64
     requires { place < slots }
     ensures { result ≡ number_at h place }
 {
-    let slot = h.slots[place];
-    let given = slot.given;
-    number_in(given)
+    number_in(h.slots[place].given)
 }
 
 pub fn signed_at(h: Herd, place: usize) -> i64
     requires { place < slots }
     ensures { result ≡ signed_at h place }
 {
-    let slot = h.slots[place];
-    let given = slot.given;
-    signed_in(given)
+    signed_in(h.slots[place].given)
 }
 
 pub fn entered_at(h: Herd, place: usize) -> Entered
     requires { place < slots }
     ensures { result ≡ entered_at h place }
 {
-    let slot = h.slots[place];
-    let given = slot.given;
-    entered_in(given)
+    entered_in(h.slots[place].given)
 }

@@ -8,7 +8,6 @@ use lib.Dec.{eqb}
 use lib.ListN.{length, get_or, take, drop}
 use lib.Seq.{take-suc, length-take-le}
 use native.Mathlib.Omega.{arith}
-use borrow.Author.Tests.{ne_eqb}
 use Rattle.base.specs.Pick.{pick}
 use Rattle.base.proofs.Rest.{rest_at}
 use Rattle.spreadsheet.specs.declared.Passed.{Passed}
@@ -70,19 +69,9 @@ module _ (s : List ℕ) (i : ℕ) (h : i < length s) where
       unfolding mended_from
       mended_at = rw (rest_at s i h, next-before, is-bare)
 
-      pub changes-at : changes_from (take i s) (drop i s) ≡ change_at t i ++ changes_from (take (i + 1) s) (drop (i + 1) s)
+      pub changes-at : changes_from (take i s) (drop i s)
+          ≡ change_at t i ++ changes_from (take (i + 1) s) (drop (i + 1) s)
       unfolding changes_from
       changes-at =
           let l : length (take i s)
           ≡ i = length-take-le i s (omega arith) in rw (rest_at s i h, next-before, is-bare, l)
-
--- ---- a byte more, by the test for a quote
-
-module _ (p : Passed) (b : ℕ) where
-  pub quote-passed : b ≡ quote → record { cr = false; even = not p.even } ≡ and_byte p b
-  quote-passed e = rw e
-
-  pub other-passed : (b ≡ quote → ⊥) → record { cr = eqb b cr; even = p.even } ≡ and_byte p b
-  other-passed n = rw (ne_eqb b quote n)
-
-pub ruleset and_steps = (quote-passed, other-passed)

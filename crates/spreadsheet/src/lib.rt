@@ -11,7 +11,7 @@ ghost use Rattle.spreadsheet.specs.Passed.{passed_of, and_byte, bare_after, crs_
 const MARK: [u8; 3] = [0xEF, 0xBB, 0xBF];
 
 // The bytes that were passed: is the last of them a CR, and are their quotes even in number?
-#[derive(Clone, Copy)]
+#[derive(Clone, Copy, Debug, PartialEq, Eq)]
 pub struct Passed {
     pub cr: bool,
     pub even: bool,
@@ -30,15 +30,9 @@ impl Passed {
     pub fn with_byte(self, b: u8) -> Self
         ensures { result ≡ and_byte self b }
     {
-        if b == b'"' {
-            return Passed {
-                cr: false,
-                even: !self.even,
-            };
-        }
         Passed {
             cr: b == b'\r',
-            even: self.even,
+            even: self.even != (b == b'"'),
         }
     }
 
@@ -46,13 +40,7 @@ impl Passed {
     pub fn bare(self, b: u8) -> bool
         ensures { result ≡ bare_after self b }
     {
-        if b != b'\n' {
-            return false;
-        }
-        if self.cr {
-            return false;
-        }
-        self.even
+        b == b'\n' && !self.cr && self.even
     }
 }
 
@@ -67,19 +55,13 @@ pub fn is_marked(s: &[u8]) -> bool
 pub fn text_start(marked: bool) -> usize
     ensures { result ≡ text_start marked }
 {
-    if marked {
-        return MARK.len();
-    }
-    0
+    if marked { MARK.len() } else { 0 }
 }
 
 pub fn as_count(holds: bool) -> usize
     ensures { (result ≡ pick holds 1 0) × (result ≤ 1) }
 {
-    if holds {
-        return 1;
-    }
-    0
+    usize::from(holds)
 }
 
 // How many LFs are bare, from a place on up to which nothing has passed that matters.
@@ -89,12 +71,9 @@ pub fn bare_count(s: &[u8], from: usize) -> usize
 {
     let mut passed = Passed::nothing();
     let mut n = 0;
-    let mut i = from;
-    while i < s.len() {
-        let b = s[i];
-        n = n + as_count(passed.bare(b));
-        passed = passed.with_byte(b);
-        i += 1;
+    for i in from..s.len() {
+        n += as_count(passed.bare(s[i]));
+        passed = passed.with_byte(s[i]);
     }
     n
 }

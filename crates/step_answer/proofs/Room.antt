@@ -1,8 +1,9 @@
 -- The answer to a step has room: after a step that is done no total is farther from zero than 16's bound and the totals
 -- of two herds. Assumes nothing.
+use Rattle.std.specs.Prelude.{Err}
 use Prim.Native.Nat.{ℕ, ◌+◌, ◌≤◌, ◌<◌}
 use Prim.Native.String.{String}
-use mathlib.Core.Path.{◌≡◌, refl, sym}
+use mathlib.Core.Path.{◌≡◌, refl}
 use mathlib.Core.Bool.{Bool, true, false}
 use mathlib.Core.List.{List, [], ◌∷◌, map}
 use native.Mathlib.Nat.{le_trans}
@@ -15,15 +16,13 @@ use Rattle.base.specs.Text.{bytes}
 use Rattle.base.specs.Pick.{pick}
 use Rattle.base.specs.Each.{Each, none, more}
 use Rattle.cut_division.proofs.Signed.{abs_add, abs_sub}
-use Rattle.kilogram_text.specs.Kilograms.{kilograms_of}
 use Rattle.kilogram_text.proofs.Lengths.{kilograms-within}
 use Rattle.kilogram_text.proofs.Signs.{sign-short}
-use Rattle.refusal_line.specs.Rooms.{line_room}
 use Rattle.farm.specs.declared.Label.{Label}
 use Rattle.farm.specs.declared.Herd.{Herd}
 use Rattle.farm.specs.declared.Farm.{Farm}
-use Rattle.farm.specs.declared.Checked.TheVariants.{Accepted}
 use Rattle.farm.specs.Labels.{same_label}
+use Rattle.farm.specs.Answers.{Accepted}
 use Rattle.checks.specs.Checks.{check_herd, herds_of}
 use Rattle.checks.proofs.Accepts.{farm-each}
 use Rattle.typed_inputs.specs.Typed.{typed_of}
@@ -42,15 +41,12 @@ use Rattle.listing.specs.Listing.{total_path, total_line, totals_listing}
 use Rattle.listing_room.proofs.Lengths.{line-length}
 use Rattle.books.specs.declared.Step.{Step}
 use Rattle.books.specs.declared.Step.TheVariants.{Add, Replace, Remove}
-use Rattle.books.specs.declared.Decided.{Decided}
-use Rattle.books.specs.declared.Decided.TheVariants.{Done, Refused}
 use Rattle.books.specs.declared.Stepped.{Stepped}
-use Rattle.books.specs.Steps.{named, takes, brings, total_of, moved, totals_after}
-use Rattle.books.specs.Rules.{total_most, decided_of}
+use Rattle.books.specs.Steps.{named, total_of, moved, totals_after}
+use Rattle.books.specs.Rules.{total_most, decided_of, Decided, Done}
 use Rattle.books.specs.Answers.{StepsTo, stored_totals}
 use Rattle.book_totals.specs.Parts.{part_most}
 use Rattle.book_totals.proofs.Beyond.{within-most}
-use Rattle.book_steps.specs.Changes.{Sound}
 use Rattle.book_steps.proofs.Decided.{is-sound, fits-added, fits_replaced}
 use Rattle.lines_steps.specs.Rooms.{room_for}
 use Rattle.step_answer.specs.Program.{answer_room}
@@ -64,7 +60,8 @@ figures-most : {hs : List Herd} → Good hs → Each (λ (f : Figures). GramsTo 
 figures-most none = none
 figures-most (more {a} p ps) = more (figures-to (typed_of a) (typed_sound a p)) (figures-most ps)
 
-part_small : (hs : List Herd) → length hs ≤ 1 → Good hs → (n : ℕ) → n < length totals → nat_abs (total_of hs n) ≤ part_most
+part_small : (hs : List Herd) → length hs ≤ 1 → Good hs → (n : ℕ) → n < length totals
+    → nat_abs (total_of hs n) ≤ part_most
 unfolding totals_of
 part_small hs few good n h =
     let l = map herd_figures hs in
@@ -183,6 +180,7 @@ pub answer-room : (f : Farm) (room : ℕ) (t : Totals) (step : Step) (h : Herd) 
     → room_for r.decided r.totals ≤ answer_room
 answer-room f room t step h r s = rw s.decided (rw s.totals (go (decided_of f room t step h) refl))
   where
-    go : (d : Decided) → decided_of f room t step h ≡ d → room_for d (stored_totals d (herds_of f) t step h) ≤ answer_room
+    go : (d : Decided) → decided_of f room t step h ≡ d
+        → room_for d (stored_totals d (herds_of f) t step h) ≤ answer_room
     go Done e = listing-short _ (after-most f room t h step e)
-    go (Refused refusal) e = leb→le _ _ tt
+    go (Err refusal) e = leb→le _ _ tt

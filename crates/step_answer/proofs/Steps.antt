@@ -1,5 +1,6 @@
 -- A step as the program takes it, from the calls that take it and put its answer: the step of src/lib.rt. Assumes
 -- nothing.
+use Rattle.std.specs.Prelude.{Err}
 use Prim.Native.Nat.{ℕ}
 use mathlib.Core.Path.{◌≡◌, refl, ap, ◌∙◌}
 use mathlib.Core.List.{List}
@@ -8,7 +9,7 @@ use lib.ListN.{length, replicate}
 use Rattle.base.specs.Wrote.{Wrote}
 use Rattle.farm.specs.declared.Herd.{Herd}
 use Rattle.farm.specs.declared.Farm.{Farm}
-use Rattle.farm.specs.declared.Checked.{Checked}
+use Rattle.farm.specs.Answers.{Checked}
 use Rattle.limits.specs.declared.Source.{Source}
 use Rattle.limits.specs.Limits.{limits_of}
 use Rattle.reader.specs.declared.FileAnswer.{FileAnswer}
@@ -18,10 +19,8 @@ use Rattle.model.specs.Answers.{farm_answer}
 use Rattle.checks.specs.Checks.{herds_of}
 use Rattle.outputs.specs.declared.Totals.{Totals}
 use Rattle.books.specs.declared.Step.{Step}
-use Rattle.books.specs.declared.Decided.{Decided}
-use Rattle.books.specs.declared.Decided.TheVariants.{Done, Refused}
 use Rattle.books.specs.declared.Stepped.{Stepped}
-use Rattle.books.specs.Rules.{decided_of}
+use Rattle.books.specs.Rules.{decided_of, Decided, Done}
 use Rattle.books.specs.Answers.{StepsTo, stored_herds}
 use Rattle.lines_steps.specs.Lines.{step_lines}
 use Rattle.step_answer.specs.Files.{Opens}
@@ -31,12 +30,12 @@ module _ (f : Farm) (step : Step) (h : Herd) (g : Farm) where
   herds-kept : (d : Decided) → herds_of g ≡ stored_herds d (herds_of f) step h
       → herds_of (pick_farm d f g) ≡ kept_herds d (herds_of f) step h
   herds-kept Done e = e
-  herds-kept (Refused refusal) e = refl
+  herds-kept (Err refusal) e = refl
 
   count_kept : (d : Decided) → g.count ≡ length (stored_herds d (herds_of f) step h)
       → (pick_farm d f g).count ≡ kept_count d f step h
   count_kept Done e = e
-  count_kept (Refused refusal) e = refl
+  count_kept (Err refusal) e = refl
 
 pub step-taken : (f : Farm) (room : ℕ) (t : Totals) (step : Step) (h : Herd) (s : Stepped) → StepsTo f room t step h s
     → (g : Farm) → g ≡ pick_farm s.decided f s.farm → {new : List ℕ} {n : ℕ}

@@ -1,16 +1,14 @@
 -- A step as the program takes it (02, W11): what is decided of it, the farm's herds and their totals afterwards, and
 -- what is printed. "A refused step leaves farm and totals unchanged". To be believed: `Takes`.
-use Rattle.std.specs.Prelude.{ℕ, ◌≡◌, List, length, replicate}
+use Rattle.std.specs.Prelude.{ℕ, ◌≡◌, List, length, replicate, Err}
 use Rattle.std.proofs.lemmas.List.Edits.{sets}
 use Rattle.farm.specs.declared.Herd.{Herd}
 use Rattle.farm.specs.declared.Farm.{Farm}
 use Rattle.checks.specs.Checks.{herds_of}
 use Rattle.outputs.specs.declared.Totals.{Totals}
 use Rattle.books.specs.declared.Step.{Step}
-use Rattle.books.specs.declared.Decided.{Decided}
-use Rattle.books.specs.declared.Decided.TheVariants.{Done, Refused}
 use Rattle.books.specs.Steps.{herds_after}
-use Rattle.books.specs.Rules.{decided_of}
+use Rattle.books.specs.Rules.{decided_of, Decided, Done}
 use Rattle.books.specs.Answers.{stored_totals}
 use Rattle.lines_steps.specs.Lines.{step_lines}
 use Rattle.step_answer.specs.declared.Taken.{Taken}
@@ -18,11 +16,11 @@ use Rattle.step_answer.specs.declared.Taken.{Taken}
 -- the herds after a step, and how many the farm counts
 abbrev pub kept_herds : Decided → List Herd → Step → Herd → List Herd
 kept_herds Done hs step h = herds_after step h hs
-kept_herds (Refused refusal) hs step h = hs
+kept_herds (Err refusal) hs step h = hs
 
 abbrev pub kept_count : Decided → Farm → Step → Herd → ℕ
 kept_count Done f step h = length (herds_after step h (herds_of f))
-kept_count (Refused refusal) f step h = f.count
+kept_count (Err refusal) f step h = f.count
 
 -- longer than any answer
 abbrev pub answer_room : ℕ
@@ -41,4 +39,4 @@ pub record Takes (f : Farm) (room : ℕ) (t : Totals) (step : Step) (h : Herd) (
 
 abbrev pub pick_farm : Decided → Farm → Farm → Farm
 pick_farm Done old new = new
-pick_farm (Refused refusal) old new = old
+pick_farm (Err refusal) old new = old

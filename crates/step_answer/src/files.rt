@@ -17,13 +17,9 @@ pub fn open(source: Source, s: &[u8]) -> Opened
     ensures { Opens source s.now result }
 {
     let read = farm_file::read(source, s);
-    let checked = read.checked;
-    let farm = read.farm;
-    let answer = answers::farm_answer(farm);
-    let totals = answer.totals;
     Opened {
-        checked,
-        farm,
-        totals,
+        checked: read.checked,
+        farm: read.farm,
+        totals: answers::farm_answer(read.farm).totals,
     }
 }

@@ -30,8 +30,8 @@ fn pick_farm(decided: Decided, old: Farm, new: Farm) -> Farm
     ensures { result ≡ pick_farm decided old new }
 {
     match decided {
-        Decided::Done => new,
-        Decided::Refused(_) => old,
+        Ok(()) => new,
+        Err(_) => old,
     }
 }
 
@@ -40,16 +40,12 @@ pub fn take(farm: Farm, room: usize, totals: Totals, step: Step, h: Herd) -> Tak
     ensures { Takes farm room totals step h result }
 {
     let stepped = book_steps::step(farm, room, totals, step, h);
-    let decided = stepped.decided;
-    let stored = stepped.farm;
-    let moved = stepped.totals;
-    let mut bytes = [0u8; ANSWER_ROOM];
-    let length = lines_steps::put_answer(&mut bytes, decided, moved);
-    let kept = pick_farm(decided, farm, stored);
+    let mut bytes = [0; ANSWER_ROOM];
+    let length = lines_steps::put_answer(&mut bytes, stepped.decided, stepped.totals);
     Taken {
-        decided,
-        farm: kept,
-        totals: moved,
+        decided: stepped.decided,
+        farm: pick_farm(stepped.decided, farm, stepped.farm),
+        totals: stepped.totals,
         bytes,
         length,
     }

@@ -1,5 +1,6 @@
 -- Two steps, one after the other: "Room of a removed herd serves the next", and a herd that is added and removed again
 -- leaves the book and the farm's herds as they were. Assumes nothing.
+use Rattle.std.specs.Prelude.{Err}
 use Prim.Native.Nat.{ℕ, suc, ◌<◌, ◌≤◌}
 use mathlib.Core.Path.{◌≡◌, refl, sym, ap, ◌∙◌}
 use mathlib.Core.Bool.{true, false, ◌&&◌}
@@ -30,10 +31,10 @@ use Rattle.books.specs.declared.Book.{Book}
 use Rattle.books.specs.declared.Step.TheVariants.{Add, Remove}
 use Rattle.books.specs.declared.StepRefusal.{StepRefusal}
 use Rattle.books.specs.declared.StepRefusal.TheVariants.{Record}
-use Rattle.books.specs.declared.Decided.TheVariants.{Done, Refused}
 use Rattle.books.specs.declared.StepAnswer.{StepAnswer}
 use Rattle.books.specs.Steps.{removed, named, total_of, moved}
 use Rattle.books.specs.Answers.{decided_in, TakesStep}
+use Rattle.books.specs.Rules.{Done}
 use Rattle.step_theorems.specs.Refusals.{NamesOne, AddsOne, NamedAt, Full, the_array, the_most}
 use Rattle.step_theorems.specs.Refusals.{AppliesToStep, Fault, told_by, AppliesTo, to_farm, to_step}
 use Rattle.step_theorems.specs.Tallies.{afresh, Tallies, Reached}
@@ -67,7 +68,7 @@ module _ {h : Herd} {book : Book} {array : List Herd} {r : StepAnswer} {new : Li
   not_full (the_array k) = omega (arith, one_free.0)
   not_full (the_most k) = omega (arith, one_free.1)
 
-  pub room-after_removal : (g : Herd) → decided_in new r.book Add g ≡ Refused (Record NoRoomForHerd) → ⊥
+  pub room-after_removal : (g : Herd) → decided_in new r.book Add g ≡ Err (Record NoRoomForHerd) → ⊥
   room-after_removal g q =
       let f = (step-refused new r.book Add g (Record NoRoomForHerd)).0 q in
       go f.told f.is_first.applies

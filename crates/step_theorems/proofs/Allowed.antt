@@ -1,5 +1,6 @@
 -- What a step that is done tells of the array, the book and the herd, and what such a step makes of the array: a farm
 -- that the checks accept. Assumes nothing.
+use Rattle.std.specs.Prelude.{Err}
 use Prim.Native.Nat.{ℕ, ◌<◌, ◌≤◌, min}
 use mathlib.Core.Path.{◌≡◌, refl, sym, subst, ◌∙◌}
 use mathlib.Core.Bool.{true, false}
@@ -12,10 +13,9 @@ use Rattle.base.specs.First.{first}
 use Rattle.base.proofs.Clash.{clash}
 use Rattle.farm.specs.declared.Herd.{Herd}
 use Rattle.farm.specs.declared.Farm.{Farm}
-use Rattle.farm.specs.declared.Checked.{Checked}
-use Rattle.farm.specs.declared.Checked.TheVariants as checks
 use Rattle.farm.specs.Limits.{herds_most}
 use Rattle.farm.specs.Labels.{label_ok}
+use Rattle.farm.specs.Answers.{Accepted, Checked}
 use Rattle.herd_tests.specs.Tests.{lacks, earlier_label}
 use Rattle.fits.specs.Fits.{unfit}
 use Rattle.checks.specs.Checks.{check_herd, check_farm, herds_of}
@@ -28,9 +28,8 @@ use Rattle.farm_calls.proofs.Refusals.{accepted-within}
 use Rattle.books.specs.declared.Book.{Book}
 use Rattle.books.specs.declared.Step.{Step}
 use Rattle.books.specs.declared.Step.TheVariants.{Add, Replace, Remove}
-use Rattle.books.specs.declared.Decided.TheVariants.{Done, Refused}
 use Rattle.books.specs.Steps.{herds_after}
-use Rattle.books.specs.Rules.{beyond, Rule, rules, is_of, tests, decided_after, decided_of}
+use Rattle.books.specs.Rules.{beyond, Rule, rules, is_of, tests, decided_after, decided_of, Done}
 use Rattle.books.specs.Answers.{decided_in}
 use Rattle.step_theorems.specs.Refusals.{NamesOne, BringsOne, AddsOne}
 use Rattle.step_theorems.proofs.Rules.{every, every-step, of-names, of-brings, of-adds, right-false}
@@ -42,16 +41,16 @@ use Rattle.step_theorems.proofs.Herds.{length-replaced, length_removed}
 -- ---- what a step that is done tells
 
 pub record Allowed (array : List Herd) (book : Book) (step : Step) (h : Herd) : Type 0 where
-  pub accepted : check_farm (farm_in array book.count) ≡ checks.Accepted
+  pub accepted : check_farm (farm_in array book.count) ≡ Accepted
   pub within-most : beyond book.totals ≡ false
   pub label : label_ok h.label ≡ true
   pub found : NamesOne step → earlier_label (take book.count array) h.label ≡ true
   pub new : AddsOne step → earlier_label (take book.count array) h.label ≡ false
   pub room : AddsOne step → book.count < min (length array) herds_most
-  pub good : BringsOne step → check_herd h ≡ checks.Accepted
+  pub good : BringsOne step → check_herd h ≡ Accepted
 
 herd-accepted : (h : Herd) → label_ok h.label ≡ true → lacks h ≡ false → unfit h ≡ false
-    → check_herd h ≡ checks.Accepted
+    → check_herd h ≡ Accepted
 unfolding check_herd
 herd-accepted h a b c = rw (a, b, c)
 
@@ -65,7 +64,7 @@ module _ (array : List Herd) (book : Book) (step : Step) (h : Herd) where
   abbrev rs : List Rule
   rs = rules (length array) h hs book.totals
 
-  by-quiet : check_farm f ≡ checks.Accepted → length hs ≡ book.count → QuietTo step rs (length rs)
+  by-quiet : check_farm f ≡ Accepted → length hs ≡ book.count → QuietTo step rs (length rs)
       → Allowed array book step h
   by-quiet accepted many q =
       let every_one = every-step step in
@@ -92,13 +91,13 @@ module _ (array : List Herd) (book : Book) (step : Step) (h : Herd) where
       go : (c : Checked) → check_farm f ≡ c
           → decided_after c (first (tests step (rules (length array) h (herds_of f) book.totals)) Done) ≡ Done
           → Allowed array book step h
-      go checks.Accepted e d =
+      go Accepted e d =
           let w = accepted-within array book.count e in
           let same = loaded_herds array book.count w.0 w.1 in
           let done : first (tests step rs) Done ≡ Done =
           subst (λ (l : List Herd). first (tests step (rules (length array) h l book.totals)) Done ≡ Done) same d in
           by-quiet e (omega (arith, length-take book.count array)) (done-quiet step rs done)
-      go (checks.Refused refusal at_record) e d = clash cc
+      go (Err refused) e d = clash cc
 
 -- ---- the herds after such a step
 
@@ -110,7 +109,7 @@ pub record GoodHerds (hs : List Herd) (most : ℕ) : Type 0 where
 
 -- in an array that has room for them they are a farm that the checks accept
 pub good-array : (hs old : List Herd) → GoodHerds hs (min (length old) herds_most)
-    → check_farm (farm_in (laid hs old) (length hs)) ≡ checks.Accepted
+    → check_farm (farm_in (laid hs old) (length hs)) ≡ Accepted
 good-array hs old g =
     let new = laid hs old in
     let n : length hs ≤ length old = omega (arith, g.few) in
@@ -125,7 +124,7 @@ good-array hs old g =
     })
 
 -- of a farm that the checks accept
-pub good-herds : (array : List Herd) (count : ℕ) → check_farm (farm_in array count) ≡ checks.Accepted
+pub good-herds : (array : List Herd) (count : ℕ) → check_farm (farm_in array count) ≡ Accepted
     → GoodHerds (take count array) (min (length array) herds_most)
 good-herds array count e =
     let w = accepted-within array count e in

@@ -4,7 +4,7 @@ use Prim.Native.Nat.{ℕ}
 use mathlib.Core.Path.{◌≡◌, sym, ap, subst}
 use mathlib.Core.List.{List, []}
 use Rattle.farm.specs.declared.Herd.{Herd}
-use Rattle.farm.specs.declared.Checked.TheVariants.{Accepted}
+use Rattle.farm.specs.Answers.{Accepted}
 use Rattle.outputs.specs.declared.Totals.{Totals}
 use Rattle.books.specs.declared.Book.{Book}
 use Rattle.book_file.specs.declared.BookAnswer.{BookAnswer}

@@ -1,6 +1,7 @@
 -- Demands 2 and 3 of a farm that began empty or came from an accepted file and changed only by steps, after every
 -- sequence of them: the stored totals are those that the call `farm_totals` gives of the array, and lie within what is
 -- promised of their exact values. And 16 never comes up. Assumes nothing.
+use Rattle.std.specs.Prelude.{Err}
 use Prim.Native.Nat.{ℕ, ◌*◌, ◌≤◌}
 use mathlib.Core.Path.{◌≡◌, sym, ap, ◌∙◌}
 use mathlib.Core.List.{List, map}
@@ -13,8 +14,8 @@ use Rattle.base.proofs.Each.{each_map}
 use Rattle.cut_division.specs.Frac.{Within}
 use Rattle.cut_division.proofs.Near.{within_weaken}
 use Rattle.farm.specs.declared.Herd.{Herd}
-use Rattle.farm.specs.declared.Checked.TheVariants.{Accepted}
 use Rattle.farm.specs.Limits.{herds_most}
+use Rattle.farm.specs.Answers.{Accepted}
 use Rattle.checks.specs.Checks.{check_herd, herds_of}
 use Rattle.checks.proofs.Accepts.{farm-each}
 use Rattle.lent.specs.Laid.{farm_in}
@@ -36,7 +37,6 @@ use Rattle.books.specs.declared.Book.{Book}
 use Rattle.books.specs.declared.Step.{Step}
 use Rattle.books.specs.declared.StepRefusal.{StepRefusal}
 use Rattle.books.specs.declared.StepRefusal.TheVariants.{TotalTooLarge}
-use Rattle.books.specs.declared.Decided.TheVariants.{Refused}
 use Rattle.books.specs.Rules.{total_most}
 use Rattle.books.specs.Answers.{decided_in}
 use Rattle.step_theorems.specs.Refusals.{AppliesToStep, Fault, told_by, AppliesTo, to_farm, to_step}
@@ -102,7 +102,7 @@ module _ {array : List Herd} {book : Book} (t : Tallies array book) where
   none_16 (AppliesToStep.input_missing _ _ _) q = clash cc
   none_16 (AppliesToStep.bad_value _ _ _) q = clash cc
 
-  tallies_never_16 : (step : Step) (h : Herd) → decided_in array book step h ≡ Refused TotalTooLarge → ⊥
+  tallies_never_16 : (step : Step) (h : Herd) → decided_in array book step h ≡ Err TotalTooLarge → ⊥
   tallies_never_16 step h e =
       let f = (step-refused array book step h TotalTooLarge).0 e in
       go f.told f.is_first.applies
@@ -132,5 +132,5 @@ module _ {array : List Herd} {book : Book} (x : Reached array book) where
       (exact_of_total (map typed_of (take book.count array)) n)
   demand_3_stepped n = tallies_3 (reached_tallies x) n
 
-  pub never_16 : (step : Step) (h : Herd) → decided_in array book step h ≡ Refused TotalTooLarge → ⊥
+  pub never_16 : (step : Step) (h : Herd) → decided_in array book step h ≡ Err TotalTooLarge → ⊥
   never_16 step h e = tallies_never_16 (reached_tallies x) step h e

@@ -1,5 +1,6 @@
 -- A book that tallies with the herds beside it tallies after every step, refused or not; so does that of an empty farm
 -- and that of a farm that was read; and so that of every farm that is reached by steps from there. Assumes nothing.
+use Rattle.std.specs.Prelude.{Err}
 use Prim.Native.Nat.{ℕ, ◌≤◌}
 use mathlib.Core.Path.{◌≡◌, refl, sym, ap, subst, ◌∙◌}
 use mathlib.Core.List.{List, [], map}
@@ -7,8 +8,8 @@ use native.Mathlib.Omega.{arith}
 use lib.ListN.{length, take}
 use Rattle.base.specs.Each.{none}
 use Rattle.farm.specs.declared.Herd.{Herd}
-use Rattle.farm.specs.declared.Checked.TheVariants.{Accepted}
 use Rattle.farm.specs.Limits.{herds_most}
+use Rattle.farm.specs.Answers.{Accepted}
 use Rattle.checks.specs.Checks.{check_farm}
 use Rattle.checks.specs.Accepts.{Distinct}
 use Rattle.lent.specs.Laid.{laid}
@@ -25,11 +26,10 @@ use Rattle.outputs.specs.Grams.{totals_of}
 use Rattle.model.specs.Answers.{herd_figures}
 use Rattle.books.specs.declared.Book.{Book}
 use Rattle.books.specs.declared.Step.{Step}
-use Rattle.books.specs.declared.Decided.{Decided}
-use Rattle.books.specs.declared.Decided.TheVariants.{Done, Refused}
 use Rattle.books.specs.declared.StepAnswer.{StepAnswer}
 use Rattle.books.specs.Steps.{herds_after, totals_after}
 use Rattle.books.specs.Answers.{decided_in, book_after, array_after, TakesStep}
+use Rattle.books.specs.Rules.{Decided, Done}
 use Rattle.step_theorems.specs.Tallies.{book_of, Tallies, Reached, empty, read, stepped}
 use Rattle.step_theorems.proofs.Sums.{totals-after}
 use Rattle.step_theorems.proofs.Allowed.{allowed, good-array, good-after}
@@ -62,7 +62,7 @@ module _ (array : List Herd) (book : Book) (step : Step) (h : Herd) (t : Tallies
       go : (d : Decided) → decided_in array book step h ≡ d
           → Tallies (array_after d hs array step h) (book_after d hs book step h)
       go Done e = done_tallies e
-      go (Refused refusal) e = t
+      go (Err refusal) e = t
 
   pub step_tallies : {r : StepAnswer} {new : List Herd} → TakesStep step h book array r new → Tallies new r.book
   step_tallies {r} {new} s =

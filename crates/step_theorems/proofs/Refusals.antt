@@ -1,5 +1,6 @@
 -- The first refusal of a step: a step is refused exactly with the first refusal that applies, and done exactly where
 -- none applies; and there is one first, for every array, book, step and herd. Assumes nothing.
+use Rattle.std.specs.Prelude.{Err}
 use Prim.Native.Nat.{ℕ, zero, suc, ◌<◌, ◌≤◌, min}
 use mathlib.Core.Path.{◌≡◌, refl, sym, ap, subst, ◌∙◌}
 use mathlib.Core.Logic.{◌↔◌}
@@ -19,10 +20,10 @@ use Rattle.farm.specs.declared.Herd.{Herd}
 use Rattle.farm.specs.declared.Farm.{Farm}
 use Rattle.farm.specs.declared.Refusal.{Refusal}
 use Rattle.farm.specs.declared.Refusal.TheVariants.{BadLabel, BadValue, EarlierLabel, NoRoomForHerd, InputMissing}
-use Rattle.farm.specs.declared.Checked.{Checked}
 use Rattle.farm.specs.Limits.{herds_most}
 use Rattle.farm.specs.Labels.{label_ok, same_label}
 use Rattle.farm.specs.Herds.{no_herd}
+use Rattle.farm.specs.Answers.{Checked}
 use Rattle.herd_tests.specs.Tests.{lacks, earlier_label}
 use Rattle.fits.specs.Fits.{unfit}
 use Rattle.first_refusal.specs.First.{FirstOf}
@@ -39,10 +40,9 @@ use Rattle.books.specs.declared.Book.{Book}
 use Rattle.books.specs.declared.Step.{Step}
 use Rattle.books.specs.declared.StepRefusal.{StepRefusal}
 use Rattle.books.specs.declared.StepRefusal.TheVariants.{Record, NotPresent, TotalTooLarge}
-use Rattle.books.specs.declared.Decided.{Decided}
-use Rattle.books.specs.declared.Decided.TheVariants.{Done, Refused}
 use Rattle.books.specs.Rules.{total_most, any_beyond, beyond, Rule, rules, is_of, tests, decided_after, decided_of}
 use Rattle.books.specs.Answers.{decided_in}
+use Rattle.books.specs.Rules.{Decided, Done}
 use Rattle.book_totals.proofs.Beyond.{within-most}
 use Rattle.step_theorems.specs.Refusals.{NamedAt, Full, the_array, the_most}
 use Rattle.step_theorems.specs.Refusals.{AppliesToStep, Turn, Fault, of_farm, of_step, told_by}
@@ -309,16 +309,16 @@ module _ {array : List Herd} {book : Book} {step : Step} {h : Herd} where
 
 module _ (array : List Herd) (book : Book) (step : Step) (h : Herd) where
   pub step-refused : (x : StepRefusal)
-      → (decided_in array book step h ≡ Refused x) ↔ FirstOfStep array book step h x
+      → (decided_in array book step h ≡ Err x) ↔ FirstOfStep array book step h x
   step-refused x = (told (step_gets array book step h), found (step_gets array book step h))
     where
-      told : {c : Decided} → StepGets array book step h c → c ≡ Refused x → FirstOfStep array book step h x
+      told : {c : Decided} → StepGets array book step h c → c ≡ Err x → FirstOfStep array book step h x
       told (done none) e = clash cc
       told (gets_refusal {refusal = y} first) e = let p : y ≡ x = cc in rw p at first
 
-      found : {c : Decided} → StepGets array book step h c → FirstOfStep array book step h x → c ≡ Refused x
+      found : {c : Decided} → StepGets array book step h c → FirstOfStep array book step h x → c ≡ Err x
       found (done none) y = absurd (none y.place y.fault y.is_first.applies)
-      found (gets_refusal first) y = ap Refused (one-first-step first y)
+      found (gets_refusal first) y = ap Err (one-first-step first y)
 
   pub step-done : (decided_in array book step h ≡ Done)
       ↔ ((place : ℕ) (fault : Fault) → AppliesTo array book step h place fault → ⊥)

@@ -1,5 +1,6 @@
 -- The rules of a step, one after the other: the first that holds gives the refusal, and none before it holds.
 -- Assumes nothing.
+use Rattle.std.specs.Prelude.{Err}
 use Prim.Native.Nat.{ℕ, zero, suc, ◌<◌}
 use mathlib.Core.Path.{◌≡◌, refl}
 use mathlib.Core.Bool.{Bool, true, false, ◌&&◌}
@@ -12,9 +13,7 @@ use Rattle.base.proofs.Clash.{clash}
 use Rattle.books.specs.declared.Step.{Step}
 use Rattle.books.specs.declared.Step.TheVariants.{Add, Replace, Remove}
 use Rattle.books.specs.declared.StepRefusal.TheVariants.{TotalTooLarge}
-use Rattle.books.specs.declared.Decided.{Decided}
-use Rattle.books.specs.declared.Decided.TheVariants.{Done, Refused}
-use Rattle.books.specs.Rules.{Rule, is_of, tests}
+use Rattle.books.specs.Rules.{Rule, is_of, tests, Decided, Done}
 use Rattle.step_theorems.specs.Refusals.{NamesOne, BringsOne, AddsOne}
 
 -- ---- the steps that a rule is of
@@ -78,7 +77,7 @@ QuietTo step rs n = (i : ℕ) → i < n → applies step (rule_at rs i) ≡ fals
 pub data Verdict (step : Step) (rs : List Rule) : Decided → Type 0 where
   quiet : QuietTo step rs (length rs) → Verdict step rs Done
   gives : {n : ℕ} → n < length rs → applies step (rule_at rs n) ≡ true → QuietTo step rs n
-      → Verdict step rs (Refused (rule_at rs n).refusal)
+      → Verdict step rs (Err (rule_at rs n).refusal)
 
 module _ (step : Step) where
   quiet_cons : (r : Rule) (rs : List Rule) (n : ℕ) → applies step r ≡ false → QuietTo step rs n
@@ -95,7 +94,7 @@ module _ (step : Step) where
       behind e (gives {n = n} h a q) = gives {n = suc n} (omega arith) a (quiet_cons r rs n e q)
 
       go : (t : Bool) → applies step r ≡ t → Verdict step rs (first (tests step rs) Done)
-          → Verdict step (r ∷ rs) (pick t (Refused r.refusal) (first (tests step rs) Done))
+          → Verdict step (r ∷ rs) (pick t (Err r.refusal) (first (tests step rs) Done))
       go true e v = gives {n = 0} (omega arith) e (λ i h. absurd (omega arith))
       go false e v = behind e v
 

@@ -1,6 +1,7 @@
 -- What a step does with the array and the book, for every farm that is handed in: there is one result; a refused step
 -- changes nothing; a step that is done changes the array entry by entry as `Changes` says and each total as `Moves`
 -- says, and leaves a farm that the checks accept. Assumes nothing.
+use Rattle.std.specs.Prelude.{Err}
 use Prim.Native.Nat.{ℕ, suc, ◌+◌, ◌<◌, ◌≤◌}
 use mathlib.Core.Path.{◌≡◌, refl, sym, ap, subst, ◌∙◌}
 use mathlib.Core.List.{List, [], ◌∷◌, ◌++◌}
@@ -10,8 +11,8 @@ use lib.ListN.{length, take, length-append, get_or-append}
 use lib.Seq.{length-take-le, get_or-take, get_or-append-add}
 use lib.IntN.{ℤ, pos, ◌+ℤ◌, ◌-ℤ◌, +ℤ_idr}
 use Rattle.farm.specs.declared.Herd.{Herd}
-use Rattle.farm.specs.declared.Checked.TheVariants.{Accepted}
 use Rattle.farm.specs.Herds.{no_herd}
+use Rattle.farm.specs.Answers.{Accepted}
 use Rattle.checks.specs.Checks.{check_farm}
 use Rattle.first_refusal.proofs.Order.{compare}
 use Rattle.lent.specs.Laid.{laid, farm_in}
@@ -23,11 +24,10 @@ use Rattle.books.specs.declared.Book.{Book}
 use Rattle.books.specs.declared.Step.{Step}
 use Rattle.books.specs.declared.Step.TheVariants.{Add, Replace, Remove}
 use Rattle.books.specs.declared.StepRefusal.{StepRefusal}
-use Rattle.books.specs.declared.Decided.{Decided}
-use Rattle.books.specs.declared.Decided.TheVariants.{Done, Refused}
 use Rattle.books.specs.declared.StepAnswer.{StepAnswer}
 use Rattle.books.specs.Steps.{herds_after, named, total_of, totals_after}
 use Rattle.books.specs.Answers.{decided_in, book_after, array_after, TakesStep}
+use Rattle.books.specs.Rules.{Decided, Done}
 use Rattle.step_theorems.specs.Refusals.{NamesOne, NamedAt}
 use Rattle.step_theorems.specs.Places.{entry, Changes}
 use Rattle.step_theorems.specs.Moves.{own, Moves}
@@ -170,10 +170,10 @@ module _ {step : Step} {h : Herd} {book : Book} {array : List Herd} {r : StepAns
     where
       go : (d : Decided) → length (array_after d (take book.count array) array step h) ≡ length array
       go Done = length-laid (herds_after step h (take book.count array)) array
-      go (Refused x) = refl
+      go (Err x) = refl
 
   -- "A refused step leaves farm and totals unchanged"
-  pub refused-step-changes-nothing : {x : StepRefusal} → r.decided ≡ Refused x → (r.book ≡ book) × (new ≡ array)
+  pub refused-step-changes-nothing : {x : StepRefusal} → r.decided ≡ Err x → (r.book ≡ book) × (new ≡ array)
   refused-step-changes-nothing e =
       let d = sym s.decided ∙ e in
       (rw d at s.new_book, rw d at s.array)

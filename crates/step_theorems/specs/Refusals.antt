@@ -3,7 +3,7 @@
 -- grams above or below zero, 4 bad label, 15 label not present (replace, remove), 8 label present (add), 9 farm full
 -- (add), 12, 7 (add, replace); record 0 in all." proofs/Refusals.antt shows that a step is decided exactly so. To be
 -- believed.
-use Rattle.std.specs.Prelude.{ℕ, ◌<◌, ◌≤◌, ◌≡◌, true, false, List, length, get_or, nat_abs}
+use Rattle.std.specs.Prelude.{ℕ, ◌<◌, ◌≤◌, ◌≡◌, true, false, List, length, get_or, nat_abs, Err}
 use Rattle.inputs.specs.Inputs.{count_of, form_of}
 use Rattle.farm.specs.declared.Given.TheVariants.{Missing}
 use Rattle.farm.specs.declared.Herd.{Herd}
@@ -24,9 +24,7 @@ use Rattle.books.specs.declared.Step.TheVariants.{Add, Replace, Remove}
 use Rattle.books.specs.declared.StepRefusal.{StepRefusal}
 use Rattle.books.specs.declared.StepRefusal.TheVariants as gives
 use Rattle.books.specs.declared.StepRefusal.TheVariants.{NotPresent, TotalTooLarge}
-use Rattle.books.specs.declared.Decided.{Decided}
-use Rattle.books.specs.declared.Decided.TheVariants.{Done, Refused}
-use Rattle.books.specs.Rules.{total_most}
+use Rattle.books.specs.Rules.{total_most, Decided, Done}
 
 -- ---- the steps that a refusal is of
 
@@ -119,4 +117,4 @@ pub record FirstOfStep (array : List Herd) (book : Book) (step : Step) (h : Herd
 pub data StepGets (array : List Herd) (book : Book) (step : Step) (h : Herd) : Decided → Type 0 where
   done : ((place : ℕ) (fault : Fault) → AppliesTo array book step h place fault → ⊥) → StepGets array book step h Done
   gets_refusal : {refusal : StepRefusal} → FirstOfStep array book step h refusal
-      → StepGets array book step h (Refused refusal)
+      → StepGets array book step h (Err refusal)

@@ -4,7 +4,7 @@
 -- be believed.
 use Rattle.std.specs.Prelude.{ℕ, ◌≡◌, List, map, take}
 use Rattle.farm.specs.declared.Herd.{Herd}
-use Rattle.farm.specs.declared.Checked.TheVariants.{Accepted}
+use Rattle.farm.specs.Answers.{Accepted}
 use Rattle.checks.specs.Checks.{check_farm}
 use Rattle.lent.specs.Laid.{farm_in}
 use Rattle.lent_file.specs.declared.LentAnswer.{LentAnswer}

@@ -9,7 +9,7 @@ use std::io::{Error, ErrorKind, Result};
 
 // What one read or write gave: so many bytes; none, which is the end of an input; a signal or a stream that was not
 // ready; or an error.
-#[derive(Clone, Copy)]
+#[derive(Clone, Copy, Debug)]
 pub enum Moved {
     Bytes(usize),
     Nothing,
@@ -19,7 +19,7 @@ pub enum Moved {
 
 // What to do next: go on from a place, try once more, or stop, after so many bytes or with an error. Where the system
 // has none to name, as of an output that takes nothing, there is none.
-#[derive(Clone, Copy)]
+#[derive(Clone, Copy, Debug)]
 pub enum Step {
     On(usize),
     Wait(Error),
@@ -30,14 +30,10 @@ pub enum Step {
 fn fault(error: Error) -> Moved
     ensures { result ≡ fault_of error }
 {
-    let kind = error.kind();
-    if kind == ErrorKind::Interrupted {
-        return Moved::Again(error);
+    match error.kind() {
+        ErrorKind::Interrupted | ErrorKind::WouldBlock => Moved::Again(error),
+        _ => Moved::Failed(error),
     }
-    if kind == ErrorKind::WouldBlock {
-        return Moved::Again(error);
-    }
-    Moved::Failed(error)
 }
 
 // The answer of a read or a write.
@@ -54,16 +50,13 @@ pub fn meaning(answer: Result<usize>) -> Moved
 fn onward(done: usize, size: usize, n: usize) -> Step
     ensures { result ≡ onward_of done size n }
 {
-    if size < done {
-        return Step::Broken(None);
+    if size < done || size - done < n {
+        Step::Broken(None)
+    } else if done + n == size {
+        Step::Done(size)
+    } else {
+        Step::On(done + n)
     }
-    if size - done < n {
-        return Step::Broken(None);
-    }
-    if done + n == size {
-        return Step::Done(size);
-    }
-    Step::On(done + n)
 }
 
 // After a call that was to move the bytes from `done` on, of `size`. `none` is what it means that it moved none.

@@ -1,6 +1,7 @@
 -- What is read or written is no more than there is room or text, and each step that goes on goes further.
 -- Assumes nothing.
-use Rattle.std.proofs.Common.{◌≡◌, refl, ℕ, ◌+◌, ◌-◌, ◌*◌, ◌<◌, ◌≤◌, Bool, true, false, List, length, arith, Result, Ok, Err, Option, None, Some, IfOk}
+use Rattle.std.proofs.Common.{◌≡◌, refl, ℕ, ◌+◌, ◌-◌, ◌*◌, ◌<◌, ◌≤◌, Bool, true, false, List, length, arith, Result}
+use Rattle.std.proofs.Common.{Ok, Err, Option, None, Some, IfOk}
 use borrow.Author.Tests.{eqb-false, le-ltb}
 use lib.Dec.{eqb}
 use Rattle.base.specs.Pick.{pick}
@@ -11,8 +12,6 @@ use Rattle.std.specs.declared.io.ErrorKind.{ErrorKind}
 use Rattle.std.specs.declared.io.ErrorKind.TheVariants.{Interrupted, WouldBlock}
 use Rattle.stream_steps.specs.declared.Moved.{Moved}
 use Rattle.stream_steps.specs.declared.Moved.TheVariants.{Bytes, Nothing, Again, Failed}
-use Rattle.streams.specs.declared.Outcome.{Outcome}
-use Rattle.streams.specs.declared.Outcome.TheVariants.{Whole, Broken}
 use Rattle.stream_steps.specs.declared.Step.{Step}
 use Rattle.stream_steps.specs.declared.Step.TheVariants as steps
 use Rattle.stream_steps.specs.Steps.{fault_by, fault_of, moved_of, onward_of, after_call, after_read, after_write}
@@ -43,8 +42,8 @@ read_counted size buf (Err e) same h q = answer_counted size (Err e) tt q
 
 -- ---- a step
 
-module _ (Ends : Outcome → Type 0) (done size : ℕ) (inside : done ≤ size) (full : Ends (Whole size))
-    (broken : (e : Option Error) → Ends (Broken e)) where
+module _ (Ends : Result ℕ (Option Error) → Type 0) (done size : ℕ) (inside : done ≤ size) (full : Ends (Ok size))
+    (broken : (e : Option Error) → Ends (Err e)) where
   onward_going : (n : ℕ) → 0 < n → n ≤ size - done → Going Ends done size (onward_of done size n)
   onward_going n h k = rw (le-ltb size (done + n) (omega arith)) (go (eqb (done + n) size))
     where
@@ -64,14 +63,14 @@ module _ {done size rest : ℕ} {m : Moved} {r : Step} (inside : done ≤ size) 
     (e : rest ≡ size - done) where
   pub read_goes : r ≡ after_read done size m → Going (Within size) done size r
   read_goes q =
-      rw q (call_going (Within size) done size inside (Within.whole (omega arith)) (λ e. Within.broken)
-      (Going.done (Within.whole inside))
+      rw q (call_going (Within size) done size inside (omega arith) (λ e. tt)
+      (Going.done inside)
       (rw e at given))
 
   pub write_goes : 0 < size → r ≡ after_write done size m → Going (All size) done size r
   write_goes some q =
-      let broken : (e : Option Error) → All size (Broken e) = λ e. All.broken some in
-      rw q (call_going (All size) done size inside All.whole broken (Going.broken (broken None)) (rw e at given))
+      let broken : (e : Option Error) → All size (Err e) = λ e. some in
+      rw q (call_going (All size) done size inside refl broken (Going.broken (broken None)) (rw e at given))
 
 -- ---- a loop's turn, after which the slice is as long as before
 
@@ -79,11 +78,11 @@ module _ {done size rest : ℕ} {m : Moved} {r : Step} (inside : done ≤ size) 
 abbrev pub left : ℕ → ℕ → ℕ → ℕ
 left size done patience = (size - done) * 20000001 + patience
 
-module _ {Ends : Outcome → Type 0} {done size : ℕ} where
+module _ {Ends : Result ℕ (Option Error) → Type 0} {done size : ℕ} where
   further : {n : ℕ} → Going Ends done size (steps.On n) → (done < n) × (n ≤ size)
   further (Going.on h k) = (h, k)
 
-  ended : {n : ℕ} → Going Ends done size (steps.Done n) → Ends (Whole n)
+  ended : {n : ℕ} → Going Ends done size (steps.Done n) → Ends (Ok n)
   ended (Going.done w) = w
 
   module _ {r : Step} (going : Going Ends done size r) where
@@ -95,10 +94,10 @@ module _ {Ends : Outcome → Type 0} {done size : ℕ} where
       on-inside = let f = further (rw e at going) in omega arith
 
 module _ {done size : ℕ} {r : Step} {n : ℕ} (e : r ≡ steps.Done n) where
-  pub read-ends : {now : ℕ} → now ≡ size → Going (Within size) done size r → Within now (Whole n)
+  pub read-ends : {now : ℕ} → now ≡ size → Going (Within size) done size r → Within now (Ok n)
   read-ends same going = rw same (ended (rw e at going))
 
-  pub write_ends : Going (All size) done size r → All size (Whole n)
+  pub write_ends : Going (All size) done size r → All size (Ok n)
   write_ends going = ended (rw e at going)
 
-pub ruleset turn_steps = (on-less, on-inside, read-ends, write_ends, Within.broken, All.broken)
+pub ruleset turn_steps = (on-less, on-inside, read-ends, write_ends)

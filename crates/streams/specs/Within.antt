@@ -1,10 +1,8 @@
 -- What a read or a write can have given of a slice, and how a reading or a writing can go on and end.
-use Rattle.std.specs.Prelude.{ℕ, ◌<◌, ◌≤◌, Option}
+use Rattle.std.specs.Prelude.{◌≡◌, ℕ, ◌<◌, ◌≤◌, Option, Result, Ok, Err, IfOk, MatchResult}
 use Rattle.std.specs.declared.io.Error.{Error}
 use Rattle.stream_steps.specs.declared.Moved.{Moved}
 use Rattle.stream_steps.specs.declared.Moved.TheVariants.{Bytes, Nothing, Again, Failed}
-use Rattle.streams.specs.declared.Outcome.{Outcome}
-use Rattle.streams.specs.declared.Outcome.TheVariants.{Whole, Broken}
 use Rattle.stream_steps.specs.declared.Step.{Step}
 use Rattle.stream_steps.specs.declared.Step.TheVariants as steps
 
@@ -16,18 +14,16 @@ pub data Counted (size : ℕ) : Moved → Type 0 where
   failed : {e : Error} → Counted size (Failed e)
 
 -- an input is read: no more of it than the buffer has room for
-pub data Within (size : ℕ) : Outcome → Type 0 where
-  whole : {n : ℕ} → n ≤ size → Within size (Whole n)
-  broken : {e : Option Error} → Within size (Broken e)
+abbrev pub Within : ℕ → Result ℕ (Option Error) → Type 0
+Within size r = IfOk r (λ n. n ≤ size)
 
 -- a text is written: all of it; where there is nothing to write, that cannot break off
-pub data All (size : ℕ) : Outcome → Type 0 where
-  whole : All size (Whole size)
-  broken : {e : Option Error} → 0 < size → All size (Broken e)
+abbrev pub All : ℕ → Result ℕ (Option Error) → Type 0
+All size r = MatchResult r (λ n. n ≡ size) (λ e. 0 < size)
 
 -- a step that goes on goes further, and not past the end; one that stops does so with an outcome that may be
-pub data Going (Ends : Outcome → Type 0) (from size : ℕ) : Step → Type 0 where
+pub data Going (Ends : Result ℕ (Option Error) → Type 0) (from size : ℕ) : Step → Type 0 where
   on : {n : ℕ} → from < n → n ≤ size → Going Ends from size (steps.On n)
   wait : {e : Error} → Going Ends from size (steps.Wait e)
-  done : {n : ℕ} → Ends (Whole n) → Going Ends from size (steps.Done n)
-  broken : {e : Option Error} → Ends (Broken e) → Going Ends from size (steps.Broken e)
+  done : {n : ℕ} → Ends (Ok n) → Going Ends from size (steps.Done n)
+  broken : {e : Option Error} → Ends (Err e) → Going Ends from size (steps.Broken e)

@@ -12,11 +12,7 @@ use std::thread;
 use stream_steps::{Moved, Step};
 
 // How a whole reading or writing ends: after so many bytes, or with an error, where the system has one to name.
-#[derive(Clone, Copy)]
-pub enum Outcome {
-    Whole(usize),
-    Broken(Option<Error>),
-}
+pub type Outcome = Result<usize, Option<Error>>;
 
 // How often in a row a call is made again before it counts as failed.
 const PATIENCE: usize = 20000000;
@@ -33,6 +29,7 @@ fn write_some(output: &impl Print, text: &[u8]) -> Moved
     stream_steps::meaning(output.write_some(text))
 }
 
+#[tactic(auto, using(crate::proofs::Moves::read_goes))]
 fn read_step(input: &mut impl Read, into: &mut [u8], done: usize) -> Step
     requires { done ≤ length into.old }
     ensures { Going (Within (length into.old)) done (length into.old) result }
@@ -42,6 +39,7 @@ fn read_step(input: &mut impl Read, into: &mut [u8], done: usize) -> Step
     stream_steps::after_read(done, size, moved)
 }
 
+#[tactic(auto, using(crate::proofs::Moves::write_goes))]
 fn write_step(output: &impl Print, text: &[u8], done: usize) -> Step
     requires { (0 < length text.now) × (done ≤ length text.now) }
     ensures { Going (All (length text.now)) done (length text.now) result }
@@ -51,6 +49,7 @@ fn write_step(output: &impl Print, text: &[u8], done: usize) -> Step
 }
 
 // What the input gives, to its end or until the buffer is full.
+#[tactic(auto, using(crate::proofs::Moves::turn_steps))]
 pub fn read_from(input: &mut impl Read, into: &mut [u8]) -> Outcome
     ensures { Within (length into.new) result }
 {
@@ -68,11 +67,11 @@ pub fn read_from(input: &mut impl Read, into: &mut [u8]) -> Outcome
                 patience -= 1;
                 last = Some(error);
             }
-            Step::Done(n) => return Outcome::Whole(n),
-            Step::Broken(error) => return Outcome::Broken(error),
+            Step::Done(n) => return Ok(n),
+            Step::Broken(error) => return Err(error),
         }
     }
-    Outcome::Broken(last)
+    Err(last)
 }
 
 // The same of standard input.
@@ -83,11 +82,12 @@ pub fn read_all(rt: &impl Input, into: &mut [u8]) -> Outcome
 }
 
 // A text to standard output, all of it.
+#[tactic(auto, using(crate::proofs::Moves::turn_steps))]
 pub fn write_all(output: &impl Print, text: &[u8]) -> Outcome
     ensures { All (length text.now) result }
 {
-    if text.len() == 0 {
-        return Outcome::Whole(0);
+    if text.is_empty() {
+        return Ok(0);
     }
     let mut done = 0;
     let mut patience = PATIENCE;
@@ -103,9 +103,9 @@ pub fn write_all(output: &impl Print, text: &[u8]) -> Outcome
                 patience -= 1;
                 last = Some(error);
             }
-            Step::Done(n) => return Outcome::Whole(n),
-            Step::Broken(error) => return Outcome::Broken(error),
+            Step::Done(n) => return Ok(n),
+            Step::Broken(error) => return Err(error),
         }
     }
-    Outcome::Broken(last)
+    Err(last)
 }

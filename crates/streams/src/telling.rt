@@ -27,7 +27,7 @@ const TEXT_MOST: usize = 64;
 const NUMBER: [u8; 11] = *b" (os error ";
 
 // An error's text as it is put together.
-#[derive(Clone, Copy)]
+#[derive(Clone, Copy, Debug, PartialEq, Eq)]
 struct Text {
     bytes: [u8; TEXT_MOST],
     length: usize,
@@ -53,14 +53,9 @@ impl Write for Text {
 
 // Where the number begins, or the end.
 fn words_end(text: &[u8]) -> usize {
-    let mut i = 0;
-    while i < text.len() {
-        if base::same(base::part_of(text, i, i + NUMBER.len()), &NUMBER) {
-            return i;
-        }
-        i += 1;
-    }
-    i
+    (0..text.len())
+        .find(|i| text[*i..].starts_with(&NUMBER))
+        .unwrap_or(text.len())
 }
 
 // The words alone.

@@ -14,12 +14,8 @@ pub fn plus(a: Figures, b: Figures) -> Figures
     ensures { result.grams ≡ plus_grams a.grams b.grams }
 {
     let mut sum = a;
-    let mut i = 0;
-    while i < names::COUNT {
-        let x = a.grams[i];
-        let y = b.grams[i];
-        sum.grams[i] = cut_division::plus(x, y);
-        i += 1;
+    for i in 0..names::COUNT {
+        sum.grams[i] = cut_division::plus(a.grams[i], b.grams[i]);
     }
     sum
 }
@@ -36,14 +32,10 @@ pub fn total(f: Figures, t: usize) -> i64
     requires { GramsTo figure_most f.grams × (t < length totals) }
     ensures { result ≡ total_at f.grams t }
 {
-    let end = total_addends::STARTS[t + 1];
-    let mut k = total_addends::STARTS[t];
     let mut sum = 0;
-    while k < end {
+    for k in total_addends::STARTS[t]..total_addends::STARTS[t + 1] {
         let n = total_addends::ADDENDS[k];
-        let g = f.grams[n];
-        sum = cut_division::plus(sum, g);
-        k += 1;
+        sum = cut_division::plus(sum, f.grams[n]);
     }
     sum
 }
@@ -56,10 +48,8 @@ pub fn totals_from(f: Figures) -> Totals
     let mut r = Totals {
         grams: [0; total_names::COUNT],
     };
-    let mut t = 0;
-    while t < total_names::COUNT {
+    for t in 0..total_names::COUNT {
         r.grams[t] = total(f, t);
-        t += 1;
     }
     r
 }

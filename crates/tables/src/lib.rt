@@ -68,27 +68,23 @@ const K: [u64; 241] = [
 ];
 
 // The standard of a category, and 0 past the last.
+#[tactic(auto, unfolding(crate::specs::Standards::standard_of))]
 pub fn standard(category: u64) -> u64
     ensures { result ≡ standard_of category }
 {
-    let at = category as usize;
-    if at < STANDARDS.len() {
-        return STANDARDS[at];
-    }
-    0
+    STANDARDS.get(category as usize).copied().unwrap_or(0)
 }
 
 // More than a day counts as a day.
+#[tactic(auto, using(crate::proofs::Entries::within_day_is))]
 fn within_day(tenths: u64) -> u64
     ensures { result ≡ within_day tenths }
 {
-    if tenths <= DAY {
-        return tenths;
-    }
-    DAY
+    tenths.min(DAY)
 }
 
 // k after so many tenths of an hour on pasture.
+#[tactic(auto, using(crate::proofs::Entries::within_steps))]
 pub fn k(tenths: u64) -> u64
     ensures { result ≡ k_of tenths }
 {

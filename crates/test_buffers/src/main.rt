@@ -4,6 +4,7 @@
 
 ghost use Rattle.std.specs.Prelude.{◌≤◌};
 
+use base::refusals::Refused;
 use farm::Farm;
 use limits::Source;
 use printing::tell;
@@ -50,18 +51,15 @@ enum Call {
 }
 
 fn farm() -> Farm {
-    let answer = farm_file::read(Source::StandardInput, &PIGS);
-    answer.farm
+    farm_file::read(Source::StandardInput, &PIGS).farm
 }
 
 fn write_herd(view: View, f: Farm, out: &mut [u8]) -> Written {
-    let h = f.herds[0];
-    calls::herd_view(view, h, out)
+    calls::herd_view(view, f.herds[0], out)
 }
 
 fn write_totals(f: Farm, out: &mut [u8]) -> Written {
-    let herds = f.herds;
-    test_totals::listing_through(herds, f.count, out)
+    test_totals::listing_through(f.herds, f.count, out)
 }
 
 fn write_by(call: Call, out: &mut [u8]) -> Written {
@@ -83,34 +81,19 @@ fn write_by(call: Call, out: &mut [u8]) -> Written {
 
 // The call with the first `size` bytes of a buffer, as far as it has them.
 fn write_part(call: Call, out: &mut [u8], size: usize) -> Written {
-    if out.len() < size {
-        return write_by(call, out);
-    }
-    write_by(call, &mut out[..size])
-}
-
-fn one_if(is: bool) -> usize
-    ensures { result ≤ 1 }
-{
-    if is { 1 } else { 0 }
+    let end = size.min(out.len());
+    write_by(call, &mut out[..end])
 }
 
 // How many marks a buffer has.
 fn marks(out: &[u8]) -> usize {
-    let mut count = 0;
-    let mut i = 0;
-    while i < out.len() {
-        count += one_if(out[i] == MARK);
-        i += 1;
-    }
-    count
+    out.iter().filter(|b| **b == MARK).count()
 }
 
 fn is_13(written: Written) -> bool {
     match written {
-        Written::Length(_) => false,
-        Written::Refused(refusal, record) => refusal_numbers::number_of(refusal) == NUMBER_13
-            && record == 0,
+        Err(Refused(refusal, 0)) => refusal_numbers::number_of(refusal) == NUMBER_13,
+        _ => false,
     }
 }
 
@@ -123,13 +106,7 @@ fn is_refused(call: Call, size: usize) -> bool {
 
 // How many of the sizes from 0 to before `length` are.
 fn refused_sizes(call: Call, length: usize) -> usize {
-    let mut count = 0;
-    let mut size = 0;
-    while size < length {
-        count += one_if(is_refused(call, size));
-        size += 1;
-    }
-    count
+    (0..length).filter(|size| is_refused(call, *size)).count()
 }
 
 // A buffer of this size: the answer, how many marks are left, and the bytes where the listing goes.

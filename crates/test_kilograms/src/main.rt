@@ -4,8 +4,7 @@
 
 use farm::{Farm, Herd};
 use limits::Source;
-use outputs::{names, total_names};
-use packs::Packed;
+use outputs::names;
 use printing::tell;
 
 // Longer than any file of the pack.
@@ -55,63 +54,37 @@ fn tell_bits(rt: &impl Print, x: f64) {
 }
 
 fn of_herd(rt: &impl Print, h: Herd) {
-    let answer = calls::herd_figures(h);
-    let k = answer.kilograms;
-    let mut i = 0;
-    while i < FIGURES_SHOWN {
-        let n = SHOWN[i];
+    let kilograms = calls::herd_figures(h).kilograms.kilograms;
+    for n in SHOWN {
         if n < names::COUNT {
-            tell_bits(rt, k.kilograms[n]);
+            tell_bits(rt, kilograms[n]);
         }
-        i += 1;
     }
 }
 
 fn of_totals(rt: &impl Print, f: Farm) {
-    let herds = f.herds;
-    let answer = test_totals::totals_through(herds, f.count);
-    let k = answer.kilograms;
-    let mut i = 0;
-    while i < total_names::COUNT {
-        tell_bits(rt, k.kilograms[i]);
-        i += 1;
+    for x in test_totals::totals_through(f.herds, f.count)
+        .kilograms
+        .kilograms
+    {
+        tell_bits(rt, x);
     }
 }
 
 fn of_file(rt: &impl Print, s: &[u8]) {
-    let answer = farm_file::read(Source::StandardInput, s);
-    let f = answer.farm;
-    let mut i = 0;
-    while i < farm::HERDS_MOST {
-        if i < f.count {
-            let h = f.herds[i];
-            of_herd(rt, h);
-        }
-        i += 1;
+    let f = farm_file::read(Source::StandardInput, s).farm;
+    for h in f.herds.iter().take(f.count) {
+        of_herd(rt, *h);
     }
     of_totals(rt, f);
 }
 
-// One file, if there is one more.
-fn run_one(rt: &(impl Input + Print), file: &mut [u8]) -> bool {
-    match packs::next_file(rt, file) {
-        Packed::File(n) => {
-            of_file(rt, base::part_of(file, 0, n));
-            true
-        }
-        Packed::End => false,
-    }
-}
-
-// So large an array comes from a function: where it is lent as it is made, every proof counts its elements.
-fn room() -> [u8; CASE_MOST] {
-    [0u8; CASE_MOST]
-}
-
 fn main(rt: HostRuntime) {
-    let mut file = room();
-    let mut turns = u64::MAX;
-    while turns > 0 && run_one(&rt, &mut file) {
-        turns -= 1;
+    let mut file: [u8; CASE_MOST] = base::room();
+    for _ in 0..u64::MAX {
+        let Some(n) = packs::next_file(&rt, &mut file) else {
+            return;
+        };
+        of_file(&rt, base::part_of(&file, 0, n));
     }
 }

@@ -8,7 +8,6 @@ use farm::{HERDS_MOST, Herd};
 use lent_file::LentAnswer;
 use model::FarmAnswer;
 use outputs::total_names;
-use packs::Packed;
 use printing::tell;
 use test_arrays::SHORT;
 
@@ -16,83 +15,53 @@ use test_arrays::SHORT;
 const CASE_MOST: usize = 263000;
 
 fn tell_answer(rt: &impl Print, answer: LentAnswer) {
-    let checked = answer.checked;
-    tell::checked_line(rt, checked);
+    tell::checked_line(rt, answer.checked);
     tell::number(rt, answer.count as u64);
 }
 
-fn tell_entries(rt: &impl Print, herds: [Herd; HERDS_MOST]) {
-    let mut left = 0;
-    let mut sum = 0;
-    let mut i = 0;
-    while i < HERDS_MOST {
-        let h = herds[i];
-        left += test_entries::untouched(h);
-        sum = test_entries::with_entry(sum, i, h);
-        i += 1;
-    }
-    tell::number(rt, left);
-    tell::number(rt, sum);
-}
-
-fn tell_short_entries(rt: &impl Print, herds: [Herd; SHORT]) {
-    let mut left = 0;
-    let mut sum = 0;
-    let mut i = 0;
-    while i < SHORT {
-        let h = herds[i];
-        left += test_entries::untouched(h);
-        sum = test_entries::with_entry(sum, i, h);
-        i += 1;
-    }
-    tell::number(rt, left);
-    tell::number(rt, sum);
+fn tell_entries(rt: &impl Print, herds: &[Herd]) {
+    let left = herds
+        .iter()
+        .filter(|h| test_entries::is_untouched(*h))
+        .count();
+    tell::number(rt, left as u64);
+    tell::number(rt, test_entries::sum_of(herds));
 }
 
 fn tell_ammonia(rt: &impl Print, answer: FarmAnswer) {
-    let totals = answer.totals;
-    tell::kilograms(rt, totals.grams[total_names::NH3_NLIVESTOCK]);
+    tell::kilograms(rt, answer.totals.grams[total_names::NH3_NLIVESTOCK]);
 }
 
+// By way of an array of as many herds as a farm may have.
 fn by_array(rt: &impl Print, file: &[u8]) {
-    let through = test_arrays::read_through(file, test_entries::filler());
-    let answer = through.answer;
-    let herds = through.herds;
-    tell_answer(rt, answer);
-    tell_entries(rt, herds);
-    tell_ammonia(rt, test_totals::totals_through(herds, answer.count));
+    let through = test_arrays::read_through::<HERDS_MOST>(file, test_entries::filler());
+    tell_answer(rt, through.answer);
+    tell_entries(rt, &through.herds);
+    tell_ammonia(
+        rt,
+        test_totals::totals_through(through.herds, through.answer.count),
+    );
 }
 
+// The same by way of a short one. As one function over any length the proof did not close: an array of it has to fit in
+// memory.
 fn by_short_array(rt: &impl Print, file: &[u8]) {
-    let through = test_arrays::read_through_short(file, test_entries::filler());
-    let answer = through.answer;
-    let herds = through.herds;
-    tell_answer(rt, answer);
-    tell_short_entries(rt, herds);
-    tell_ammonia(rt, test_totals::totals_of_few(herds, answer.count));
-}
-
-// One file, if there is one more.
-fn run_one(rt: &(impl Input + Print), file: &mut [u8]) -> bool {
-    match packs::next_file(rt, file) {
-        Packed::File(n) => {
-            by_array(rt, base::part_of(file, 0, n));
-            by_short_array(rt, base::part_of(file, 0, n));
-            true
-        }
-        Packed::End => false,
-    }
-}
-
-// So large an array comes from a function: where it is lent as it is made, every proof counts its elements.
-fn room() -> [u8; CASE_MOST] {
-    [0u8; CASE_MOST]
+    let through = test_arrays::read_through::<SHORT>(file, test_entries::filler());
+    tell_answer(rt, through.answer);
+    tell_entries(rt, &through.herds);
+    tell_ammonia(
+        rt,
+        test_totals::totals_through(through.herds, through.answer.count),
+    );
 }
 
 fn main(rt: HostRuntime) {
-    let mut file = room();
-    let mut turns = u64::MAX;
-    while turns > 0 && run_one(&rt, &mut file) {
-        turns -= 1;
+    let mut file: [u8; CASE_MOST] = base::room();
+    for _ in 0..u64::MAX {
+        let Some(n) = packs::next_file(&rt, &mut file) else {
+            return;
+        };
+        by_array(&rt, base::part_of(&file, 0, n));
+        by_short_array(&rt, base::part_of(&file, 0, n));
     }
 }

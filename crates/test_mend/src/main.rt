@@ -3,8 +3,6 @@
 // gives.
 #![tactic(auto)]
 
-use mend::Answer;
-use packs::Packed;
 use streams::telling::Tell;
 
 // Longer than any file of the vectors.
@@ -17,39 +15,27 @@ const LIST_MOST: usize = mend::ENTRY * CASE_MOST;
 // The mended file's length and the number of changes.
 fn print_counts(rt: &(impl Print + Tell), s: &[u8], out: &mut [u8], list: &mut [usize]) {
     match mend::mend(s, out, list) {
-        Answer::Mended(length, changes) => {
-            let counts = [length, changes];
-            mend_print::print_list(rt, &counts);
+        Ok((length, changes)) => {
+            mend_print::print_list(rt, &[length, changes]);
         }
-        Answer::Refused(_, _) => {}
+        Err(_) => {}
     }
 }
 
-// One file, if there is one more.
-fn run_one(
-    rt: &(impl Input + Print + Tell),
-    file: &mut [u8],
-    out: &mut [u8],
-    list: &mut [usize],
-) -> bool {
-    match packs::next_file(rt, file) {
-        Packed::File(n) => {
-            let s = base::part_of(file, 0, n);
-            print_counts(rt, s, out, list);
-            mend_print::print_mended_by(rt, s, out, list);
-            mend_print::print_changes_by(rt, s, out, list);
-            true
-        }
-        Packed::End => false,
-    }
+fn run_case(rt: &(impl Print + Tell), s: &[u8], out: &mut [u8], list: &mut [usize]) {
+    print_counts(rt, s, out, list);
+    mend_print::print_mended_by(rt, s, out, list);
+    mend_print::print_changes_by(rt, s, out, list);
 }
 
 fn main(rt: HostRuntime) {
-    let mut file = [0u8; CASE_MOST];
-    let mut out = [0u8; MENDED_MOST];
+    let mut file: [u8; CASE_MOST] = base::room();
+    let mut out: [u8; MENDED_MOST] = base::room();
     let mut list = [0usize; LIST_MOST];
-    let mut turns = u64::MAX;
-    while turns > 0 && run_one(&rt, &mut file, &mut out, &mut list) {
-        turns -= 1;
+    for _ in 0..u64::MAX {
+        let Some(n) = packs::next_file(&rt, &mut file) else {
+            return;
+        };
+        run_case(&rt, base::part_of(&file, 0, n), &mut out, &mut list);
     }
 }

@@ -11,10 +11,8 @@ const SHORT: usize = 8;
 // The answer's grams are zero where it is refused.
 fn figures(rt: &impl Print, h: Herd) {
     let answer = calls::herd_figures(h);
-    let checked = answer.checked;
-    tell::checked_line(rt, checked);
-    let figures = answer.figures;
-    tell::kilograms(rt, figures.grams[names::N_EXCRETION]);
+    tell::checked_line(rt, answer.checked);
+    tell::kilograms(rt, answer.figures.grams[names::N_EXCRETION]);
 }
 
 fn herd_listing(rt: &impl Print, h: Herd) {
@@ -25,16 +23,13 @@ fn herd_listing(rt: &impl Print, h: Herd) {
 }
 
 fn totals(rt: &impl Print, answer: FarmAnswer) {
-    let checked = answer.checked;
-    tell::checked_line(rt, checked);
-    let totals = answer.totals;
-    tell::kilograms(rt, totals.grams[total_names::N_EXCRETION]);
+    tell::checked_line(rt, answer.checked);
+    tell::kilograms(rt, answer.totals.grams[total_names::N_EXCRETION]);
 }
 
 fn totals_listing(rt: &impl Print, f: Farm) {
     let mut out = [b'#'; SHORT];
-    let herds = f.herds;
-    let written = test_totals::listing_through(herds, f.count, &mut out);
+    let written = test_totals::listing_through(f.herds, f.count, &mut out);
     tell::written_line(rt, written);
     tell::line(rt, &out);
 }
@@ -45,11 +40,10 @@ pub fn of_herd(rt: &impl Print, h: Herd) {
 }
 
 pub fn of_farm(rt: &impl Print, f: Farm) {
-    let herds = f.herds;
-    totals(rt, test_totals::totals_through(herds, f.count));
+    totals(rt, test_totals::totals_through(f.herds, f.count));
     totals_listing(rt, f);
 }
 
 pub fn of_few(rt: &impl Print, herds: [Herd; test_totals::FEW], count: usize) {
-    totals(rt, test_totals::totals_of_few(herds, count));
+    totals(rt, test_totals::totals_through(herds, count));
 }

@@ -49,21 +49,18 @@ pub fn pigs() -> Herd {
 
 fn label_after(old: Label, change: Change) -> Label {
     let mut label = old;
-    let place = change.place;
-    if change.what == b'L' {
-        label.len = place;
-    }
-    if change.what == b'B' {
-        if place < LABEL_BYTES {
-            label.bytes[place] = (change.value % 256) as u8;
+    match change.what {
+        b'L' => label.len = change.place,
+        b'B' if change.place < LABEL_BYTES => {
+            label.bytes[change.place] = (change.value % 256) as u8;
         }
+        _ => {}
     }
     label
 }
 
 fn given_by(change: Change) -> Given {
-    let what = change.what;
-    match what {
+    match change.what {
         b'V' => Given::Value(change.value),
         b'P' => Given::Signed((change.value % NUMBERS) as i32),
         b'N' => Given::Signed(0 - (change.value % NUMBERS) as i32),
@@ -79,13 +76,9 @@ fn is_of_label(what: u8) -> bool {
 pub fn changed(h: Herd, change: Change) -> Herd {
     let mut herd = h;
     if is_of_label(change.what) {
-        let label = label_after(h.label, change);
-        herd.label = label;
-        return herd;
-    }
-    let place = change.place;
-    if change.what != b'-' && place < SLOTS {
-        herd.slots[place] = Slot {
+        herd.label = label_after(h.label, change);
+    } else if change.what != b'-' && change.place < SLOTS {
+        herd.slots[change.place] = Slot {
             given: given_by(change),
         };
     }

@@ -36,8 +36,7 @@ fn run(rt: &impl Print, line: &[u8; script::LINE]) {
     let other = script::change_at(line, script::SECOND);
     let count = script::number_at(line, script::NUMBER) as usize;
     tell::line(rt, base::part_of(line, 0, script::TEXT));
-    let kind = line[0];
-    match kind {
+    match line[0] {
         b'H' => herd_case(rt, change, other),
         b'F' => farm_case(rt, change, other, count),
         b'S' => few_case(rt, change, other, count),
@@ -47,9 +46,10 @@ fn run(rt: &impl Print, line: &[u8; script::LINE]) {
 
 fn main(rt: HostRuntime) {
     let mut line = [0u8; script::LINE];
-    let mut turns = u64::MAX;
-    while turns > 0 && script::read_line(&rt, &mut line) {
+    for _ in 0..u64::MAX {
+        if !script::read_line(&rt, &mut line) {
+            return;
+        }
         run(&rt, &line);
-        turns -= 1;
     }
 }

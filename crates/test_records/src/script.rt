@@ -2,8 +2,6 @@
 // remark, as in `F V 00 010001 L 00 000000 000002 a first herd out of range, a second with a bad label`.
 ghost use Rattle.std.specs.Prelude.{◌≤◌};
 
-use streams::Outcome;
-
 pub const LINE: usize = 96;
 
 // A line without its end, and where its parts stand.
@@ -17,7 +15,7 @@ pub const NUMBER: usize = 26;
 
 // A change of a record: of the label L the length or B a byte, of a slot V to a value, S to `standard` or M to nothing;
 // - is none.
-#[derive(Clone, Copy)]
+#[derive(Clone, Copy, Debug, PartialEq, Eq)]
 pub struct Change {
     pub what: u8,
     pub place: usize,
@@ -28,9 +26,10 @@ fn digit(line: &[u8], at: usize) -> u32
     ensures { result ≤ 9 }
 {
     if line.len() <= at {
-        return 0;
+        0
+    } else {
+        u32::from(line[at] % 16 % 10)
     }
-    (line[at] % 16 % 10) as u32
 }
 
 fn three_at(line: &[u8], at: usize) -> u32
@@ -62,8 +61,5 @@ pub fn change_at(line: &[u8; LINE], at: usize) -> Change
 // The next line, if there is one more.
 pub fn read_line(rt: &impl Input, line: &mut [u8]) -> bool {
     let size = line.len();
-    match streams::read_all(rt, line) {
-        Outcome::Whole(n) => n == size,
-        Outcome::Broken(_) => false,
-    }
+    matches!(streams::read_all(rt, line), Ok(n) if n == size)
 }

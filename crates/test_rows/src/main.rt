@@ -20,106 +20,48 @@ D1,Livestock::RoughageConsuming::Housing::CFreeFactor,free_correction_factor,0\r
 D1,Livestock::RoughageConsuming::Grazing,grazing_days,365\r\n\
 D1,Livestock::RoughageConsuming::Grazing,grazing_hours,24\r\n";
 
+// The records of a herd of pigs, each behind its label.
+const PIGS: [&[u8]; 8] = [
+    b",Livestock::FatteningPigs::Excretion,animals,10\r\n",
+    b",Livestock::FatteningPigs::Excretion,inp_n_excretion,13\r\n",
+    b",Livestock::FatteningPigs::Excretion,tan_fraction,70\r\n",
+    b",Livestock::FatteningPigs::Housing::Type,housing_type,Outdoor\r\n",
+    b",Livestock::FatteningPigs::Housing::AirScrubber,air_scrubber,none\r\n",
+    b",Livestock::FatteningPigs::Housing::MitigationOptions,mitigation_housing_floor,none\r\n",
+    b",Livestock::FatteningPigs::Housing::MitigationOptions,mitigation_housing_air,none\r\n",
+    b",Livestock::FatteningPigs::Housing::CFreeFactor,free_correction_factor,0\r\n",
+];
+
 // src from `at` on, where there is room for it, and the place past it.
 fn add(out: &mut [u8], at: usize, src: &[u8]) -> usize {
-    if out.len() < at {
-        return at;
+    if out.len() < at || out.len() - at < src.len() {
+        at
+    } else {
+        base::put(out, at, src)
     }
-    if out.len() - at < src.len() {
-        return at;
-    }
-    base::put(out, at, src)
-}
-
-fn add_record(out: &mut [u8], at: usize, label: u8, rest: &[u8]) -> usize {
-    let next = add(out, at, &[label]);
-    add(out, next, rest)
-}
-
-fn add_excretion(out: &mut [u8], at: usize, label: u8) -> usize {
-    let a = add_record(
-        out,
-        at,
-        label,
-        b",Livestock::FatteningPigs::Excretion,animals,10\r\n",
-    );
-    let b = add_record(
-        out,
-        a,
-        label,
-        b",Livestock::FatteningPigs::Excretion,inp_n_excretion,13\r\n",
-    );
-    add_record(
-        out,
-        b,
-        label,
-        b",Livestock::FatteningPigs::Excretion,tan_fraction,70\r\n",
-    )
-}
-
-fn add_housing(out: &mut [u8], at: usize, label: u8) -> usize {
-    let a = add_record(
-        out,
-        at,
-        label,
-        b",Livestock::FatteningPigs::Housing::Type,housing_type,Outdoor\r\n",
-    );
-    let b = add_record(
-        out,
-        a,
-        label,
-        b",Livestock::FatteningPigs::Housing::AirScrubber,air_scrubber,none\r\n",
-    );
-    let c = add_record(
-        out,
-        b,
-        label,
-        b",Livestock::FatteningPigs::Housing::MitigationOptions,mitigation_housing_floor,none\r\n",
-    );
-    let d = add_record(
-        out,
-        c,
-        label,
-        b",Livestock::FatteningPigs::Housing::MitigationOptions,mitigation_housing_air,none\r\n",
-    );
-    add_record(
-        out,
-        d,
-        label,
-        b",Livestock::FatteningPigs::Housing::CFreeFactor,free_correction_factor,0\r\n",
-    )
-}
-
-fn add_herd(out: &mut [u8], at: usize, label: u8) -> usize {
-    let next = add_excretion(out, at, label);
-    add_housing(out, next, label)
 }
 
 // A file of herds whose labels are the bytes from `0` to before `end`.
 fn put_herds(out: &mut [u8], end: u8) -> usize {
     let mut at = 0;
-    let mut label = b'0';
-    while label < end {
-        at = add_herd(out, at, label);
-        label += 1;
+    for label in b'0'..end {
+        for rest in PIGS {
+            at = add(out, at, &[label]);
+            at = add(out, at, rest);
+        }
     }
     at
 }
 
-// So large an array comes from a function: where it is lent as it is made, every proof counts its elements.
-fn room() -> [u8; BYTES] {
-    [0u8; BYTES]
-}
-
 fn read_herds(rt: &impl Print, end: u8) {
-    let mut file = room();
+    let mut file: [u8; BYTES] = base::room();
     let n = put_herds(&mut file, end);
     let answer = farm_file::read(Source::StandardInput, base::part_of(&file, 0, n));
-    let checked = answer.checked;
-    tell::checked_line(rt, checked);
+    tell::checked_line(rt, answer.checked);
     tell::number(rt, answer.farm.count as u64);
 }
 
+// So large an array comes from a function: where it is lent as it is made, every proof counts its elements.
 fn one_field() -> [u8; BYTES + 1] {
     [b'a'; BYTES + 1]
 }
@@ -128,18 +70,18 @@ fn one_field() -> [u8; BYTES + 1] {
 // refusal 9.
 fn limits(rt: &impl Print) {
     let file = one_field();
-    printing::print_view(
+    let _ = printing::print_view(
         rt,
         View::Figures,
         Source::StandardInput,
         base::part_of(&file, 0, BYTES),
     );
-    printing::print_view(rt, View::Figures, Source::StandardInput, &file);
+    let _ = printing::print_view(rt, View::Figures, Source::StandardInput, &file);
     read_herds(rt, b'0' + HERDS);
     read_herds(rt, b'0' + HERDS + 1);
 }
 
 fn main(rt: HostRuntime) {
-    printing::print_view(&rt, View::Figures, Source::StandardInput, &ALWAYS_OUT);
+    let _ = printing::print_view(&rt, View::Figures, Source::StandardInput, &ALWAYS_OUT);
     limits(&rt);
 }

@@ -8,7 +8,6 @@ mod walk_bytes; // a walk's bytes as records
 use books::Step;
 use farm::{Farm, HERDS_MOST, Herd};
 use outputs::Totals;
-use packs::Packed;
 
 // Longer than any walk.
 const WALK_MOST: usize = 65536;
@@ -20,38 +19,19 @@ struct Kept {
     totals: Totals,
 }
 
-fn sum_of(farm: Farm) -> u64 {
-    let mut sum = 0;
-    let mut i = 0;
-    while i < HERDS_MOST {
-        if farm.count <= i {
-            return sum;
-        }
-        let h = farm.herds[i];
-        sum = test_entries::with_entry(sum, i, h);
-        i += 1;
-    }
-    sum
-}
-
 fn tell_farm(rt: &impl Print, farm: Farm) {
     let count = farm.count;
-    let sum = sum_of(farm);
+    let sum = test_entries::sum_of(&farm.herds[..count.min(HERDS_MOST)]);
     let _ = print!(rt; "{count},{sum}\r\n");
 }
 
 fn take(rt: &impl Print, kept: Kept, room: usize, step: Step, h: Herd) -> Kept {
-    let farm = kept.farm;
-    let totals = kept.totals;
-    let taken = step_answer::take(farm, room, totals, step, h);
-    let bytes = taken.bytes;
-    let farm_after = taken.farm;
-    let totals_after = taken.totals;
-    streams::write_all(rt, base::part_of(&bytes, 0, taken.length));
-    tell_farm(rt, farm_after);
+    let taken = step_answer::take(kept.farm, room, kept.totals, step, h);
+    let _ = streams::write_all(rt, base::part_of(&taken.bytes, 0, taken.length));
+    tell_farm(rt, taken.farm);
     Kept {
-        farm: farm_after,
-        totals: totals_after,
+        farm: taken.farm,
+        totals: taken.totals,
     }
 }
 
@@ -62,16 +42,9 @@ fn take_at(rt: &impl Print, kept: Kept, room: usize, s: &[u8]) -> Kept {
 }
 
 fn take_all(rt: &impl Print, begun: Kept, room: usize, steps: &[u8]) {
-    let size = steps.len();
     let mut kept = begun;
-    let mut at = 0;
-    while at < size {
-        if size - at < walk_bytes::STEP_BYTES {
-            return;
-        }
-        let next = at + walk_bytes::STEP_BYTES;
-        kept = take_at(rt, kept, room, base::part_of(steps, at, next));
-        at = next;
+    for step in steps.chunks_exact(walk_bytes::STEP_BYTES) {
+        kept = take_at(rt, kept, room, step);
     }
 }
 
@@ -87,26 +60,12 @@ fn run_walk(rt: &impl Print, walk: &[u8]) {
     );
 }
 
-// One walk, if there is one more.
-fn run_one(rt: &(impl Input + Print), walk: &mut [u8]) -> bool {
-    match packs::next_file(rt, walk) {
-        Packed::File(n) => {
-            run_walk(rt, base::part_of(walk, 0, n));
-            true
-        }
-        Packed::End => false,
-    }
-}
-
-// So large an array comes from a function: where it is lent as it is made, every proof counts its elements.
-fn room() -> [u8; WALK_MOST] {
-    [0u8; WALK_MOST]
-}
-
 fn main(rt: HostRuntime) {
-    let mut walk = room();
-    let mut turns = u64::MAX;
-    while turns > 0 && run_one(&rt, &mut walk) {
-        turns -= 1;
+    let mut walk: [u8; WALK_MOST] = base::room();
+    for _ in 0..u64::MAX {
+        let Some(n) = packs::next_file(&rt, &mut walk) else {
+            return;
+        };
+        run_walk(&rt, base::part_of(&walk, 0, n));
     }
 }

@@ -25,26 +25,18 @@ const TOTALS_AT: usize = 3 * COUNT_BYTES;
 const HERDS_AT: usize = TOTALS_AT + total_names::COUNT * TOTAL_BYTES;
 
 // What the first numbers say.
-#[derive(Clone, Copy)]
+#[derive(Clone, Copy, Debug, PartialEq, Eq)]
 pub struct Head {
     pub room: usize,
     pub count: usize,
     pub herds: usize,
 }
 
-fn wide(b: u8) -> u64
-    ensures { result ≤ 255 }
-{
-    b as u64
-}
-
 // The number that these bytes are; of more than eight the lowest.
 fn number_of(s: &[u8]) -> u64 {
     let mut n = 0;
-    let mut i = s.len();
-    while 0 < i {
-        i -= 1;
-        n = n % 72057594037927936 * 256 + wide(s[i]);
+    for b in s.iter().rev() {
+        n = n % 72057594037927936 * 256 + u64::from(*b);
     }
     n
 }
@@ -108,8 +100,7 @@ fn slot_of(s: &[u8]) -> Slot {
 
 // The first bytes of a label that may be longer.
 fn label_of(s: &[u8]) -> Label {
-    let whole = labels::label_of(base::part_of(s, 1, 1 + LABEL_MOST));
-    let bytes = whole.bytes;
+    let bytes = labels::label_of(base::part_of(s, 1, 1 + LABEL_MOST)).bytes;
     Label {
         bytes,
         len: count_of(base::part_of(s, 0, 1)),
@@ -125,11 +116,9 @@ pub fn herd_of(s: &[u8]) -> Herd {
             given: Given::Missing,
         }; SLOTS],
     };
-    let mut i = 0;
-    while i < SLOTS {
+    for i in 0..SLOTS {
         let from = i * SLOT_BYTES;
         h.slots[i] = slot_of(base::part_of(slots, from, from + SLOT_BYTES));
-        i += 1;
     }
     h
 }
@@ -143,13 +132,9 @@ pub fn farm_of(walk: &[u8], count: usize, standing: usize) -> Farm {
         herds: [test_entries::filler(); HERDS_MOST],
         count,
     };
-    let mut i = 0;
-    while i < HERDS_MOST {
-        if i < standing {
-            let from = i * HERD_BYTES;
-            farm.herds[i] = herd_of(base::part_of(standing_herds, from, from + HERD_BYTES));
-        }
-        i += 1;
+    for i in 0..standing.min(HERDS_MOST) {
+        let from = i * HERD_BYTES;
+        farm.herds[i] = herd_of(base::part_of(standing_herds, from, from + HERD_BYTES));
     }
     farm
 }
@@ -166,19 +151,18 @@ fn far_below_zero(far: u64) -> i64 {
 fn total_of(s: &[u8]) -> i64 {
     let far = number_of(base::part_of(s, 1, TOTAL_BYTES));
     if short_number_of(base::part_of(s, 0, 1)) == 1 {
-        return far_below_zero(far);
+        far_below_zero(far)
+    } else {
+        above_zero(far)
     }
-    above_zero(far)
 }
 
 pub fn totals_of(walk: &[u8]) -> Totals {
     let all = base::part_of(walk, TOTALS_AT, HERDS_AT);
     let mut grams = [0i64; total_names::COUNT];
-    let mut i = 0;
-    while i < total_names::COUNT {
+    for i in 0..total_names::COUNT {
         let from = i * TOTAL_BYTES;
         grams[i] = total_of(base::part_of(all, from, from + TOTAL_BYTES));
-        i += 1;
     }
     Totals { grams }
 }

@@ -15,14 +15,8 @@ use written::Written;
 // An array that is shorter than any farm may be.
 pub const FEW: usize = 3;
 
-pub fn totals_through(herds: [Herd; HERDS_MOST], count: usize) -> FarmAnswer
-    ensures { result ≡ totals_in herds count }
-{
-    farm_calls::farm_totals(&herds, count)
-}
-
-pub fn totals_of_few(herds: [Herd; FEW], count: usize) -> FarmAnswer
-    ensures { result ≡ totals_in herds count }
+pub fn totals_through<const N: usize>(herds: [Herd; N], count: usize) -> FarmAnswer
+    ensures { result ≡ totals_in herds.entry count }
 {
     farm_calls::farm_totals(&herds, count)
 }

@@ -53,21 +53,17 @@ fn digit(n: usize) -> u8 {
 // The herd under another number.
 fn numbered(h: Herd, n: usize) -> Herd {
     let mut herd = h;
-    let mut label = h.label;
-    label.bytes[13] = digit(n / 100);
-    label.bytes[14] = digit(n / 10);
-    label.bytes[15] = digit(n);
-    herd.label = label;
+    herd.label.bytes[13] = digit(n / 100);
+    herd.label.bytes[14] = digit(n / 10);
+    herd.label.bytes[15] = digit(n);
     herd
 }
 
 fn longest_herds() -> [Herd; HERDS_MOST] {
     let h = longest_herd();
     let mut herds = [h; HERDS_MOST];
-    let mut i = 0;
-    while i < HERDS_MOST {
-        herds[i] = numbered(h, i);
-        i += 1;
+    for (n, herd) in herds.iter_mut().enumerate() {
+        *herd = numbered(h, n);
     }
     herds
 }
@@ -76,6 +72,7 @@ fn write(rt: &impl Print, herds: [Herd; HERDS_MOST], count: usize, out: &mut [u8
     tell::written_line(rt, test_totals::view_through(View::File, herds, count, out));
 }
 
+// So large an array comes from a function: where it is lent as it is made, every proof counts its elements.
 fn room() -> [u8; limits::COOPERATIVE_BYTES] {
     [0u8; limits::COOPERATIVE_BYTES]
 }

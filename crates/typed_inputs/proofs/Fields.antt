@@ -2,14 +2,9 @@
 -- Assumes nothing.
 use Prim.Native.Nat.{ℕ}
 use mathlib.Core.Path.{◌≡◌, refl, ◌∙◌}
-use lib.IntN.{ℤ, pos}
-use mir.Syntax.{w32}
-use mir.Val.{SFits}
+use lib.IntN.{ℤ}
 use Rattle.inputs.specs.declared.Kind.TheVariants as kinds
-use Rattle.farm.specs.declared.Given.{Given}
-use Rattle.farm.specs.declared.Given.TheVariants.{Missing, Standard, Value, Signed}
 use Rattle.farm.specs.declared.Herd.{Herd}
-use Rattle.farm.proofs.Narrow.{wide, wide_fits, wide_is}
 use Rattle.kinds.specs.declared.Entered.{Entered}
 use Rattle.kinds.specs.declared.Entered.TheVariants as entered
 use Rattle.kinds.specs.declared.CattleKind.{CattleKind}
@@ -23,24 +18,8 @@ use Rattle.kinds.specs.declared.HousingFloor.{HousingFloor}
 use Rattle.kinds.specs.declared.HousingAir.{HousingAir}
 use Rattle.kinds.specs.declared.Outdoor.{Outdoor}
 use Rattle.kinds.specs.Choices.{yard_at, floor_at, housing_at, scrubber_at, housing_floor_at, housing_air_at}
-use Rattle.typed_inputs.specs.Typed.{signed_in, tan_in, given_named, number_named, signed_named, entered_named}
+use Rattle.typed_inputs.specs.Typed.{tan_in, given_named, number_named, signed_named, entered_named}
 use Rattle.typed_inputs.specs.Typed.{roughage_of, outdoor_of, cattle_of, pigs_of}
-
--- a number that may be below zero, by what is given
-module _ {g : Given} where
-  pub missing-signed : g ≡ Missing → pos 0 ≡ signed_in g
-  missing-signed e = rw e refl
-
-  pub standard-signed : g ≡ Standard → pos 0 ≡ signed_in g
-  standard-signed e = rw e refl
-
-  pub value-signed : {v : ℕ} → g ≡ Value v → pos 0 ≡ signed_in g
-  value-signed e = rw e refl
-
-  pub signed-signed : (v : ℤ) → SFits w32 v → g ≡ Signed v → wide v ≡ signed_in g
-  signed-signed v f e = wide_is f ∙ rw e refl
-
-pub ruleset Signed_steps = (missing-signed, standard-signed, value-signed, wide_fits, signed-signed)
 
 module _ (h : Herd) where
   pub is-roughage : (category animals days hours : ℕ) (free : ℤ) (n tan : Entered)
@@ -113,7 +92,8 @@ module _ (h : Herd) where
       → entered.Number n ≡ tan_in k (given_named kinds.Cattle "tan_fraction" h)
   tan-number k e n en = rw (e, en)
 
-  pub tan-entered : (k : CattleKind) → k ≡ DairyCow → (tan : Entered) → tan ≡ entered_named kinds.Cattle "tan_fraction" h
+  pub tan-entered : (k : CattleKind) → k ≡ DairyCow → (tan : Entered)
+      → tan ≡ entered_named kinds.Cattle "tan_fraction" h
       → tan ≡ tan_in k (given_named kinds.Cattle "tan_fraction" h)
   tan-entered k e tan et = rw (e, et)
 

@@ -28,11 +28,11 @@ use Rattle.farm.specs.declared.Slot.{Slot}
 use Rattle.farm.specs.Limits.{herds_most}
 use Rattle.farm.specs.declared.Herd.{Herd}
 use Rattle.farm.specs.declared.Farm.{Farm}
-use Rattle.farm.specs.declared.Checked.TheVariants.{Accepted}
 use Rattle.fits.specs.Fits.{fits}
 use Rattle.checks.specs.Checks.{check_herd, check_farm, herds_of}
 use Rattle.checks.specs.Accepts.{Passes}
 use Rattle.farm.specs.Herds.{no_slot}
+use Rattle.farm.specs.Answers.{Accepted}
 use Rattle.checks.proofs.Accepts.{passes, farm-count, farm-each}
 use Rattle.amounts.specs.Units.{percent}
 use Rattle.kinds.specs.Sound.{EnteredTo, standard, number, Sound, roughage, cattle, pigs}

@@ -1,5 +1,6 @@
 -- A herd's record as the complete inputs of its kind: each input is found in the slot that has its name's place in 01's
--- list (crate `inputs`, rows_of), and each choice by its name's place among the names of 2.34, 2.58, 2.59 or 2.62 (crate
+-- list (crate `inputs`, rows_of), and each choice by its name's place among the names of 2.34, 2.58, 2.59 or 2.62
+-- (crate
 -- `kinds`; proofs/Named.antt: each name has its choice).
 use Rattle.std.specs.Prelude.{ℕ, ◌+◌, List, [], ◌∷◌, ℤ, pos, get_or}
 use Prim.Native.String.{String}

@@ -7,12 +7,11 @@
 
 mod runs; // what each command does
 
-use crate::runs::Question;
+use crate::runs::{Line, Question};
+use asked::commands;
 use asked::commands::Command;
-use asked::{Asked, Descriptor, commands};
 use console::{Ended, Surroundings, messages};
 use views::View;
-use wide_numbers::WideNumber;
 
 // What is done with a file.
 #[derive(Clone, Copy)]
@@ -47,7 +46,7 @@ fn run_by_name(rt: &impl Surroundings, question: Question, name: usize) -> Ended
     if asked::is_past(rt, name) {
         return messages::misused(rt, b"--cooperative takes the name of a file", name);
     }
-    if asked::is_input(rt, name) {
+    if asked::is_word(rt, name, asked::INPUT) {
         return messages::misused(
             rt,
             b"--cooperative takes the name of a file, and not ",
@@ -61,24 +60,23 @@ fn run_by_name(rt: &impl Surroundings, question: Question, name: usize) -> Ended
 fn run_on_cooperative(rt: &impl Surroundings, job: Job, command: usize, name: usize) -> Ended {
     match job {
         Job::Farm(question) => run_by_name(rt, question, name),
-        Job::Log => not_of_farms(rt, command),
-        Job::Mend => not_of_farms(rt, command),
-        Job::Changes => not_of_farms(rt, command),
+        Job::Log | Job::Mend | Job::Changes => not_of_farms(rt, command),
     }
 }
 
 // The option once more than it may be given, or a second name.
 fn one_more(rt: &impl Surroundings, at: usize) -> Ended {
-    if asked::is_cooperative(rt, at) {
-        return messages::misused(rt, b"given twice: ", at);
+    if asked::is_word(rt, at, asked::COOPERATIVE) {
+        messages::misused(rt, b"given twice: ", at)
+    } else {
+        messages::misused(rt, b"more than one name, the second is ", at)
     }
-    messages::misused(rt, b"more than one name, the second is ", at)
 }
 
 // A job that the word at `command` asks for; from `next` on stand the file's name and the option.
 fn run_job(rt: &impl Surroundings, job: Job, command: usize, next: usize) -> Ended {
     let file = asked::file_at(rt, next);
-    if asked::is_cooperative(rt, file.name) {
+    if asked::is_word(rt, file.name, asked::COOPERATIVE) {
         return one_more(rt, file.name);
     }
     if !asked::is_past(rt, file.end) {
@@ -88,9 +86,10 @@ fn run_job(rt: &impl Surroundings, job: Job, command: usize, next: usize) -> End
         return messages::misused(rt, b"the name has more than 4,096 bytes", file.end);
     }
     if file.cooperative {
-        return run_on_cooperative(rt, job, command, file.name);
+        run_on_cooperative(rt, job, command, file.name)
+    } else {
+        run_on_input(rt, job, file.name)
     }
-    run_on_input(rt, job, file.name)
 }
 
 fn run_view(rt: &impl Surroundings, view: View, command: usize, next: usize) -> Ended {
@@ -99,68 +98,72 @@ fn run_view(rt: &impl Surroundings, view: View, command: usize, next: usize) -> 
 
 fn run_why(rt: &impl Surroundings, command: usize) -> Ended {
     let next = asked::after(command);
-    if asked::is_words(rt, next) {
-        return run_view(rt, View::Sentences, command, asked::after(next));
+    if asked::is_word(rt, next, asked::WORDS) {
+        run_view(rt, View::Sentences, command, asked::after(next))
+    } else {
+        run_view(rt, View::Reasons, command, next)
     }
-    run_view(rt, View::Reasons, command, next)
 }
 
 // A word that says no grams, or that is missing.
 fn no_grams(rt: &impl Surroundings, at: usize) -> Ended {
     if asked::is_past(rt, at) {
-        return messages::misused(rt, b"line takes a number of grams", at);
+        messages::misused(rt, b"line takes a number of grams", at)
+    } else {
+        messages::misused(
+            rt,
+            b"no whole number of grams from 0 to 18446744073709551615: ",
+            at,
+        )
     }
-    messages::misused(
-        rt,
-        b"no whole number of grams from 0 to 18446744073709551615: ",
-        at,
-    )
 }
 
 // The word at `at` says the grams of the line.
 fn run_line_at(rt: &impl Surroundings, in_words: bool, command: usize, at: usize) -> Ended {
     match asked::grams_at(rt, at) {
-        WideNumber::Value(line) => run_job(
+        Some(grams) => run_job(
             rt,
-            Job::Farm(Question::Line(line, in_words)),
+            Job::Farm(Question::Line(Line { grams, in_words })),
             command,
             asked::after(at),
         ),
-        WideNumber::Unreadable => no_grams(rt, at),
+        None => no_grams(rt, at),
     }
 }
 
 fn run_line(rt: &impl Surroundings, command: usize) -> Ended {
     let next = asked::after(command);
-    if asked::is_words(rt, next) {
-        return run_line_at(rt, true, command, asked::after(next));
+    if asked::is_word(rt, next, asked::WORDS) {
+        run_line_at(rt, true, command, asked::after(next))
+    } else {
+        run_line_at(rt, false, command, next)
     }
-    run_line_at(rt, false, command, next)
 }
 
 // Is it a word that says a step?
 fn is_step(rt: &impl Surroundings, at: usize) -> bool {
-    asked::is_add(rt, at) || asked::is_replace(rt, at) || asked::is_remove(rt, at)
+    asked::is_word(rt, at, asked::ADD)
+        || asked::is_word(rt, at, asked::REPLACE)
+        || asked::is_word(rt, at, asked::REMOVE)
 }
 
 // What is wrong with the word at `at`, of which there are so many from there on.
 fn no_step(rt: &impl Surroundings, at: usize, left: usize) -> Ended {
     if left == 1 && is_step(rt, at) {
-        return messages::misused(rt, b"nothing stands behind the step ", at);
+        messages::misused(rt, b"nothing stands behind the step ", at)
+    } else {
+        messages::misused(rt, b"no step, which is add, replace or remove: ", at)
     }
-    messages::misused(rt, b"no step, which is add, replace or remove: ", at)
 }
 
 // Where the first word stands that is no step, or past all words: a step is a word and another behind it.
 fn after_steps(rt: &impl Surroundings, first: usize) -> usize {
     let mut at = first;
-    let mut left = asked::count_from(rt, first);
-    while 1 < left {
+    for _ in 0..asked::count_from(rt, first) / 2 {
         if !is_step(rt, at) {
             return at;
         }
         at = asked::after(asked::after(at));
-        left -= 2;
     }
     at
 }
@@ -180,7 +183,7 @@ fn run_edit_of(rt: &impl Surroundings, only_farm: bool, cooperative: bool, name:
     if !cooperative {
         return runs::of_edit(rt, only_farm, name);
     }
-    if asked::is_input(rt, name) {
+    if asked::is_word(rt, name, asked::INPUT) {
         return messages::misused(
             rt,
             b"--cooperative takes the name of a file, and not ",
@@ -192,34 +195,33 @@ fn run_edit_of(rt: &impl Surroundings, only_farm: bool, cooperative: bool, name:
 
 // The farm's file and the steps, with --cooperative in front of them or without.
 fn run_edit_at(rt: &impl Surroundings, only_farm: bool, next: usize) -> Ended {
-    if asked::is_cooperative(rt, next) {
-        return run_edit_of(rt, only_farm, true, asked::after(next));
+    if asked::is_word(rt, next, asked::COOPERATIVE) {
+        run_edit_of(rt, only_farm, true, asked::after(next))
+    } else {
+        run_edit_of(rt, only_farm, false, next)
     }
-    run_edit_of(rt, only_farm, false, next)
 }
 
 // Before all of that --farm may stand.
 fn run_edit(rt: &impl Surroundings, next: usize) -> Ended {
-    if asked::is_farm(rt, next) {
-        return run_edit_at(rt, true, asked::after(next));
+    if asked::is_word(rt, next, asked::FARM) {
+        run_edit_at(rt, true, asked::after(next))
+    } else {
+        run_edit_at(rt, false, next)
     }
-    run_edit_at(rt, false, next)
 }
 
 fn run_help(rt: &impl Surroundings, next: usize) -> Ended {
     if asked::is_past(rt, next) {
         return messages::help(rt, texts::HELP);
     }
-    if !asked::is_past(rt, asked::after(next)) {
-        return messages::misused(
-            rt,
-            b"help takes one command, and not also ",
-            asked::after(next),
-        );
+    let behind = asked::after(next);
+    if !asked::is_past(rt, behind) {
+        return messages::misused(rt, b"help takes one command, and not also ", behind);
     }
     match asked::command_at(rt, next) {
-        Asked::Page(page) => messages::help(rt, page),
-        Asked::Nothing => messages::misused(rt, b"there is no command ", next),
+        Some(page) => messages::help(rt, page),
+        None => messages::misused(rt, b"there is no command ", next),
     }
 }
 
@@ -244,32 +246,29 @@ fn run_command(rt: &impl Surroundings, command: Command, at: usize) -> Ended {
 
 // The words of the command line from this one on.
 fn run(rt: &impl Surroundings, first: usize) -> Ended {
-    if asked::is_past(rt, first) {
-        return run_view(rt, View::Figures, first, first);
-    }
-    if asked::is_cooperative(rt, first) {
+    if asked::is_past(rt, first) || asked::is_word(rt, first, asked::COOPERATIVE) {
         return run_view(rt, View::Figures, first, first);
     }
     match asked::command_at(rt, first) {
-        Asked::Page(page) => run_command(rt, commands::command_of(page), first),
-        Asked::Nothing => messages::misused(rt, b"there is no command ", first),
+        Some(page) => run_command(rt, commands::command_of(page), first),
+        None => messages::misused(rt, b"there is no command ", first),
     }
 }
 
 // The words behind --status-fd and its number.
 fn run_and_tell(rt: &impl Surroundings) {
     match asked::descriptor_at(rt, 2) {
-        Descriptor::Of(fd) => messages::tell_status(rt, fd, run(rt, 3)),
-        Descriptor::Nothing => {
+        Some(fd) => messages::tell_status(rt, fd, run(rt, 3)),
+        None => {
             messages::misused(rt, b"--status-fd takes a descriptor's number, and not ", 2);
         }
     }
 }
 
 fn main(rt: HostRuntime) {
-    if asked::is_status(&rt, 1) {
+    if asked::is_word(&rt, 1, asked::STATUS) {
         run_and_tell(&rt);
-        return;
+    } else {
+        run(&rt, 1);
     }
-    run(&rt, 1);
 }

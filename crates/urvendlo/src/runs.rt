@@ -5,115 +5,97 @@ ghost use Rattle.limits.specs.Limits.{cooperative_bytes};
 ghost use Rattle.streams.specs.Within.{Within};
 
 use above_line::{Above, LineAnswer};
+use base::refusals::Refused;
 use console::{Ended, Surroundings, messages, named};
 use editing::{Edited, Manner};
 use gate::LogAnswer;
 use limits::Source;
-use printing::{Printed, input};
+use printing::input;
+use refused_input::FarmInput;
 use streams::Outcome;
 use views::View;
 
-// What is asked of a farm file: a view of it; or whether it is above a line of so many grams, in words too or not.
+// A line of so many grams, and whether the answer is said in words, too.
+#[derive(Clone, Copy, Debug, PartialEq, Eq)]
+pub struct Line {
+    pub grams: u64,
+    pub in_words: bool,
+}
+
+// What is asked of a farm file: a view of it; or whether it is above a line. No Result: neither is a failure.
 #[derive(Clone, Copy)]
 pub enum Question {
     View(View),
-    Line(u64, bool),
+    Line(Line),
 }
 
-fn answer_view(rt: &impl Surroundings, view: View, source: Source, s: &[u8], name: usize) -> Ended {
-    match printing::print_view(rt, view, source, s) {
-        Printed::Listed => Ended::Printed,
-        Printed::Refused(refusal, record) => refused_input::of_farm(
-            rt, source, s, name, refusal, record,
-        ),
-        Printed::Broken(error) => messages::unwritten(rt, error),
+fn answer_view(rt: &impl Surroundings, view: View, file: FarmInput<'_>) -> Ended {
+    match printing::print_view(rt, view, file.source, file.bytes) {
+        Ok(Ok(_)) => Ended::Printed,
+        Ok(Err(Refused(refusal, record))) => { refused_input::of_farm(rt, file, refusal, record) }
+        Err(error) => messages::unwritten(rt, error),
     }
 }
 
-fn tell_above(rt: &impl Surroundings, above: Above, line: u64, name: usize) {
+fn tell_above(rt: &impl Surroundings, above: Above, grams: u64, name: usize) {
     match above {
-        Above::Yes(count) => messages::screened(rt, name, true, line, count),
-        Above::No(count) => messages::screened(rt, name, false, line, count),
+        Above::Yes(count) => messages::screened(rt, name, true, grams, count),
+        Above::No(count) => messages::screened(rt, name, false, grams, count),
     }
-}
-
-fn tell_if_asked(
-    rt: &impl Surroundings,
-    in_words: bool,
-    above: Above,
-    line: u64,
-    name: usize,
-) -> Ended {
-    if in_words {
-        tell_above(rt, above, line, name);
-    }
-    Ended::Printed
 }
 
 // What is said behind a line's answer that was printed.
-fn end_line(
-    rt: &impl Surroundings,
-    ended: LineAnswer,
-    line: u64,
-    in_words: bool,
-    source: Source,
-    s: &[u8],
-    name: usize,
-) -> Ended {
+fn end_line(rt: &impl Surroundings, ended: LineAnswer, line: Line, file: FarmInput<'_>) -> Ended {
     match ended {
-        LineAnswer::Screened(above) => tell_if_asked(rt, in_words, above, line, name),
-        LineAnswer::Refused(refusal, record) => refused_input::of_farm(
-            rt, source, s, name, refusal, record,
-        ),
+        Ok(above) => {
+            if line.in_words {
+                tell_above(rt, above, line.grams, file.name);
+            }
+            Ended::Printed
+        }
+        Err(Refused(refusal, record)) => refused_input::of_farm(rt, file, refusal, record),
     }
 }
 
-fn answer_line(
-    rt: &impl Surroundings,
-    line: u64,
-    in_words: bool,
-    source: Source,
-    s: &[u8],
-    name: usize,
-) -> Ended {
-    let put = line_answer::answer_of(source, s, line);
-    let ended = put.answer;
-    let bytes = put.bytes;
-    match streams::write_all(rt, base::part_of(&bytes, 0, put.length)) {
-        Outcome::Whole(_) => end_line(rt, ended, line, in_words, source, s, name),
-        Outcome::Broken(error) => messages::unwritten(rt, error),
+fn answer_line(rt: &impl Surroundings, line: Line, file: FarmInput<'_>) -> Ended {
+    let put = line_answer::answer_of(file.source, file.bytes, line.grams);
+    match streams::write_all(rt, base::part_of(&put.bytes, 0, put.length)) {
+        Ok(_) => end_line(rt, put.answer, line, file),
+        Err(error) => messages::unwritten(rt, error),
     }
 }
 
-fn answer_farm(
-    rt: &impl Surroundings,
-    question: Question,
-    source: Source,
-    s: &[u8],
-    name: usize,
-) -> Ended {
+fn answer_farm(rt: &impl Surroundings, question: Question, file: FarmInput<'_>) -> Ended {
     match question {
-        Question::View(view) => answer_view(rt, view, source, s, name),
-        Question::Line(line, in_words) => answer_line(rt, line, in_words, source, s, name),
+        Question::View(view) => answer_view(rt, view, file),
+        Question::Line(line) => answer_line(rt, line, file),
     }
-}
-
-fn farm_room() -> [u8; input::INPUT_MOST] {
-    [0u8; input::INPUT_MOST]
 }
 
 // A farm file on standard input.
 pub fn of_farm(rt: &impl Surroundings, question: Question, name: usize) -> Ended {
-    let mut file = farm_room();
+    let mut file: [u8; input::INPUT_MOST] = base::room();
     match input::read_file(rt, &mut file) {
-        Outcome::Whole(n) => answer_farm(
-            rt,
-            question,
-            Source::StandardInput,
-            base::part_of(&file, 0, n),
-            name,
-        ),
-        Outcome::Broken(error) => messages::unread(rt, error),
+        Ok(n) => answer_farm(rt, question, on_input(base::part_of(&file, 0, n), name)),
+        Err(error) => messages::unread(rt, error),
+    }
+}
+
+// A farm file that was read from standard input.
+fn on_input(bytes: &[u8], name: usize) -> FarmInput<'_> {
+    FarmInput {
+        source: Source::StandardInput,
+        bytes,
+        name,
+    }
+}
+
+// A cooperative's, that was read by its name.
+fn by_name(bytes: &[u8], name: usize) -> FarmInput<'_> {
+    FarmInput {
+        source: Source::Cooperative,
+        bytes,
+        name,
     }
 }
 
@@ -128,58 +110,42 @@ fn read_cooperative(rt: &impl Surroundings, name: usize, file: &mut [u8]) -> Out
     named::read_file(rt, name, file)
 }
 
-fn cooperative_room() -> [u8; COOPERATIVE_MOST] {
-    [0u8; COOPERATIVE_MOST]
-}
-
 // A cooperative's file, by its name; where it cannot be read that is said.
 pub fn of_cooperative(rt: &impl Surroundings, question: Question, name: usize) -> Ended {
-    let mut file = cooperative_room();
+    let mut file: [u8; COOPERATIVE_MOST] = base::room();
     match read_cooperative(rt, name, &mut file) {
-        Outcome::Whole(n) => answer_farm(
-            rt,
-            question,
-            Source::Cooperative,
-            base::part_of(&file, 0, n),
-            name,
-        ),
-        Outcome::Broken(_) => Ended::Failed,
+        Ok(n) => answer_farm(rt, question, by_name(base::part_of(&file, 0, n), name)),
+        Err(_) => Ended::Failed,
     }
 }
 
 // Where messages look for the name: a word that says standard input is none, and there is none at the largest number.
 fn name_or_none(rt: &impl Surroundings, word: usize) -> usize {
-    if asked::is_input(rt, word) {
-        return usize::MAX;
+    if asked::is_word(rt, word, asked::INPUT) {
+        usize::MAX
+    } else {
+        word
     }
-    word
 }
 
 // The farm on standard input; a word that says so is not its name.
 fn open_input(rt: &impl Surroundings, name: usize) -> Edited {
-    let mut file = farm_room();
+    let mut file: [u8; input::INPUT_MOST] = base::room();
     match input::read_file(rt, &mut file) {
-        Outcome::Whole(n) => editing::open(
+        Ok(n) => editing::open(
             rt,
-            Source::StandardInput,
-            base::part_of(&file, 0, n),
-            name_or_none(rt, name),
+            on_input(base::part_of(&file, 0, n), name_or_none(rt, name)),
         ),
-        Outcome::Broken(error) => editing::none(messages::unread(rt, error)),
+        Err(error) => editing::none(messages::unread(rt, error)),
     }
 }
 
 // A cooperative's farm, by its name.
 fn open_cooperative(rt: &impl Surroundings, name: usize) -> Edited {
-    let mut file = cooperative_room();
+    let mut file: [u8; COOPERATIVE_MOST] = base::room();
     match read_cooperative(rt, name, &mut file) {
-        Outcome::Whole(n) => editing::open(
-            rt,
-            Source::Cooperative,
-            base::part_of(&file, 0, n),
-            name,
-        ),
-        Outcome::Broken(_) => editing::none(Ended::Failed),
+        Ok(n) => editing::open(rt, by_name(base::part_of(&file, 0, n), name)),
+        Err(_) => editing::none(Ended::Failed),
     }
 }
 
@@ -210,59 +176,48 @@ fn read_log(rt: &impl Surroundings, log: &mut [u8]) -> Outcome
 
 fn end_log(rt: &impl Surroundings, answer: LogAnswer, s: &[u8], name: usize) -> Ended {
     match answer {
-        LogAnswer::Gives(_) => Ended::Printed,
-        LogAnswer::Refused(refusal, record) => refused_input::of_log(rt, s, name, refusal, record),
+        Ok(_) => Ended::Printed,
+        Err(Refused(refusal, record)) => refused_input::of_log(rt, s, name, refusal, record),
     }
 }
 
 fn answer_log(rt: &impl Surroundings, s: &[u8], name: usize) -> Ended {
     let put = gate_answer::answer_of(s);
-    let ended = put.answer;
-    let bytes = put.bytes;
-    match streams::write_all(rt, base::part_of(&bytes, 0, put.length)) {
-        Outcome::Whole(_) => end_log(rt, ended, s, name),
-        Outcome::Broken(error) => messages::unwritten(rt, error),
+    match streams::write_all(rt, base::part_of(&put.bytes, 0, put.length)) {
+        Ok(_) => end_log(rt, put.answer, s, name),
+        Err(error) => messages::unwritten(rt, error),
     }
-}
-
-fn log_room() -> [u8; LOG_INPUT_MOST] {
-    [0u8; LOG_INPUT_MOST]
 }
 
 // A gate's log on standard input.
 pub fn of_log(rt: &impl Surroundings, name: usize) -> Ended {
-    let mut log = log_room();
+    let mut log: [u8; LOG_INPUT_MOST] = base::room();
     match read_log(rt, &mut log) {
-        Outcome::Whole(n) => answer_log(rt, base::part_of(&log, 0, n), name),
-        Outcome::Broken(error) => messages::unread(rt, error),
+        Ok(n) => answer_log(rt, base::part_of(&log, 0, n), name),
+        Err(error) => messages::unread(rt, error),
     }
-}
-
-fn if_printed(printed: bool) -> Ended {
-    if printed {
-        return Ended::Printed;
-    }
-    Ended::Failed
-}
-
-fn mending_room() -> [u8; mend_print::INPUT_MOST] {
-    [0u8; mend_print::INPUT_MOST]
 }
 
 // What is printed of mending a file: the list of its changes, or the mended file.
 fn print_mending(rt: &impl Surroundings, s: &[u8], listed: bool) -> Ended {
-    if listed {
-        return if_printed(mend_print::print_changes(rt, s));
+    let printed = if listed {
+        mend_print::print_changes(rt, s)
+    } else {
+        mend_print::print_mended(rt, s)
+    };
+    if printed {
+        Ended::Printed
+    } else {
+        Ended::Failed
     }
-    if_printed(mend_print::print_mended(rt, s))
 }
 
 // The file on standard input, mended, or what mending changes in it. Its lists take five megabytes of stack. Both
 // commands call it, so the compiler leaves it a function of its own, and no other command pays for them.
 pub fn of_mending(rt: &impl Surroundings, listed: bool) -> Ended {
-    let mut file = mending_room();
+    let mut file: [u8; mend_print::INPUT_MOST] = base::room();
     match mend_print::read_file(rt, &mut file) {
-        mend_print::Input::File(n) => print_mending(rt, base::part_of(&file, 0, n), listed),
-        mend_print::Input::Failed => Ended::Failed,
+        Some(n) => print_mending(rt, base::part_of(&file, 0, n), listed),
+        None => Ended::Failed,
     }
 }

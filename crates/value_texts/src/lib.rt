@@ -18,19 +18,20 @@ fn put_signed(out: &mut [u8], at: usize, v: i64) -> usize
 }
 
 // A number, or the name at its place.
+#[tactic(auto, using(base::proofs::Writes::wrote_nothing), unfolding(crate::specs::Values::number_text))]
 fn put_number(out: &mut [u8], at: usize, form: Form, v: u32) -> usize
     requires { at + length (number_text form v) ≤ length out.old }
     ensures { Wrote out.old at (number_text form v) out.new result }
 {
     match form {
-        Form::Number(decimals, _) => shortest_numbers::put_shortest(out, at, decimals, v),
-        Form::OrStandard(decimals, _) => shortest_numbers::put_shortest(out, at, decimals, v),
-        Form::NoStandard(decimals, _) => shortest_numbers::put_shortest(out, at, decimals, v),
+        Form::Number(decimals, _) | Form::OrStandard(decimals, _) | Form::NoStandard(decimals, _) =>
+            shortest_numbers::put_shortest(out, at, decimals, v),
         Form::Signed(_) => at,
         Form::OneOf(names) => word_texts::put_name(out, at, names, v as usize),
     }
 }
 
+#[tactic(auto, using(base::proofs::Writes::wrote_nothing), unfolding(crate::specs::Values::value_text))]
 pub fn put_value(out: &mut [u8], at: usize, form: Form, given: Given) -> usize
     requires { at + length (value_text form given) ≤ length out.old }
     ensures { Wrote out.old at (value_text form given) out.new result }

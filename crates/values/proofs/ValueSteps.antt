@@ -1,5 +1,6 @@
 -- What a value says, from the calls that read it: each law in the form that a place of src/lib.rt wants.
 -- Assumes nothing.
+use Rattle.std.specs.Prelude.{Err, None, Ok, Some}
 use Prim.Native.Nat.{ℕ, ◌<◌, ◌≤◌}
 use mathlib.Core.Path.{◌≡◌, sym, ◌∙◌}
 use mathlib.Core.Bool.{Bool, true, false}
@@ -19,23 +20,21 @@ use Rattle.names.specs.declared.ValueList.TheVariants.{
   HousingFloors,
   HousingAirs,
 }
-use Rattle.words.specs.declared.Found.{Found}
-use Rattle.words.specs.declared.Found.TheVariants.{At, Nowhere}
 use Rattle.names.specs.Names.{names_of, size_of}
 use Rattle.names.specs.Find.{find_name}
 use Rattle.words.proofs.Places.{find_text-at}
+use Rattle.words.specs.Find.{Found}
 use Rattle.farm.specs.declared.Given.TheVariants.{Standard, Value}
-use Rattle.number_values.specs.declared.ValueRead.{ValueRead}
-use Rattle.number_values.specs.declared.ValueRead.TheVariants.{Is, Forbidden, Unfit}
-use Rattle.number_values.specs.Numbers.{number_read, signed_read}
+use Rattle.number_values.specs.Numbers.{number_read, signed_read, ValueRead}
+use Rattle.number_values.specs.declared.ValueFault.TheVariants.{Forbidden, Unfit}
 use Rattle.values.specs.Values.{is_standard, name_read, value_of}
 
 -- a name was looked for
 module _ {x y : Found} (q : x ≡ y) where
-  pub name-is : {j : ℕ} → x ≡ At j → Is (Value j) ≡ name_read y
+  pub name-is : {j : ℕ} → x ≡ Some j → Ok (Value j) ≡ name_read y
   name-is e = simp (sym q ∙ e)
 
-  pub name-unfit : x ≡ Nowhere → Unfit ≡ name_read y
+  pub name-unfit : x ≡ None → Err Unfit ≡ name_read y
   name-unfit e = simp (sym q ∙ e)
 
 -- no list has more names than a byte has values
@@ -48,7 +47,7 @@ names-most AirScrubbers = lit≤ tt
 names-most HousingFloors = lit≤ tt
 names-most HousingAirs = lit≤ tt
 
-pub name-small : (names : ValueList) (s : List ℕ) {x : Found} → x ≡ find_name names s → {j : ℕ} → x ≡ At j → j < 256
+pub name-small : (names : ValueList) (s : List ℕ) {x : Found} → x ≡ find_name names s → {j : ℕ} → x ≡ Some j → j < 256
 unfolding find_name
 name-small names s q {j} e = omega (arith, (find_text-at (names_of names) s j (sym q ∙ e)).inside, names-most names)
 
@@ -59,7 +58,7 @@ module _ {form : Form} (s : List ℕ) {d m : ℕ} where
   value-number e q = rw e q
 
   module _ {b : Bool} (t : b ≡ is_standard s) where
-    pub value-standard : form ≡ OrStandard d m → b ≡ true → Is Standard ≡ value_of form s
+    pub value-standard : form ≡ OrStandard d m → b ≡ true → Ok Standard ≡ value_of form s
     unfolding value_of
     value-standard e h = simp (e, value_of, sym t ∙ h)
 
@@ -68,7 +67,7 @@ module _ {form : Form} (s : List ℕ) {d m : ℕ} where
     unfolding value_of
     value-no-standard e h q = simp (e, value_of, sym t ∙ h) q
 
-    pub value_forbidden : form ≡ NoStandard d m → b ≡ true → Forbidden ≡ value_of form s
+    pub value_forbidden : form ≡ NoStandard d m → b ≡ true → Err Forbidden ≡ value_of form s
     unfolding value_of
     value_forbidden e h = simp (e, value_of, sym t ∙ h)
 

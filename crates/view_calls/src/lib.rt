@@ -3,11 +3,11 @@
 #![tactic(auto)]
 
 ghost use Rattle.std.specs.Prelude.{◌≡◌};
-ghost use Rattle.farm.specs.declared.Checked.TheVariants.{Accepted};
 ghost use Rattle.checks.specs.Checks.{check_farm};
 ghost use Rattle.contracts.specs.Listings.{Called, accepted_call, farm_call};
+ghost use Rattle.farm.specs.Answers.{Accepted};
 
-use farm::{Checked, Farm};
+use farm::Farm;
 use views::{View, farms};
 use written::Written;
 
@@ -16,20 +16,14 @@ pub fn accepted_view(view: View, f: Farm, out: &mut [u8]) -> Written
     requires { check_farm f ≡ Accepted }
     ensures { Called (accepted_call view f) out.old out.new result }
 {
-    let checked = farms::check_view(f, view);
-    match checked {
-        Checked::Accepted => view_writing::write_view(out, f, view),
-        Checked::Refused(refusal, record) => Written::Refused(refusal, record),
-    }
+    farms::check_view(f, view)?;
+    view_writing::write_view(out, f, view)
 }
 
 // Of any farm.
 pub fn view_by_value(view: View, f: Farm, out: &mut [u8]) -> Written
     ensures { Called (farm_call view f) out.old out.new result }
 {
-    let checked = checks::check_farm(f);
-    match checked {
-        Checked::Accepted => accepted_view(view, f, out),
-        Checked::Refused(refusal, record) => Written::Refused(refusal, record),
-    }
+    checks::check_farm(f)?;
+    accepted_view(view, f, out)
 }

@@ -4,14 +4,14 @@ use Prim.Native.Nat.{ℕ, ◌+◌, ◌*◌, ◌≤◌, ◌<◌}
 use mathlib.Core.Path.{◌≡◌, ap}
 use mathlib.Core.List.{List}
 use native.Mathlib.Omega.{arith}
-use lib.ListN.{length, get_or, drop, length-append}
+use lib.ListN.{length, get_or, drop, length-append, length-take}
 use mir.Syntax.{w64}
 use mir.Val.{Fits}
 use Rattle.farm.specs.Limits.{herds_most}
 use Rattle.farm.specs.declared.Herd.{Herd}
 use Rattle.farm.specs.declared.Farm.{Farm}
-use Rattle.farm.specs.declared.Checked.TheVariants.{Accepted}
-use Rattle.farm.proofs.Left.{taken_at, taken-end}
+use Rattle.farm.proofs.Left.{left_at, left_end}
+use Rattle.farm.specs.Answers.{Accepted}
 use Rattle.checks.specs.Checks.{check_farm, herds_of}
 use Rattle.checks.proofs.Accepts.{farm-count}
 use Rattle.line_parts.specs.Fields.{each}
@@ -32,32 +32,34 @@ module _ (v : View) (f : Farm) where
       record { few = farm-count f accepted; within = omega arith; adds-up = omega arith; short = omega arith }
 
   module _ (i sum : ℕ) (inv : Measuring v f i sum) where
-    module _ (b : i < f.count) (n : ℕ) (short : n ≤ herd_view_room) where
-      pub sum_fits : Fits w64 (sum + n)
-      sum_fits = omega (arith, inv.short, inv.few)
+    module _ (b : i < length (herds_of f)) (n : ℕ) (short : n ≤ herd_view_room) where
+      inside : i < f.count
+      inside = omega (arith, b, length-take f.count f.herds)
 
-      pub goes_on : length f.herds ≡ herds_most → (d : Herd) → n ≡ length (herd_text v (get_or f.herds i d))
-          → Measuring v f (i + 1) (sum + n)
-      goes_on long d e =
-          let first = taken_at f.count f.herds i d b (omega (arith, inv.few)) in
+      pub sum_fits : Fits w64 (sum + n)
+      sum_fits = omega (arith, short, inside, inv.short, inv.few)
+
+      pub goes_on : (d : Herd) → n ≡ length (herd_text v (get_or (herds_of f) i d)) → Measuring v f (i + 1) (sum + n)
+      goes_on d e =
+          let first = left_at (herds_of f) i d b in
           let rest = each (herd_text v) (drop (i + 1) (herds_of f)) in
           record {
             few = inv.few;
-            within = omega arith;
+            within = omega (arith, inside);
             adds-up =
                 omega (
                   arith,
                   e,
                   inv.adds-up,
                   ap (λ (l : List Herd). length (each (herd_text v) l)) first,
-                  length-append (herd_text v (get_or f.herds i d)) rest,
+                  length-append (herd_text v (get_or (herds_of f) i d)) rest,
                 );
             short = omega (arith, inv.short);
           }
 
-    pub all_measured : f.count ≤ i → sum ≡ length (each (herd_text v) (herds_of f))
+    pub all_measured : length (herds_of f) ≤ i → sum ≡ length (each (herd_text v) (herds_of f))
     all_measured b =
-        let none = taken-end f.count f.herds i b in
+        let none = left_end (herds_of f) i b in
         omega (arith, inv.adds-up, ap (λ (l : List Herd). length (each (herd_text v) l)) none)
 
     pub all-within : sum ≤ f.count * herd_view_room

@@ -9,11 +9,10 @@ use lib.ListN.{length, get_or, drop, length-append}
 use Rattle.base.specs.Part.{part}
 use Rattle.base.specs.Wrote.{Wrote}
 use Rattle.base.proofs.Writes.{wrote_as, wrote_nothing, part-is}
-use Rattle.farm.specs.Limits.{herds_most}
 use Rattle.farm.specs.declared.Herd.{Herd}
 use Rattle.farm.specs.declared.Farm.{Farm}
-use Rattle.farm.specs.declared.Checked.TheVariants.{Accepted}
-use Rattle.farm.proofs.Left.{taken_at}
+use Rattle.farm.proofs.Left.{left_at}
+use Rattle.farm.specs.Answers.{Accepted}
 use Rattle.checks.specs.Checks.{check_farm, herds_of}
 use Rattle.outputs.specs.declared.Figures.{Figures}
 use Rattle.outputs.specs.declared.Totals.{Totals}
@@ -52,18 +51,17 @@ pub ruleset scratch_steps = (has_room, put, put-within)
 -- ---- herd after herd
 
 module _ (v : View) (f : Farm) (old : List ℕ) (room : length (each (herd_text v) (herds_of f)) ≤ length old) (i : ℕ)
-    (now : List ℕ) (at : ℕ) (inv : Putting v f old i now at) (b : i < f.count) where
-  pub next-room : length f.herds ≡ herds_most → (d : Herd)
-      → at + length (herd_text v (get_or f.herds i d)) ≤ length now
-  next-room long d =
-      let first = taken_at f.count f.herds i d b (omega (arith, inv.few)) in
+    (now : List ℕ) (at : ℕ) (inv : Putting v f old i now at) (b : i < length (herds_of f)) where
+  pub next-room : (d : Herd) → at + length (herd_text v (get_or (herds_of f) i d)) ≤ length now
+  next-room d =
+      let first = left_at (herds_of f) i d b in
       let rest = each (herd_text v) (drop (i + 1) (herds_of f)) in
       omega (
         arith,
         inv.written.adds-up,
         inv.written.same,
         ap (λ (l : List Herd). length (each (herd_text v) l)) first,
-        length-append (herd_text v (get_or f.herds i d)) rest,
+        length-append (herd_text v (get_or (herds_of f) i d)) rest,
       )
 
 pub ruleset herd_steps = (passes, starts, next-room, goes_on)

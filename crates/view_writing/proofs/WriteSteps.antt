@@ -1,5 +1,6 @@
 -- A view put in parts, if they fit: behind the herds, which have m bytes, stand n, and these were put into a scratch.
 -- Assumes nothing.
+use Rattle.std.specs.Prelude.{Ok}
 use Prim.Native.Nat.{ℕ, ◌+◌, ◌*◌, ◌≤◌, ◌<◌}
 use mathlib.Core.Path.{◌≡◌, ap, ◌∙◌}
 use mathlib.Core.List.{List, ◌++◌}
@@ -10,12 +11,12 @@ use mir.Val.{Fits}
 use Rattle.base.specs.Part.{part}
 use Rattle.base.specs.Wrote.{Wrote}
 use Rattle.base.proofs.Writes.{wrote_as, wrote-append, wrote-keeps-length, part-is}
+use Rattle.base.specs.Refused.{refuse}
 use Rattle.farm.specs.declared.Farm.{Farm}
 use Rattle.farm.specs.declared.Refusal.TheVariants.{BufferTooShort}
-use Rattle.farm.specs.declared.Checked.TheVariants.{Accepted}
+use Rattle.farm.specs.Answers.{Accepted}
 use Rattle.checks.specs.Checks.{check_farm, herds_of}
 use Rattle.checks.proofs.Accepts.{farm-count}
-use Rattle.written.specs.declared.Written.TheVariants.{Length, Refused}
 use Rattle.written.specs.Answer.{Answered}
 use Rattle.written.proofs.Answers.{refused, written}
 use Rattle.line_parts.specs.Fields.{each}
@@ -38,7 +39,7 @@ module _ (v : View) (f : Farm) (accepted : check_farm f ≡ Accepted) (scratch a
   whole = omega (arith, is, w.past, length-append herds (behind v f))
 
   module _ (old : List ℕ) where
-    pub too_short : length old < m + n → Answered (viewed v f) old old (Refused BufferTooShort 0)
+    pub too_short : length old < m + n → Answered (viewed v f) old old (refuse BufferTooShort 0)
     too_short h = refused (in_parts v f) (omega (arith, whole))
 
     module _ (fits : m + n ≤ length old) where
@@ -54,7 +55,7 @@ module _ (v : View) (f : Farm) (accepted : check_farm f ≡ Accepted) (scratch a
         rest-room =
             omega (arith, is, put.past, w.past, wrote-keeps-length put, ap length is-behind)
 
-        pub in_parts-put : (new : List ℕ) (r : ℕ) → Wrote mid at p new r → Answered (viewed v f) old new (Length r)
+        pub in_parts-put : (new : List ℕ) (r : ℕ) → Wrote mid at p new r → Answered (viewed v f) old new (Ok r)
         in_parts-put new r u =
             let all = wrote-append put (wrote_as is-behind u) in
             written (in_parts v f) all (omega (arith, all.past, whole))

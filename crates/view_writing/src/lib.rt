@@ -7,11 +7,12 @@ mod lengths; // how long the herds' texts are
 mod parts; // herds, and what stands behind them, put where they just fit
 
 ghost use Rattle.std.specs.Prelude.{◌≡◌};
-ghost use Rattle.farm.specs.declared.Checked.TheVariants.{Accepted};
 ghost use Rattle.checks.specs.Checks.{check_farm};
 ghost use Rattle.written.specs.Answer.{Answered};
 ghost use Rattle.views.specs.Views.{viewed};
+ghost use Rattle.farm.specs.Answers.{Accepted};
 
+use base::refusals::Refused;
 use farm::{Farm, Refusal};
 use views::View;
 use written::Written;
@@ -25,8 +26,8 @@ pub fn write_view(out: &mut [u8], farm: Farm, view: View) -> Written
     let n = parts::put_behind(&mut behind, farm, view);
     let whole = lengths::herds_length(farm, view) + n;
     if out.len() < whole {
-        return Written::Refused(Refusal::BufferTooShort, 0);
+        return Err(Refused(Refusal::BufferTooShort, 0));
     }
     let at = parts::put_herds(out, farm, view);
-    Written::Length(base::put(out, at, base::part_of(&behind, 0, n)))
+    Ok(base::put(out, at, base::part_of(&behind, 0, n)))
 }

@@ -2,12 +2,12 @@
 // stands behind them. A herd is put into a scratch first, since its writer asks for room for any herd.
 ghost use Rattle.std.specs.Prelude.{◌≡◌, ◌+◌, ◌≤◌, length};
 ghost use Rattle.base.specs.Wrote.{Wrote};
-ghost use Rattle.farm.specs.declared.Checked.TheVariants.{Accepted};
 ghost use Rattle.checks.specs.Checks.{check_herd, check_farm, herds_of};
 ghost use Rattle.line_parts.specs.Fields.{each};
 ghost use Rattle.views.specs.Views.{herd_text};
 ghost use Rattle.views.specs.Rooms.{herd_view_room, behind_room};
 ghost use Rattle.view_writing.specs.Behind.{behind};
+ghost use Rattle.farm.specs.Answers.{Accepted};
 
 use farm::{Farm, Herd};
 use views::{View, farms, herds};
@@ -21,17 +21,14 @@ fn put_herd(out: &mut [u8], at: usize, h: Herd, view: View) -> usize
     base::put(out, at, base::part_of(&scratch, 0, n))
 }
 
+#[tactic(auto, using(views::proofs::FarmSteps::few_herds))]
 pub fn put_herds(out: &mut [u8], farm: Farm, view: View) -> usize
     requires { (check_farm farm ≡ Accepted) × (length (each (herd_text view) (herds_of farm)) ≤ length out.old) }
     ensures { Wrote out.old 0 (each (herd_text view) (herds_of farm)) out.new result }
 {
-    let count = farm.count;
     let mut at = 0;
-    let mut i = 0;
-    while i < count {
-        let h = farm.herds[i];
-        at = put_herd(out, at, h, view);
-        i += 1;
+    for h in &farm.herds[..farm.count] {
+        at = put_herd(out, at, *h, view);
     }
     at
 }
@@ -42,7 +39,8 @@ pub fn put_behind(out: &mut [u8], farm: Farm, view: View) -> usize
     ensures { Wrote out.old 0 (behind view farm) out.new result × (result ≤ behind_room) }
 {
     if farms::is_figures(view) {
-        return listing::put_total_lines(out, 0, sums::totals_from(farm_sums::sum_of(farm)));
+        listing::put_total_lines(out, 0, sums::totals_from(farm_sums::sum_of(farm)))
+    } else {
+        0
     }
-    0
 }

@@ -1,29 +1,29 @@
 -- A farm put together herd by herd, in any view: what is still to be written is the texts of the herds from i on. And
 -- what a view with a limit is refused with. Assumes nothing.
+use Rattle.base.specs.declared.refusals.Refused.{Refused}
+use Rattle.std.specs.Prelude.{Ok, Err}
 use Prim.Native.Nat.{ℕ, ◌+◌, ◌*◌, ◌≤◌, ◌<◌}
 use mathlib.Core.Path.{◌≡◌, refl, sym, ap, ◌∙◌}
 use mathlib.Core.Bool.{Bool, true, false}
 use mathlib.Core.List.{List}
 use native.Mathlib.Omega.{arith}
 use lib.ListN.{length, get_or, drop, length-take}
-use lib.Seq.{get_or-take}
 use Rattle.base.specs.Wrote.{Wrote}
 use Rattle.base.proofs.Clash.{clash}
 use Rattle.base.proofs.Each.{each-get_or}
 use Rattle.base.proofs.Writes.{wrote_as}
 use Rattle.base.proofs.ToCome.{ToCome, begun}
+use Rattle.base.specs.Refused.{refuse}
 use Rattle.farm.specs.Limits.{herds_most}
 use Rattle.farm.specs.declared.Herd.{Herd}
 use Rattle.farm.specs.declared.Farm.{Farm}
 use Rattle.farm.specs.declared.Refusal.{Refusal}
-use Rattle.farm.specs.declared.Checked.{Checked}
-use Rattle.farm.specs.declared.Checked.TheVariants.{Accepted, Refused}
-use Rattle.farm.proofs.Left.{taken_at, taken-end}
+use Rattle.farm.proofs.Left.{left_at, left_end}
+use Rattle.farm.specs.Answers.{Accepted, Checked}
 use Rattle.checks.specs.Checks.{check_herd, check_farm, herds_of}
 use Rattle.checks.proofs.Accepts.{farm-count, farm-each}
 use Rattle.line_parts.specs.Fields.{each}
 use Rattle.line_parts.proofs.OneByOne.{entry-put, all-entries-put}
-use Rattle.written.specs.declared.Written.TheVariants as writes
 use Rattle.lines_figures.specs.Lines.{farm_listing}
 use Rattle.views.specs.declared.View.{View}
 use Rattle.views.specs.declared.View.TheVariants.{Figures, Notes, Cuts, Reasons, Sentences, File}
@@ -34,11 +34,12 @@ use Rattle.views.specs.Rooms.{herd_view_room}
 use Rattle.views.specs.Program.{Put, listed, refused}
 
 -- the herds of a farm that the checks accept are accepted
-pub passes : (f : Farm) → check_farm f ≡ Accepted → length f.herds ≡ herds_most → (i : ℕ) → i < f.count → (d : Herd)
-    → check_herd (get_or f.herds i d) ≡ Accepted
-passes f accepted long i b d =
-    let l : i < length (herds_of f) = omega (arith, length-take f.count f.herds, farm-count f accepted) in
-    rw (← get_or-take f.count f.herds i d b) (each-get_or (herds_of f) i d (farm-each f accepted) l)
+pub passes : (f : Farm) → check_farm f ≡ Accepted → (i : ℕ) → i < length (herds_of f) → (d : Herd)
+    → check_herd (get_or (herds_of f) i d) ≡ Accepted
+passes f accepted i b d = each-get_or (herds_of f) i d (farm-each f accepted) b
+
+pub few_herds : (f : Farm) → check_farm f ≡ Accepted → f.count ≤ herds_most
+few_herds f accepted = farm-count f accepted
 
 -- the texts of i herds were written
 pub record Putting (v : View) (f : Farm) (old : List ℕ) (i : ℕ) (now : List ℕ) (at : ℕ) : Type 0 where
@@ -52,26 +53,28 @@ module _ (v : View) (f : Farm) (accepted : check_farm f ≡ Accepted) (old : Lis
   starts = record { few = farm-count f accepted; within = omega arith; written = begun; short = omega arith }
 
   module _ (i : ℕ) (now : List ℕ) (at : ℕ) (inv : Putting v f old i now at) where
-    module _ (b : i < f.count) where
-      pub has_room : f.count * herd_view_room ≤ length old → at + herd_view_room ≤ length now
-      has_room room = omega (arith, inv.short, inv.written.same)
+    module _ (b : i < length (herds_of f)) where
+      inside : i < f.count
+      inside = omega (arith, b, length-take f.count f.herds)
 
-      pub goes_on : length f.herds ≡ herds_most → (d : Herd) (new : List ℕ) (next : ℕ)
-          → Wrote now at (herd_text v (get_or f.herds i d)) new next → next ≤ at + herd_view_room
+      pub has_room : f.count * herd_view_room ≤ length old → at + herd_view_room ≤ length now
+      has_room room = omega (arith, room, inside, inv.short, inv.written.same)
+
+      pub goes_on : (d : Herd) (new : List ℕ) (next : ℕ)
+          → Wrote now at (herd_text v (get_or (herds_of f) i d)) new next → next ≤ at + herd_view_room
           → Putting v f old (i + 1) new next
-      goes_on long d new next w r =
+      goes_on d new next w r =
           record {
             few = inv.few;
-            within = omega arith;
-            written =
-                entry-put (herd_text v) inv.written
-                (taken_at f.count f.herds i d b (omega (arith, inv.few))) w;
+            within = omega (arith, inside);
+            written = entry-put (herd_text v) inv.written (left_at (herds_of f) i d b) w;
             short = omega (arith, inv.short);
           }
 
-    pub ends : f.count ≤ i → Wrote old 0 (each (herd_text v) (herds_of f)) now at × (at ≤ f.count * herd_view_room)
+    pub ends : length (herds_of f) ≤ i
+        → Wrote old 0 (each (herd_text v) (herds_of f)) now at × (at ≤ f.count * herd_view_room)
     ends b = (
-      all-entries-put (herd_text v) inv.written (taken-end f.count f.herds i b),
+      all-entries-put (herd_text v) inv.written (left_end (herds_of f) i b),
       omega (arith, inv.short, inv.within),
     )
 
@@ -130,11 +133,11 @@ pub ruleset limit_steps = (is-limited, has-none)
 
 module _ (v : View) (f : Farm) (k : Checked) (q : k ≡ view_checked v f) where
   pub is-put : k ≡ Accepted → (room : ℕ) (old new : List ℕ) (n : ℕ) → Wrote old 0 (viewed v f) new n → n ≤ room
-      → Put room (view_checked v f) (viewed v f) old new (writes.Length n)
+      → Put room (view_checked v f) (viewed v f) old new (Ok n)
   is-put e room old new n w h = listed (sym q ∙ e) w h
 
-  pub is-not : (room : ℕ) (old : List ℕ) (refusal : Refusal) (n : ℕ) → k ≡ Refused refusal n
-      → Put room (view_checked v f) (viewed v f) old old (writes.Refused refusal n)
-  is-not room old refusal n e = refused (sym q ∙ e)
+  pub is-not : (room : ℕ) (old : List ℕ) (why : Refused Refusal) → k ≡ Err why
+      → Put room (view_checked v f) (viewed v f) old old (Err why)
+  is-not room old why e = refused (sym q ∙ e)
 
 pub ruleset put_steps = (is-put, is-not)

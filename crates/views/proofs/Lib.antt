@@ -1,3 +1,4 @@
+pub mod ViewTests
 pub mod HerdSteps
 pub mod FarmSteps
 pub mod FileSteps

@@ -1,12 +1,12 @@
 -- What is listed of a herd and of an accepted farm, by the view that a command asks for: the figures (01, The listing),
 -- the notes, the cuts (02, W7), the reasons in records or in sentences (02, W2), the file that says the herds (02, W5);
 -- and when it is refused. To be believed: `herd_text`, `viewed` and `view_checked`.
-use Rattle.std.specs.Prelude.{ℕ, Bool, true, false, List}
+use Rattle.std.specs.Prelude.{ℕ, Bool, true, false, List, Err}
 use Rattle.base.specs.Pick.{pick}
+use Rattle.base.specs.Refused.{refuse}
 use Rattle.farm.specs.declared.Herd.{Herd}
 use Rattle.farm.specs.declared.Farm.{Farm}
-use Rattle.farm.specs.declared.Checked.{Checked}
-use Rattle.farm.specs.declared.Checked.TheVariants.{Accepted, Refused}
+use Rattle.farm.specs.Answers.{Accepted, Checked}
 use Rattle.checks.specs.Checks.{herds_of}
 use Rattle.line_parts.specs.Fields.{each}
 use Rattle.lines_figures.specs.Lines.{listing_of, farm_listing}
@@ -52,7 +52,7 @@ view_checked view f = pick (has_limit view) (file_checked (viewed view f)) Accep
 -- what reading or the checks of the farm refuse comes before
 abbrev pub checked_for : View → Checked → Farm → Checked
 checked_for view Accepted f = view_checked view f
-checked_for view (Refused refusal record') f = Refused refusal record'
+checked_for view (Err refused) f = Err refused
 
 -- ---- as the code asks; no reader has to believe it
 

@@ -1,42 +1,30 @@
 // An accepted farm in a view, and whether the view has a limit that it passes.
 ghost use Rattle.std.specs.Prelude.{◌≡◌, ◌≤◌, length};
 ghost use Rattle.base.specs.Wrote.{Wrote};
-ghost use Rattle.farm.specs.declared.Checked.TheVariants.{Accepted};
 ghost use Rattle.checks.specs.Checks.{check_farm};
 ghost use Rattle.views.specs.Views.{viewed, has_limit, view_checked, is_figures};
 ghost use Rattle.views.specs.Rooms.{view_room};
 ghost use Rattle.views.specs.Program.{Put};
+ghost use Rattle.farm.specs.Answers.{Accepted};
 
 use crate::{View, herds};
 use farm::{Checked, Farm};
 use written::Written;
 
 // The totals stand behind the figures alone.
+#[tactic(auto, using(crate::proofs::ViewTests::view_tests))]
 pub fn is_figures(view: View) -> bool
     ensures { result ≡ is_figures view }
 {
-    match view {
-        View::Figures => true,
-        View::Notes => false,
-        View::Cuts => false,
-        View::Reasons => false,
-        View::Sentences => false,
-        View::File => false,
-    }
+    matches!(view, View::Figures)
 }
 
 // A file alone may be too long.
+#[tactic(auto, using(crate::proofs::ViewTests::view_tests))]
 pub fn has_limit(view: View) -> bool
     ensures { result ≡ has_limit view }
 {
-    match view {
-        View::Figures => false,
-        View::Notes => false,
-        View::Cuts => false,
-        View::Reasons => false,
-        View::Sentences => false,
-        View::File => true,
-    }
+    matches!(view, View::File)
 }
 
 // Whether the view may be handed out.
@@ -45,9 +33,10 @@ pub fn check_view(farm: Farm, view: View) -> Checked
     ensures { result ≡ view_checked view farm }
 {
     if has_limit(view) {
-        return file_length::check_file(farm);
+        file_length::check_file(farm)
+    } else {
+        Ok(())
     }
-    Checked::Accepted
 }
 
 // What the view lists of the farm, from the front of the buffer on; the end of it. The figures are added up on the way.
@@ -57,9 +46,10 @@ pub fn put_view(out: &mut [u8], farm: Farm, view: View) -> usize
         × (result ≤ view_room farm.count) }
 {
     if is_figures(view) {
-        return lines_figures::put_farm(out, farm);
+        lines_figures::put_farm(out, farm)
+    } else {
+        herds::put_herds(out, farm, view)
     }
-    herds::put_herds(out, farm, view)
 }
 
 // The same of a view that may have a limit: where it passes it, the refusal, and nothing is written.
@@ -68,9 +58,6 @@ pub fn put_limited(out: &mut [u8], farm: Farm, view: View) -> Written
     ensures { Put (view_room farm.count) (view_checked view farm) (viewed view farm)
         out.old out.new result }
 {
-    let checked = check_view(farm, view);
-    match checked {
-        Checked::Accepted => Written::Length(put_view(out, farm, view)),
-        Checked::Refused(refusal, record) => Written::Refused(refusal, record),
-    }
+    check_view(farm, view)?;
+    Ok(put_view(out, farm, view))
 }

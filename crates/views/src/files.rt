@@ -4,7 +4,6 @@ ghost use Rattle.views.specs.Rooms.{output_room};
 ghost use Rattle.views.specs.Program.{PutFile};
 
 use crate::{View, farms};
-use farm::Checked;
 use limits::Source;
 use written::Written;
 
@@ -14,14 +13,10 @@ pub fn put_file(source: Source, s: &[u8], out: &mut [u8], view: View) -> Written
     ensures { PutFile source view s.now out.old out.new result }
 {
     let answer = farm_file::read(source, s);
-    let checked = answer.checked;
-    match checked {
-        Checked::Accepted => {
-            if farms::has_limit(view) {
-                return farms::put_limited(out, answer.farm, view);
-            }
-            Written::Length(farms::put_view(out, answer.farm, view))
-        }
-        Checked::Refused(refusal, record) => Written::Refused(refusal, record),
+    answer.checked?;
+    if farms::has_limit(view) {
+        farms::put_limited(out, answer.farm, view)
+    } else {
+        Ok(farms::put_view(out, answer.farm, view))
     }
 }

@@ -1,11 +1,11 @@
 // An accepted herd in a view, and the herds of an accepted farm one after the other.
 ghost use Rattle.std.specs.Prelude.{◌≡◌, ◌+◌, ◌*◌, ◌≤◌, length};
 ghost use Rattle.base.specs.Wrote.{Wrote};
-ghost use Rattle.farm.specs.declared.Checked.TheVariants.{Accepted};
 ghost use Rattle.checks.specs.Checks.{check_herd, check_farm, herds_of};
 ghost use Rattle.line_parts.specs.Fields.{each};
 ghost use Rattle.views.specs.Views.{herd_text};
 ghost use Rattle.views.specs.Rooms.{herd_view_room};
+ghost use Rattle.farm.specs.Answers.{Accepted};
 
 use crate::View;
 use farm::{Farm, Herd};
@@ -27,18 +27,15 @@ pub fn put_herd(out: &mut [u8], at: usize, h: Herd, view: View) -> usize
 }
 
 // Herd after herd, from the front of the buffer on; the end of the last.
+#[tactic(auto, using(crate::proofs::FarmSteps::few_herds))]
 pub fn put_herds(out: &mut [u8], farm: Farm, view: View) -> usize
     requires { (check_farm farm ≡ Accepted) × (farm.count * herd_view_room ≤ length out.old) }
     ensures { Wrote out.old 0 (each (herd_text view) (herds_of farm)) out.new result
         × (result ≤ farm.count * herd_view_room) }
 {
-    let count = farm.count;
     let mut at = 0;
-    let mut i = 0;
-    while i < count {
-        let h = farm.herds[i];
-        at = put_herd(out, at, h, view);
-        i += 1;
+    for h in &farm.herds[..farm.count] {
+        at = put_herd(out, at, *h, view);
     }
     at
 }

@@ -12,7 +12,7 @@ use written::Written;
 
 // The figures; the notes; what each division cut off; why each yard has its share, in records or in sentences; the
 // farm file that says the herds.
-#[derive(Clone, Copy)]
+#[derive(Clone, Copy, Debug, PartialEq, Eq)]
 pub enum View {
     Figures,
     Notes,
@@ -23,7 +23,7 @@ pub enum View {
 }
 
 // What the program prints for a file: how the call ended, and how many bytes are to be printed.
-#[derive(Clone, Copy)]
+#[derive(Clone, Copy, Debug, PartialEq, Eq)]
 pub struct Output {
     pub ended: Written,
     pub length: usize,

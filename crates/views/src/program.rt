@@ -5,21 +5,21 @@ ghost use Rattle.views.specs.Rooms.{output_room};
 ghost use Rattle.views.specs.Program.{PutOutput};
 
 use crate::{Output, View, files};
+use base::refusals::Refused;
 use limits::Source;
-use written::Written;
 
 pub fn put_output(source: Source, s: &[u8], out: &mut [u8], view: View) -> Output
     requires { output_room source ≤ length out.old }
     ensures { PutOutput source view s.now out.old out.new result }
 {
     match files::put_file(source, s, out, view) {
-        Written::Length(n) => Output {
-            ended: Written::Length(n),
+        Ok(n) => Output {
+            ended: Ok(n),
             length: n,
         },
-        Written::Refused(refusal, record) => Output {
-            ended: Written::Refused(refusal, record),
-            length: file_refusal_line::put_line(out, refusal, record),
+        Err(refused) => Output {
+            ended: Err(refused),
+            length: file_refusal_line::put_line(out, refused.0, refused.1),
         },
     }
 }

@@ -1,23 +1,24 @@
 -- A whole number of up to 64 bits, as a text holds it. To be believed: `wide_most` and `Reads`; the rest says how the
 -- code goes.
-use Rattle.std.specs.Prelude.{ℕ, ◌≤◌, List}
-use Rattle.digits.specs.declared.Number.{Number}
-use Rattle.digits.specs.declared.Number.TheVariants as digits
+use Rattle.std.specs.Prelude.{ℕ, ◌≤◌, List, None, Some, Option}
 use Rattle.numbers.specs.Numbers.{IsNumber}
-use Rattle.wide_numbers.specs.declared.WideNumber.{WideNumber}
-use Rattle.wide_numbers.specs.declared.WideNumber.TheVariants.{Value, Unreadable}
+use Rattle.digits.specs.Digits.{Number}
+
+-- what a text says as such a number, if it says one
+abbrev pub WideNumber : Type 0
+WideNumber = Option ℕ
 
 abbrev pub wide_most : ℕ
 wide_most = 18446744073709551615
 
 -- what a text is read as: the value of the whole number of 01's form that it is, where that is within 64 bits
 pub data Reads (s : List ℕ) : WideNumber → Type 0 where
-  value : {v : ℕ} → IsNumber s 0 v → v ≤ wide_most → Reads s (Value v)
-  unreadable : ((v : ℕ) → IsNumber s 0 v → v ≤ wide_most → ⊥) → Reads s Unreadable
+  value : {v : ℕ} → IsNumber s 0 v → v ≤ wide_most → Reads s (Some v)
+  unreadable : ((v : ℕ) → IsNumber s 0 v → v ≤ wide_most → ⊥) → Reads s None
 
 -- ---- how the code goes; no reader has to believe it
 
 -- what crate `numbers` reads, as such a number
 abbrev pub widened : Number → WideNumber
-widened (digits.Value v) = Value v
-widened digits.Unreadable = Unreadable
+widened (Some v) = Some v
+widened None = None

@@ -16,22 +16,15 @@ use Rattle.word_texts.specs.Words.{word_at, name_text}
 
 -- ---- the start: `at` bytes are passed, with i words
 
-module _ (lengths : List ℕ) (place at i : ℕ) (within : place ≤ length lengths) (X : ℕ)
-    (inv : at + room_of (drop i (take place lengths)) ≡ X) where
-  pub start-next : {n : ℕ} → n ≡ get_or lengths i 0 → i < place
-      → at + n + 1 + room_of (drop (i + 1) (take place lengths)) ≡ X
+module _ (lengths : List ℕ) (at i : ℕ) (X : ℕ) (inv : at + room_of (drop i lengths) ≡ X) where
+  pub start-next : {n : ℕ} → n ≡ get_or lengths i 0 → i < length lengths
+      → at + (n + 1) + room_of (drop (i + 1) lengths) ≡ X
   unfolding room_of
-  start-next {n} e b =
-      let l = length-take-le place lengths within in
-      let h = rw (rest_at (take place lengths) i (omega (arith, l)), get_or-take place lengths i 0 b) at inv in
-      omega (arith, h, e)
+  start-next {n} e b = let h = rw (rest_at lengths i b) at inv in omega (arith, h, e)
 
-  pub start_is : place ≤ i → at ≡ X
+  pub start_is : length lengths ≤ i → at ≡ X
   unfolding room_of
-  start_is b =
-      let l = length-take-le place lengths within in
-      let h = rw (rest_end (take place lengths) i (omega (arith, l))) at inv in
-      omega (arith, h)
+  start_is b = let h = rw (rest_end lengths i b) at inv in omega (arith, h)
 
 pub ruleset start_steps = (start-next, start_is)
 

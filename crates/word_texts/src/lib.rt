@@ -9,22 +9,14 @@ ghost use Rattle.word_texts.specs.Words.{word_at, name_text};
 
 use names::{ValueList, lists};
 
-fn wide(b: u8) -> usize
-    ensures { (result ≡ b) × (result ≤ 255) }
-{
-    b as usize
-}
-
 // Where the word at a place starts: behind so many words, and a byte behind each.
 fn start_of(lengths: &[u8], place: usize) -> usize
     requires { (place ≤ length lengths.now) × (length lengths.now ≤ 255) }
     ensures { (result ≡ room_of (take place lengths.now)) × (result ≤ 256 * place) }
 {
     let mut at = 0;
-    let mut i = 0;
-    while i < place {
-        at = at + wide(lengths[i]) + 1;
-        i += 1;
+    for len in &lengths[..place] {
+        at += usize::from(*len) + 1;
     }
     at
 }
@@ -40,7 +32,7 @@ pub fn put_word(out: &mut [u8], at: usize, words: &[u8], lengths: &[u8], place: 
         return at;
     }
     let from = start_of(lengths, place);
-    let to = from + wide(lengths[place]);
+    let to = from + usize::from(lengths[place]);
     base::put(out, at, &words[from..to])
 }
 

@@ -1,4 +1,5 @@
 -- A text's words, gone through one after the other, find the name that the text is. Assumes nothing.
+use Rattle.std.specs.Prelude.{None, Some}
 use Prim.Native.Nat.{ℕ, ◌+◌, ◌-◌, ◌<◌, ◌≤◌}
 use Prim.Native.String.{String}
 use mathlib.Core.Path.{◌≡◌, refl, sym, ap, ◌∙◌}
@@ -11,9 +12,7 @@ use Rattle.base.specs.Pick.{pick}
 use Rattle.base.specs.Text.{bytes}
 use Rattle.base.specs.Part.{same_bytes}
 use Rattle.base.proofs.Rest.{rest_at, rest_end}
-use Rattle.words.specs.declared.Found.{Found}
-use Rattle.words.specs.declared.Found.TheVariants.{At, Nowhere}
-use Rattle.words.specs.Find.{first_from, is_name, find_text, words_of, room_of}
+use Rattle.words.specs.Find.{first_from, is_name, find_text, words_of, room_of, Found}
 
 -- ---- the words from `at` on have their room in the text
 
@@ -34,7 +33,8 @@ module _ (t s lengths : List ℕ) (at i : ℕ) (X : Found)
     (inv : first_from (same_bytes t) i (words_of (drop at s) (drop i lengths)) ≡ X) where
   module _ (b : i < length lengths) {n : ℕ} (e : n ≡ get_or lengths i 0) {r : Bool}
       (w : r ≡ same_bytes t (take (at + n - at) (drop at s))) where
-    word_next : pick r (At i) (first_from (same_bytes t) (i + 1) (words_of (drop (at + n + 1) s) (drop (i + 1) lengths)))
+    word_next : pick r (Some i)
+        (first_from (same_bytes t) (i + 1) (words_of (drop (at + n + 1) s) (drop (i + 1) lengths)))
         ≡ X
     unfolding first_from words_of
     word_next =
@@ -42,14 +42,14 @@ module _ (t s lengths : List ℕ) (at i : ℕ) (X : Found)
         let z : at + (n + 1) ≡ at + n + 1 = omega arith in
         rw (w, y, ← z, ← drop-drop (n + 1) at s, e) (rw (rest_at lengths i b) at inv)
 
-    pub word-found : r ≡ true → At i ≡ X
+    pub word-found : r ≡ true → Some i ≡ X
     word-found h = sym (rw h) ∙ word_next
 
     pub word-other : r ≡ false
         → first_from (same_bytes t) (i + 1) (words_of (drop (at + n + 1) s) (drop (i + 1) lengths)) ≡ X
     word-other h = sym (rw h) ∙ word_next
 
-  pub word_none : length lengths ≤ i → Nowhere ≡ X
+  pub word_none : length lengths ≤ i → None ≡ X
   unfolding first_from words_of
   word_none b = rw (rest_end lengths i b) at inv
 
@@ -61,7 +61,7 @@ find_bytes : (s : List ℕ) (i : ℕ) (names : List String)
     → first_from (same_bytes s) i (map bytes names) ≡ first_from (is_name s) i names
 unfolding first_from is_name
 find_bytes s i [] = refl
-find_bytes s i (n ∷ names) = ap (pick (same_bytes s (bytes n)) (At i)) (find_bytes s (i + 1) names)
+find_bytes s i (n ∷ names) = ap (pick (same_bytes s (bytes n)) (Some i)) (find_bytes s (i + 1) names)
 
 pub words_found : (names : List String) (s words lengths : List ℕ) {r : Found}
     → r ≡ first_from (same_bytes s) 0 (words_of words lengths) → words_of words lengths ≡ map bytes names

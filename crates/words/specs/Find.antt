@@ -1,18 +1,20 @@
 -- Which of its list a text is, byte for byte. It mirrors the code for its contracts; proofs/Places.antt says what it
 -- means.
-use Rattle.std.specs.Prelude.{ℕ, ◌+◌, Bool, false, List, [], ◌∷◌, eqb, take, drop}
+use Rattle.std.specs.Prelude.{ℕ, ◌+◌, Bool, false, List, [], ◌∷◌, eqb, take, drop, None, Some, Option}
 use Prim.Native.String.{String}
 use lib.Text.{eqt}
 use Rattle.base.specs.Pick.{pick}
 use Rattle.base.specs.Text.{bytes}
 use Rattle.base.specs.Part.{same_bytes}
-use Rattle.words.specs.declared.Found.{Found}
-use Rattle.words.specs.declared.Found.TheVariants.{At, Nowhere}
+
+-- a place in a list, if there is one
+abbrev pub Found : Type 0
+Found = Option ℕ
 
 -- the place of the first in a list that passes a test, counted on from i
 unfoldable pub first_from : {A : Type 0} → (A → Bool) → ℕ → List A → Found
-first_from test i [] = Nowhere
-first_from test i (x ∷ rest) = pick (test x) (At i) (first_from test (i + 1) rest)
+first_from test i [] = None
+first_from test i (x ∷ rest) = pick (test x) (Some i) (first_from test (i + 1) rest)
 
 -- the text is the name
 unfoldable pub is_name : List ℕ → String → Bool
@@ -24,8 +26,8 @@ find_text names s = first_from (is_name s) 0 names
 
 -- a found place is this one
 abbrev pub is_at : Found → ℕ → Bool
-is_at (At j) k = eqb k j
-is_at Nowhere k = false
+is_at (Some j) k = eqb k j
+is_at None k = false
 
 -- ---- the modules and the input names, each once, in the order in which they come in 01's list
 

@@ -349,9 +349,12 @@ examples = refusals ++ others
 
 pub worked : map (λ (e : Example). read_of (limits_of StandardInput) e.file) examples
     ≡ map (λ (e : Example). e.answer) examples
-unfolding limits_of read_of read_from record_tests taken closed finished reading_of reading_from at_start in_plain in_quotes
-    past_quote past_cR label_of label_ok byte_ok same_label same_bytes lower lowered find_input find_among first_row is_row value_of
-    is_standard number_of any_number_of zero_from whole_from point_from fraction_from find_name find_text first_from is_name new_herd
+unfolding limits_of read_of read_from record_tests taken closed finished reading_of reading_from at_start in_plain
+    in_quotes
+    past_quote past_cR label_of label_ok byte_ok same_label same_bytes lower lowered find_input find_among first_row
+    is_row value_of
+    is_standard number_of any_number_of zero_from whole_from point_from fraction_from find_name find_text first_from
+    is_name new_herd
     with_input lacks earlier_label signed_read part
 worked = refl
 
@@ -394,8 +397,11 @@ limited =
 
 pub worked-within : map (λ (e : Limited). read_of e.limits e.file) limited
     ≡ map (λ (e : Limited). e.answer) limited
-unfolding read_of read_from record_tests taken closed finished reading_of reading_from at_start in_plain in_quotes past_quote
-    past_cR label_of label_ok byte_ok same_label same_bytes lower lowered find_input find_among first_row is_row value_of
-    is_standard number_of any_number_of zero_from whole_from point_from fraction_from find_name find_text first_from is_name new_herd
+unfolding read_of read_from record_tests taken closed finished reading_of reading_from at_start in_plain in_quotes
+    past_quote
+    past_cR label_of label_ok byte_ok same_label same_bytes lower lowered find_input find_among first_row is_row
+    value_of
+    is_standard number_of any_number_of zero_from whole_from point_from fraction_from find_name find_text first_from
+    is_name new_herd
     with_input lacks earlier_label signed_read part
 worked-within = refl

@@ -6,8 +6,7 @@ use mathlib.Core.List.{List, ◌++◌}
 use borrow.Author.Tests.{le-leb, lt-leb}
 use lib.ListN.{length, drop}
 use Rattle.farm.specs.Refusals.{Says, gives, refuses}
-use Rattle.written.specs.declared.Written.{Written}
-use Rattle.written.specs.Answer.{leaves, answers, Answered, says_of}
+use Rattle.written.specs.Answer.{leaves, answers, Answered, says_of, Written}
 
 -- a call's buffer afterwards and what it says
 pub record Gave (left : List ℕ) (saying : Says) (new : List ℕ) (r : Written) : Type 0 where

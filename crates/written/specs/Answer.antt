@@ -1,12 +1,16 @@
 -- What a writing call leaves in the lent buffer and what it says. 01: "A writing call gives the listing's length; bytes
 -- past it stay as they were." Where the buffer is shorter than the listing it is refusal 13 with record 0, and nothing
 -- is written.
-use Rattle.std.specs.Prelude.{ℕ, ◌≡◌, Bool, List, ◌++◌, leb, length, drop}
+use Rattle.std.specs.Prelude.{ℕ, ◌≡◌, Bool, List, ◌++◌, leb, length, drop, Ok, Err}
 use Rattle.base.specs.Pick.{pick}
+use Rattle.base.specs.Refused.{refuse}
 use Rattle.farm.specs.declared.Refusal.TheVariants.{BufferTooShort}
 use Rattle.farm.specs.Refusals.{number, Says, gives, refuses}
-use Rattle.written.specs.declared.Written.{Written}
-use Rattle.written.specs.declared.Written.TheVariants.{Length, Refused}
+use Rattle.farm.specs.Answers.{Answer}
+
+-- the length of what was written, or a refusal
+abbrev pub Written : Type 0
+Written = Answer ℕ
 
 -- the buffer is long enough
 abbrev pub room : List ℕ → List ℕ → Bool
@@ -18,7 +22,7 @@ leaves listing old = pick (room listing old) (listing ++ drop (length listing) o
 
 -- the answer
 unfoldable pub answers : List ℕ → List ℕ → Written
-answers listing old = pick (room listing old) (Length (length listing)) (Refused BufferTooShort 0)
+answers listing old = pick (room listing old) (Ok (length listing)) (refuse BufferTooShort 0)
 
 pub record Answered (listing old new : List ℕ) (r : Written) : Type 0 where
   pub buffer : new ≡ leaves listing old
@@ -26,5 +30,5 @@ pub record Answered (listing old new : List ℕ) (r : Written) : Type 0 where
 
 -- what it says in 01's numbers
 abbrev pub says_of : Written → Says
-says_of (Length n) = gives n
-says_of (Refused refusal at_record) = refuses (number refusal) at_record
+says_of (Ok n) = gives n
+says_of (Err refused) = refuses (number refused.0) refused.1

@@ -5,14 +5,11 @@
 ghost use Rattle.base.specs.Part.{part};
 ghost use Rattle.written.specs.Answer.{Answered};
 
-use farm::Refusal;
+use base::refusals::Refused;
+use farm::{Answer, Refusal};
 
-// The length of what was written, or a fault and a record's number.
-#[derive(Clone, Copy)]
-pub enum Written {
-    Length(usize),
-    Refused(Refusal, usize),
-}
+// The length of what was written, or a refusal.
+pub type Written = Answer<usize>;
 
 // The first n bytes of `put` as the listing: into the buffer, or refusal 13 where it is too short.
 pub fn hand_over(out: &mut [u8], put: &[u8], n: usize) -> Written
@@ -20,7 +17,8 @@ pub fn hand_over(out: &mut [u8], put: &[u8], n: usize) -> Written
 {
     let listing = base::part_of(put, 0, n);
     if out.len() < listing.len() {
-        return Written::Refused(Refusal::BufferTooShort, 0);
+        Err(Refused(Refusal::BufferTooShort, 0))
+    } else {
+        Ok(base::put(out, 0, listing))
     }
-    Written::Length(base::put(out, 0, listing))
 }

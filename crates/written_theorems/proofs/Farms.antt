@@ -12,9 +12,9 @@ use Rattle.base.specs.Each.{Each, none, more}
 use Rattle.base.proofs.Each.{each_map}
 use Rattle.farm.specs.declared.Herd.{Herd}
 use Rattle.farm.specs.declared.Farm.{Farm}
-use Rattle.farm.specs.declared.Checked.TheVariants.{Accepted}
 use Rattle.farm.specs.Limits.{herds_most}
 use Rattle.farm.specs.Labels.{same_label, label_of, text}
+use Rattle.farm.specs.Answers.{Accepted}
 use Rattle.limits.specs.declared.Limits.{Limits}
 use Rattle.herd_tests.specs.Tests.{labels_of}
 use Rattle.checks.specs.Checks.{herds_of, check_farm}

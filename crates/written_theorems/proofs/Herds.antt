@@ -153,7 +153,8 @@ module _ (h : Herd) (good : GoodLabel (text h.label)) where
       let here : At h i row s = rw z at (at 0 (omega arith)) in
       Pairs.more (gives here (value-is row.form s.given m f)) (each-gives (i + 1) p next)
     where
-      next : (j : ℕ) → j < length rows → At h (i + 1 + j) (get_or rows j (last_of (rows_of h.kind))) (get_or l j no_slot)
+      next : (j : ℕ) → j < length rows
+          → At h (i + 1 + j) (get_or rows j (last_of (rows_of h.kind))) (get_or l j no_slot)
       next j b = let e : i + suc j ≡ i + 1 + j = omega arith in rw e at (at (suc j) (omega arith))
 
 module _ (h : Herd) (x : HasRoom h) (g : GoodHerd h) where

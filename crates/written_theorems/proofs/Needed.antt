@@ -62,6 +62,7 @@ ended-least Before.none = omega arith
 ended-least (Before.more {t = t} {u = u} r b) =
     omega (arith, record_least r, ended-least b, length-append t (cr ∷ lf ∷ u))
 
-pub need_append : (a b : List (List (List ℕ))) → sum_of record_need (a ++ b) ≡ sum_of record_need a + sum_of record_need b
+pub need_append : (a b : List (List (List ℕ)))
+    → sum_of record_need (a ++ b) ≡ sum_of record_need a + sum_of record_need b
 need_append [] b = omega arith
 need_append (cs ∷ a) b = omega (arith, need_append a b)

@@ -1,10 +1,8 @@
 -- The yard: its part of the N and of the TAN, the ammonia from it, and that nothing is lost on the way.
 -- Assumes nothing.
 use mathlib.Core.Path.{◌≡◌, refl}
-use Prim.Native.Nat.{ℕ, ◌+◌, ◌-◌, ◌*◌, ◌≤◌, ◌<◌}
-use native.Mathlib.Nat.{le_refl}
+use Prim.Native.Nat.{ℕ, ◌+◌, ◌-◌, ◌*◌, ◌≤◌, min}
 use native.Mathlib.Omega.{arith}
-use borrow.Author.Tests.{lt-ltb, le-ltb}
 use mir.Syntax.{w64}
 use mir.Val.{Fits}
 use Rattle.cut_division.specs.declared.Quotient.{Quotient}
@@ -16,7 +14,7 @@ use Rattle.amounts.specs.Units.{tenths, percent, ten_thousandths, year}
 use Rattle.amounts.specs.Arithmetic.{cutting}
 use Rattle.amounts.specs.Dividing.{dividing, uncut}
 use Rattle.amounts.specs.Bounds.{WithinMostN, PortionOf, PortionsOf, UpTo}
-use Rattle.amounts.proofs.Amounts.{modest-share}
+use Rattle.amounts.proofs.Amounts.{modest-share, up_to_ceiling}
 use Rattle.kinds.specs.declared.Outdoor.{Outdoor}
 use Rattle.kinds.specs.Free.{c_free_factor}
 use Rattle.kinds.specs.Sound.{SoundOutdoor}
@@ -48,22 +46,9 @@ module _ (o : Outdoor) (s : SoundOutdoor o) where
     found : rate_floor_free o ≡ er_yard * floor * left
     found = rw (e, u.is) refl
 
-    pub under-yard_ceiling : er_yard * floor * left ≤ ten_thousandths * percent * percent
-        → UpTo (ten_thousandths * percent * percent) (ef_nh3_nyard o) (er_yard * floor * left)
-    under-yard_ceiling h =
-        record {
-          is = rw (found, le-ltb (ten_thousandths * percent * percent) (er_yard * floor * left) h) refl;
-          most =
-              h;
-        }
-
-    pub at-yard_ceiling : ten_thousandths * percent * percent < er_yard * floor * left
-        → UpTo (ten_thousandths * percent * percent) (ef_nh3_nyard o) (ten_thousandths * percent * percent)
-    at-yard_ceiling h =
-        record {
-          is = rw (found, lt-ltb (ten_thousandths * percent * percent) (er_yard * floor * left) h) refl;
-          most = le_refl (ten_thousandths * percent * percent);
-        }
+    pub yard-ceiling : (r : ℕ) → r ≡ min (er_yard * floor * left) (ten_thousandths * percent * percent)
+        → UpTo (ten_thousandths * percent * percent) (ef_nh3_nyard o) r
+    yard-ceiling r q = rw found (up_to_ceiling (er_yard * floor * left) (ten_thousandths * percent * percent) r q)
 
   pub yard-modest : (n tan : ℕ) → WithinMostN n tan → WithinMostN (into_yard cutting o n) (into_yard cutting o tan)
   yard-modest n tan m = modest-share n tan (yard_time o) (tenths * year) m (yard_time-le o s)
@@ -81,7 +66,7 @@ module _ (o : Outdoor) (s : SoundOutdoor o) where
     pub yard-keeps-tan : let y = on_yard cutting o n tan in y.tan_into_yard ≡ y.nh3_nyard + y.tan_outyard_liquid
     yard-keeps-tan = omega (arith, nh3-on-yard-le (into_yard cutting o tan))
 
-pub ruleset yard_rate_steps = (rate-fits, under-yard_ceiling, at-yard_ceiling)
+pub ruleset yard_rate_steps = (rate-fits, yard-ceiling)
 
 -- ---- the code's steps
 
@@ -106,3 +91,5 @@ pub is-no-yard : (q : Quotient) → q ≡ undivided 0
     })
     (handed_yard (no_yard dividing))
 is-no-yard q e = rw e refl
+
+pub ruleset yard_made = (is-yard, is-no-yard)

@@ -41,6 +41,16 @@ is-both o s r e = go (ltb year (o.grazing_days + o.yard_days)) refl e
         let k = ltb-false year (o.grazing_days + o.yard_days) h in
         record { is = e; in_grazing = omega arith; in_yard = omega arith; in_year = omega arith }
 
+-- as the code forms it
+pub both_left : (o : Outdoor) → SoundOutdoor o → (r : ℕ) → r ≡ o.grazing_days + o.yard_days - year → DaysWithBoth o r
+unfolding days_with_grazing_and_yard
+both_left o s r e = is-both o s r (go (ltb year (o.grazing_days + o.yard_days)) refl)
+  where
+    go : (t : Bool) → ltb year (o.grazing_days + o.yard_days) ≡ t
+        → r ≡ pick t (o.grazing_days + o.yard_days - year) 0
+    go true h = e
+    go false h = omega (arith, ltb-false year (o.grazing_days + o.yard_days) h)
+
 -- ---- shares: at most the whole
 
 abbrev pub partly : ℕ

@@ -21,7 +21,7 @@ use amounts::{PERCENT, Parts, TEN_THOUSANDTHS, TENTHS, YEAR};
 use cut_division::Quotient;
 use kinds::{ExerciseYard, Floor, Outdoor};
 
-#[derive(Clone, Copy)]
+#[derive(Clone, Copy, Debug, PartialEq, Eq)]
 pub struct Yard {
     pub into: Parts,
     pub nh3_nyard: Quotient,
@@ -53,14 +53,12 @@ const YEAR_IN_TENTHS: u64 = TENTHS * YEAR;
 
 const RATE_FLOOR_FREE: u64 = TEN_THOUSANDTHS * PERCENT * PERCENT;
 
+#[tactic(auto, using(crate::proofs::Times::both_left))]
 pub fn days_with_grazing_and_yard(o: Outdoor) -> u64
     requires { SoundOutdoor o }
     ensures { DaysWithBoth o result }
 {
-    if YEAR < o.grazing_days + o.yard_days {
-        return o.grazing_days + o.yard_days - YEAR;
-    }
-    0
+    (o.grazing_days + o.yard_days).saturating_sub(YEAR)
 }
 
 // The share as chosen, by its name.
@@ -76,28 +74,25 @@ pub fn share_excretion(yard: ExerciseYard) -> u64
 }
 
 // Whether the share is lowered on days with both.
+#[tactic(auto, using(crate::proofs::Times::share_steps))]
 pub fn share_lowered(o: Outdoor) -> bool
     requires { SoundOutdoor o }
     ensures { result ≡ share_lowered o }
 {
-    let yard = o.exercise_yard;
-    let both = days_with_grazing_and_yard(o);
-    if both == 0 {
-        return false;
-    }
-    SHARE_PARTLY < share_excretion(yard)
+    days_with_grazing_and_yard(o) != 0 && SHARE_PARTLY < share_excretion(o.exercise_yard)
 }
 
 // The share on days with both.
+#[tactic(auto, using(crate::proofs::Times::share_steps))]
 pub fn share_excretion_with_grazing(o: Outdoor) -> u64
     requires { SoundOutdoor o }
     ensures { UpTo tenths (share_excretion_with_grazing o) result }
 {
-    let yard = o.exercise_yard;
     if share_lowered(o) {
-        return SHARE_PARTLY;
+        SHARE_PARTLY
+    } else {
+        share_excretion(o.exercise_yard)
     }
-    share_excretion(yard)
 }
 
 // What a floor takes off the rate, by its name.
@@ -120,32 +115,30 @@ fn c_floor_properties_exercise_yard(floor: Floor) -> u64
 }
 
 // The part of the year on the yard, in tenths of a day.
+#[tactic(auto, using(crate::proofs::Times::yard_time_steps))]
 fn yard_time(o: Outdoor) -> u64
     requires { SoundOutdoor o }
     ensures { UpTo (tenths * year) (yard_time o) result }
 {
-    let yard = o.exercise_yard;
     let both = days_with_grazing_and_yard(o);
-    let share = share_excretion(yard);
+    let share = share_excretion(o.exercise_yard);
     let shared = share_excretion_with_grazing(o);
     share * (o.yard_days - both) + shared * both
 }
 
 // The part of the TAN on the yard that is emitted, and then the ceiling of 1.
+#[tactic(auto, using(crate::proofs::OnYard::yard_rate_steps, kinds::proofs::Leaves::free_steps))]
 fn ef_nh3_nyard(o: Outdoor) -> u64
     requires { SoundOutdoor o }
     ensures { UpTo (ten_thousandths * percent * percent) (ef_nh3_nyard o) result }
 {
-    let floor = o.floor_properties_exercise_yard;
+    let floor = c_floor_properties_exercise_yard(o.floor_properties_exercise_yard);
     let left = kinds::free::c_free_factor(o.free_correction_factor);
-    let factor = ER_YARD * c_floor_properties_exercise_yard(floor) * left;
-    if RATE_FLOOR_FREE < factor {
-        return RATE_FLOOR_FREE;
-    }
-    factor
+    (ER_YARD * floor * left).min(RATE_FLOOR_FREE)
 }
 
 // What comes onto the yard, of so much N and TAN.
+#[tactic(auto, using(amounts::proofs::Amounts::shares_found))]
 fn into_yard(o: Outdoor, n: u64, tan: u64) -> Parts
     requires { SoundOutdoor o × WithinMostN n tan }
     ensures { PortionsOf n tan (yard_time o) (tenths * year) result }
@@ -154,6 +147,7 @@ fn into_yard(o: Outdoor, n: u64, tan: u64) -> Parts
 }
 
 // The ammonia from so much TAN on the yard.
+#[tactic(auto, using(amounts::proofs::Amounts::shares_found))]
 fn nh3_on_yard(o: Outdoor, tan: u64) -> Quotient
     requires { SoundOutdoor o × (tan < 2 ^ 32) }
     ensures { PortionOf tan (ef_nh3_nyard o) (ten_thousandths * percent * percent) result }
@@ -162,6 +156,7 @@ fn nh3_on_yard(o: Outdoor, tan: u64) -> Quotient
 }
 
 // The yard of a herd that excretes so much N and TAN.
+#[tactic(auto, using(crate::proofs::OnYard::yard_made))]
 pub fn on_yard(o: Outdoor, n: u64, tan: u64) -> Yard
     requires { SoundOutdoor o × WithinMostN n tan }
     ensures { result ≡ handed_yard (on_yard dividing o (uncut n) (uncut tan)) }
@@ -177,6 +172,7 @@ pub fn on_yard(o: Outdoor, n: u64, tan: u64) -> Yard
 }
 
 // No yard.
+#[tactic(auto, using(crate::proofs::OnYard::yard_made))]
 pub fn no_yard() -> Yard
     ensures { result ≡ handed_yard (no_yard dividing) }
 {

@@ -13,14 +13,14 @@ totals_from-totals-requires c = search (rules, farm_answers)
 pub total_kilograms_of-requires : goal.total_kilograms_of-requires
 total_kilograms_of-requires c = search (rules, farm_answers)
 
-pub totals_from-totals-requires-in-Refused : goal.totals_from-totals-requires-in-Refused
-totals_from-totals-requires-in-Refused c = search (rules, farm_answers)
+pub totals_from-totals-requires-in-Err : goal.totals_from-totals-requires-in-Err
+totals_from-totals-requires-in-Err c = search (rules, farm_answers)
 
-pub total_kilograms_of-requires-in-Refused : goal.total_kilograms_of-requires-in-Refused
-total_kilograms_of-requires-in-Refused c = search (rules, farm_answers)
+pub total_kilograms_of-requires-in-Err : goal.total_kilograms_of-requires-in-Err
+total_kilograms_of-requires-in-Err c = search (rules, farm_answers)
 
-pub returns-in-Accepted : goal.returns-in-Accepted
-returns-in-Accepted c = search (rules, farm_answers)
+pub returns-in-Ok : goal.returns-in-Ok
+returns-in-Ok c = search (rules, farm_answers)
 
-pub returns-in-Refused : goal.returns-in-Refused
-returns-in-Refused c = search (rules, farm_answers)
+pub returns-in-Err : goal.returns-in-Err
+returns-in-Err c = search (rules, farm_answers)

@@ -16,11 +16,11 @@ notes_of-requires c = search (rules, herd_answers)
 pub cuts_of-requires : goal.cuts_of-requires
 cuts_of-requires c = search (rules, herd_answers)
 
-pub kilograms_of-requires-in-Refused : goal.kilograms_of-requires-in-Refused
-kilograms_of-requires-in-Refused c = search (rules, herd_answers)
+pub kilograms_of-requires-in-Err : goal.kilograms_of-requires-in-Err
+kilograms_of-requires-in-Err c = search (rules, herd_answers)
 
-pub returns-in-Accepted : goal.returns-in-Accepted
-returns-in-Accepted c = search (rules, herd_answers)
+pub returns-in-Ok : goal.returns-in-Ok
+returns-in-Ok c = search (rules, herd_answers)
 
-pub returns-in-Refused : goal.returns-in-Refused
-returns-in-Refused c = search (rules, herd_answers)
+pub returns-in-Err : goal.returns-in-Err
+returns-in-Err c = search (rules, herd_answers)

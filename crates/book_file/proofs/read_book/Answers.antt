@@ -4,4 +4,4 @@ use Rattle.book_file.proofs.read_book.Goals as goal
 
 pub returns : goal.returns
 returns c =
-    follows _ _ _ _ _ _ c.read_for-read.ensures c.farm_of-farm.ensures c.store.ensures c.told.ensures
+    follows _ _ _ _ _ c.read_for-read.ensures c.store.ensures c.told.ensures

@@ -6,8 +6,8 @@ use Rattle.book_file.proofs.read_for.Goals as goal
 pub sum_of-requires : goal.sum_of-requires
 sum_of-requires c = search (rules, file_steps)
 
-pub totals_from-totals-requires : goal.totals_from-totals-requires
-totals_from-totals-requires c = search (rules, file_steps)
+pub totals_from-requires : goal.totals_from-requires
+totals_from-requires c = search (rules, file_steps)
 
 pub returns : goal.returns
 returns c = search (rules, file_steps)

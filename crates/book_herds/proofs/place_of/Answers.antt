@@ -1,7 +1,8 @@
-use Prim.Native.Nat.{◌-◌}
+-- `book_herds::place_of` meets its contract: a herd more has another label, and the last one ends the search. Assumes
+-- nothing.
 use borrow.Author.Rules.{rules}
 use Rattle.farm.proofs.Left.{length_mapped}
-use Rattle.book_herds.proofs.Steps.{Looking, place_steps}
+use Rattle.book_herds.proofs.Steps.{place_steps}
 use Rattle.book_herds.proofs.place_of.Goals as goal
 
 pub loop-i-init : goal.loop-i-init

@@ -6,8 +6,8 @@ use Rattle.book_rules.proofs.decide.Goals as goal
 pub decide_step-requires : goal.decide_step-requires
 decide_step-requires c = search (rules, rule_steps)
 
-pub returns-in-Accepted : goal.returns-in-Accepted
-returns-in-Accepted c = search (rules, rule_steps)
+pub returns-in-Ok : goal.returns-in-Ok
+returns-in-Ok c = search (rules, rule_steps)
 
-pub returns-in-Refused : goal.returns-in-Refused
-returns-in-Refused c = search (rules, rule_steps)
+pub returns-in-Err : goal.returns-in-Err
+returns-in-Err c = search (rules, rule_steps)

@@ -22,5 +22,5 @@ returns-in-Replace c = search (rules, decided_steps)
 pub returns-in-Remove : goal.returns-in-Remove
 returns-in-Remove c = search (rules, decided_steps)
 
-pub returns-in-Refused : goal.returns-in-Refused
-returns-in-Refused c = search (rules, decided_steps)
+pub returns-in-Err : goal.returns-in-Err
+returns-in-Err c = search (rules, decided_steps)

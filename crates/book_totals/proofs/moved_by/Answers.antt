@@ -1,3 +1,4 @@
+-- `book_totals::moved_by` meets its contract: each total moved is the one of its number. Assumes nothing.
 use lib.ListN.{length}
 use borrow.Author.Rules.{rules}
 use Rattle.outputs.specs.Names.{totals}
@@ -7,19 +8,16 @@ use Rattle.book_totals.proofs.Parts.{reads_small, gave}
 use Rattle.book_totals.proofs.moved_by.Goals as goal
 
 pub loop-i-init : goal.loop-i-init
-loop-i-init c = (search rules, search rules, fill_none _ _)
+loop-i-init c = (search rules, fill_none _ _)
 
 pub exchanged-requires : goal.exchanged-requires
 exchanged-requires c = (search (rules, reads_small), search (rules, reads_small), search (rules, reads_small))
 
 pub loop-i-preserved : goal.loop-i-preserved
-loop-i-preserved c = let l = c in
-    let p = l.requires in (
-      search rules,
-      search rules,
-      fill_one _ l.loop-i.invariant.2 (search rules)
-          (gave (within-most _ p.0) p.1 p.2 _ _ c.exchanged.ensures),
-    )
+loop-i-preserved c = let p = c.requires in (
+  search rules,
+  fill_one _ c.loop-i.invariant.1 (search rules) (gave (within-most _ p.0) p.1 p.2 _ _ c.exchanged.ensures),
+)
 
 pub returns : goal.returns
-returns c = let l = c.loop-i in fill_all _ (length totals) l.invariant.2 (search rules) l.invariant.1
+returns c = fill_all _ (length totals) c.loop-i.invariant.1 (search rules) c.loop-i.invariant.0

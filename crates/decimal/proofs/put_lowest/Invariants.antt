@@ -8,13 +8,12 @@ use Rattle.decimal.specs.Writing.{lowest}
 use Rattle.decimal.proofs.put_lowest.Given as goal
 
 abbrev pub invariant-loop-i : goal.invariant-loop-i
-invariant-loop-i l = (l.i ≤ l.k) × (length l.out ≡ length l.initial.out) × (sets l.out l.at (lowest l.i l.m) ≡ sets l.initial.out l.at (lowest l.k l.n))
+invariant-loop-i l = (l.i ≤ l.k) × (length l.out ≡ length l.initial.out)
+    × (sets l.out l.at (lowest l.i l.m) ≡ sets l.initial.out l.at (lowest l.k l.n))
 
 abbrev pub decreases-loop-i : goal.decreases-loop-i
 decreases-loop-i l = l.i
 
-abbrev pub invariant-loop-i-2 : goal.invariant-loop-i-2
-invariant-loop-i-2 l = (l.i ≤ l.initial.i) × (length l.out ≡ length l.initial.out) × (sets l.out l.at (lowest l.i l.m) ≡ sets l.initial.out l.at (lowest l.initial.i l.initial.m))
-
-abbrev pub decreases-loop-i-2 : goal.decreases-loop-i-2
-decreases-loop-i-2 l = l.i
+abbrev pub invariant-loop-j : goal.invariant-loop-j
+invariant-loop-j l = (length l.out ≡ length l.initial.out)
+    × (sets l.out l.at (lowest l.j l.m) ≡ sets l.initial.out l.at (lowest l.initial.i l.initial.m))

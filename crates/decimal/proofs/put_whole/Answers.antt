@@ -9,6 +9,4 @@ pub put_lowest-requires : goal.put_lowest-requires
 put_lowest-requires c = omega (arith, whole_length c.args.n, c.digits.ensures)
 
 pub returns : goal.returns
-returns c = let d = c in
-    wrote_as (whole_is d.args.n d.digits.result d.digits.ensures)
-    c.put_lowest.ensures
+returns c = wrote_as (whole_is c.args.n c.digits.result c.digits.ensures) c.put_lowest.ensures

@@ -1,7 +1,7 @@
-use Prim.Native.Nat.{◌-◌}
+-- `farm_above::above` meets its contract, herd by herd: no sum passes 64 bits. Assumes nothing.
 use borrow.Author.Rules.{rules}
 use Rattle.farm.proofs.Left.{length_mapped}
-use Rattle.above_line.proofs.Steps.{Below, line_steps}
+use Rattle.above_line.proofs.Steps.{line_steps}
 use Rattle.farm_above.proofs.above.Goals as goal
 
 pub loop-i-init : goal.loop-i-init

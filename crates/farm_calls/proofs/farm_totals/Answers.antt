@@ -4,4 +4,4 @@ use Rattle.farm_calls.proofs.Steps.{is-totals}
 use Rattle.farm_calls.proofs.farm_totals.Goals as goal
 
 pub returns : goal.returns
-returns c = is-totals _ _ _ _ c.load-farm.ensures c.farm_answer.ensures
+returns c = is-totals _ _ _ _ c.load.ensures c.farm_answer.ensures

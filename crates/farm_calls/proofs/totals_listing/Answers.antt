@@ -4,4 +4,4 @@ use Rattle.farm_calls.proofs.Steps.{is-listing}
 use Rattle.farm_calls.proofs.totals_listing.Goals as goal
 
 pub returns : goal.returns
-returns c = is-listing _ _ _ _ _ _ c.load-farm.ensures c.totals_by_value.ensures
+returns c = is-listing _ _ _ _ _ _ c.load.ensures c.totals_by_value.ensures

@@ -1,3 +1,5 @@
+-- `farm_sums::sum_of` meets its contract: the next herd's figures may be added, and then one herd more was. Assumes
+-- nothing.
 use mathlib.Core.Path.{◌≡◌}
 use lib.ListN.{length}
 use borrow.Author.Rules.{rules}

@@ -8,14 +8,14 @@ loop-i-preserved-then-s-i-ne34 c = search (rules, quoted_steps)
 pub returns-then-s-j : goal.returns-then-s-j
 returns-then-s-j c = search (rules, quoted_steps)
 
-pub returns-then-b-eq44 : goal.returns-then-b-eq44
-returns-then-b-eq44 c = search (rules, quoted_steps)
+pub returns-in-44 : goal.returns-in-44
+returns-in-44 c = search (rules, quoted_steps)
 
-pub returns-then-b-eq13 : goal.returns-then-b-eq13
-returns-then-b-eq13 c = search (rules, quoted_steps)
+pub returns-in-13 : goal.returns-in-13
+returns-in-13 c = search (rules, quoted_steps)
 
-pub returns-then-b-ne34 : goal.returns-then-b-ne34
-returns-then-b-ne34 c = search (rules, quoted_steps)
+pub returns-in_default : goal.returns-in_default
+returns-in_default c = search (rules, quoted_steps)
 
 pub loop-i-preserved : goal.loop-i-preserved
 loop-i-preserved c = search (rules, quoted_steps)

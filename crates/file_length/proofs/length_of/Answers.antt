@@ -1,20 +1,13 @@
-use Prim.Native.Nat.{◌-◌}
-use Rattle.farm.proofs.Left.{length_mapped}
-use Rattle.file_length.proofs.Steps.{Measuring, length_steps}
+-- The sum fits, and what is left gets shorter by what was added. Assumes nothing.
+use Rattle.file_length.proofs.Steps.{length_steps}
 use borrow.Author.Rules.{rules}
 use Rattle.file_length.proofs.length_of.Goals as goal
 
-pub loop-i-init : goal.loop-i-init
-loop-i-init c = search (rules, length_steps)
-
-pub herd_length-sum-requires : goal.herd_length-sum-requires
-herd_length-sum-requires c = search (rules, length_steps, length_mapped)
-
 pub overflow_add-sum : goal.overflow_add-sum
-overflow_add-sum c = search (rules, length_steps, length_mapped)
+overflow_add-sum c = search (rules, length_steps)
 
-pub loop-i-preserved : goal.loop-i-preserved
-loop-i-preserved c = search (rules, length_steps, length_mapped)
+pub loop-h-preserved : goal.loop-h-preserved
+loop-h-preserved c = search (rules, length_steps)
 
 pub returns : goal.returns
 returns c = search (rules, length_steps)

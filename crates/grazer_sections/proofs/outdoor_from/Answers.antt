@@ -14,20 +14,16 @@ pub overflow_sub-tan_in : goal.overflow_sub-tan_in
 overflow_sub-tan_in c = search (rules, outdoor_steps)
 
 pub overflow_sub-tan_in-2 : goal.overflow_sub-tan_in-2
-overflow_sub-tan_in-2 c = let g = c in
-    let y = c in
-    search (rules, outdoor_steps, y.on_yard-y.ensures, g.outdoor_grazing-g.ensures, y.requires)
+overflow_sub-tan_in-2 c =
+    search (rules, outdoor_steps, c.on_yard-y.ensures, c.outdoor_grazing-g.ensures, c.requires)
 
 pub returns : goal.returns
-returns c = let d = c in
-    let g = c in
-    let y = c in
-    search (
-      rules,
-      outdoor_steps,
-      y.excreted-e.ensures,
-      y.on_yard-y.ensures,
-      g.outdoor_grazing-g.ensures,
-      d.through_door.ensures,
-      c.without_pig_house.ensures,
-    )
+returns c = search (
+  rules,
+  outdoor_steps,
+  c.excreted-e.ensures,
+  c.on_yard-y.ensures,
+  c.outdoor_grazing-g.ensures,
+  c.through_door.ensures,
+  c.without_pig_house.ensures,
+)

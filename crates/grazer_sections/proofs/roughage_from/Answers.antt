@@ -13,15 +13,12 @@ pub in_housing-requires : goal.in_housing-requires
 in_housing-requires c = search (rules, roughage_from_steps)
 
 pub returns : goal.returns
-returns c = let h = c in
-    let y = c in
-    let g = c in
-    search (
-      rules,
-      roughage_from_steps,
-      g.excreted-e.ensures,
-      g.roughage_grazing-g.ensures,
-      y.no_yard.ensures,
-      h.in_housing.ensures,
-      c.without_pig_house.ensures,
-    )
+returns c = search (
+  rules,
+  roughage_from_steps,
+  c.excreted-e.ensures,
+  c.roughage_grazing-g.ensures,
+  c.no_yard.ensures,
+  c.in_housing.ensures,
+  c.without_pig_house.ensures,
+)

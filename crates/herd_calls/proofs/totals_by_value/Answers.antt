@@ -2,13 +2,14 @@
 -- Assumes nothing.
 use Rattle.contracts.proofs.RecordSteps.{totals_steps}
 use borrow.Author.Rules.{rules}
+use Rattle.base.proofs.SameRefused.{handed_on}
 use Rattle.herd_calls.proofs.totals_by_value.Goals as goal
 
 pub write_totals-requires : goal.write_totals-requires
-write_totals-requires c = search (rules, totals_steps)
+write_totals-requires c = search (rules, totals_steps, c.in_ok-answer.was)
 
-pub returns-in-Accepted : goal.returns-in-Accepted
-returns-in-Accepted c = search (rules, totals_steps)
+pub returns : goal.returns
+returns c = search (rules, totals_steps, c.in_ok-answer.was)
 
-pub returns-in-Refused : goal.returns-in-Refused
-returns-in-Refused c = search (rules, totals_steps)
+pub returns-in_err-answer : goal.returns-in_err-answer
+returns-in_err-answer c = search (rules, totals_steps, c.in_err-answer.was, handed_on c.from_residual.ensures)

@@ -12,5 +12,5 @@ returns-then-is_not_available c = search (rules, reason_steps)
 pub returns-then-share_excretion-le-SHARE_PARTLY : goal.returns-then-share_excretion-le-SHARE_PARTLY
 returns-then-share_excretion-le-SHARE_PARTLY c = search (rules, reason_steps)
 
-pub returns : goal.returns
-returns c = search (rules, reason_steps)
+pub returns-else-share_excretion-le-SHARE_PARTLY : goal.returns-else-share_excretion-le-SHARE_PARTLY
+returns-else-share_excretion-le-SHARE_PARTLY c = search (rules, reason_steps)

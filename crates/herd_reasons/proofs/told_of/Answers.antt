@@ -11,6 +11,3 @@ returns-in-Roughage c = search (rules, kind_steps)
 
 pub returns-in-Cattle : goal.returns-in-Cattle
 returns-in-Cattle c = search (rules, kind_steps)
-
-pub returns-in-Pigs : goal.returns-in-Pigs
-returns-in-Pigs c = search (rules, kind_steps)

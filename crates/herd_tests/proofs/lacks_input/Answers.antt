@@ -1,21 +1,20 @@
-use mathlib.Core.Path.{refl}
-use native.Mathlib.Omega.{arith}
+-- `herd_tests::lacks_input` meets its contract: the slots of the inputs are the first of the herd's. Assumes nothing.
+use mathlib.Core.Path.{◌≡◌}
+use lib.ListN.{take}
 use borrow.Author.Rules.{rules}
-use Rattle.farm.proofs.Slots.{count_most}
-use Rattle.herd_tests.specs.Tests.{lacks}
+use borrow.Author.Tests.{tests}
+use Rattle.std.specs.List.{list_any}
+use Rattle.std.proofs.lemmas.Iterator.{YieldsList-from_slice}
+use Rattle.std.proofs.lemmas.Iterator.Search.{any_from_yields_List}
+use Rattle.farm.specs.Herds.{is_missing}
 use Rattle.farm.proofs.Left.{length_mapped}
-use Rattle.herd_tests.proofs.SlotSteps.{lacks_steps}
+use Rattle.herd_tests.proofs.SlotSteps.{any-lacks}
 use Rattle.herd_tests.proofs.lacks_input.Goals as goal
 
-pub loop-i-init : goal.loop-i-init
-unfolding lacks
-loop-i-init c = (search rules, omega (arith, count_most c.args.h.kind), refl)
-
-pub returns-then-is_missing : goal.returns-then-is_missing
-returns-then-is_missing c = search (rules, lacks_steps, length_mapped)
-
-pub loop-i-preserved : goal.loop-i-preserved
-loop-i-preserved c = search (rules, lacks_steps, length_mapped)
-
 pub returns : goal.returns
-returns c = search (rules, lacks_steps)
+returns c =
+    let first = take c.count_of.result c.args.h.slots in
+    let any : c.any.result ≡ list_any (λ s. is_missing s.given) first =
+    any_from_yields_List (λ s. is_missing s.given) _ _ c.any.result c.any.ensures.ran
+    (YieldsList-from_slice first cc) (λ x b q k. search (rules, tests)) in
+    search (rules, any-lacks, length_mapped, any)

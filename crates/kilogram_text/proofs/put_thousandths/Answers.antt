@@ -12,15 +12,9 @@ pub put_byte-b-requires : goal.put_byte-b-requires
 put_byte-b-requires c = omega (arith, thousandths-length c.args.n)
 
 pub put_lowest-requires : goal.put_lowest-requires
-put_lowest-requires c = omega (
-  arith,
-  thousandths-length
-      c.args.n,
-)
+put_lowest-requires c = omega (arith, thousandths-length c.args.n)
 
 pub returns : goal.returns
-returns c = let c3 = c in
-    let c2 = c in
-    let c1 = c in
-    wrote_as (thousandths-is c1.args.n)
-    (wrote-append (wrote-append c1.put_whole-a.ensures c2.put_byte-b.ensures) c3.put_lowest.ensures)
+returns c =
+    wrote_as (thousandths-is c.args.n)
+    (wrote-append (wrote-append c.put_whole-a.ensures c.put_byte-b.ensures) c.put_lowest.ensures)

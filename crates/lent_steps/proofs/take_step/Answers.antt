@@ -5,5 +5,4 @@ use Rattle.lent_steps.proofs.take_step.Goals as goal
 
 pub returns : goal.returns
 returns c =
-    follows _ _ _ _ _ _ _ _ _ _ c.count_of.ensures c.load-farm.ensures c.stepped-after.ensures
-    c.farm_of-stored.ensures c.store.ensures c.told.ensures
+    follows _ _ _ _ _ _ _ _ c.load-farm.ensures c.step-after.ensures c.store.ensures c.told.ensures

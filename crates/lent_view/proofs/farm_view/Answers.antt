@@ -3,4 +3,4 @@ use Rattle.lent_view.proofs.Views.{is_view}
 use Rattle.lent_view.proofs.farm_view.Goals as goal
 
 pub returns : goal.returns
-returns c = is_view _ _ _ _ _ _ _ c.load-farm.ensures c.view_by_value.ensures
+returns c = is_view _ _ _ _ _ _ _ c.load.ensures c.view_by_value.ensures

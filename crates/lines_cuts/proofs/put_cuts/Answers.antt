@@ -4,9 +4,8 @@ use mathlib.Core.Path.{◌≡◌, ap, ◌∙◌}
 use native.Mathlib.Omega.{arith}
 use lib.ListN.{length}
 use Rattle.base.specs.Text.{bytes}
-use Rattle.base.proofs.Writes.{wrote_as}
+use Rattle.base.proofs.Writes.{wrote_as, part-is}
 use Rattle.farm.specs.Labels.{text}
-use Rattle.base.proofs.Writes.{part-is}
 use Rattle.line_parts.specs.Paths.{path_of}
 use Rattle.line_parts.specs.Owners.{owner_of}
 use Rattle.lines_cuts.proofs.AsListed.{cuts-known, cuts_are}
@@ -16,8 +15,8 @@ use Rattle.lines_cuts.proofs.put_cuts.Goals as goal
 -- what is lent is the owner, which is short
 pub put_lines-requires : goal.put_lines-requires
 put_lines-requires c =
-    let owner_is : c.part_of-owner.result.now ≡ owner_of (text c.args.label) (bytes (path_of c.args.kind)) =
-    c.part_of-owner.ensures ∙ part-is c.put_owner-n.ensures.0 (search rules)
+    let owner_is : c.part_of.result.now ≡ owner_of (text c.args.label) (bytes (path_of c.args.kind)) =
+    c.part_of.ensures ∙ part-is c.put_owner-n.ensures.0 (search rules)
     in (
       cuts-known (search rules) (search rules),
       omega (arith, ap length owner_is, c.put_owner-n.ensures.0.past, c.put_owner-n.ensures.1),
@@ -26,7 +25,7 @@ put_lines-requires c =
 
 pub returns : goal.returns
 returns c =
-    let owner_is : c.part_of-owner.result.now ≡ owner_of (text c.args.label) (bytes (path_of c.args.kind)) =
-    c.part_of-owner.ensures ∙ part-is c.put_owner-n.ensures.0 (search rules)
+    let owner_is : c.part_of.result.now ≡ owner_of (text c.args.label) (bytes (path_of c.args.kind)) =
+    c.part_of.ensures ∙ part-is c.put_owner-n.ensures.0 (search rules)
     in
     wrote_as (cuts_are c.args.label c.args.kind c.args.c owner_is) c.put_lines.ensures

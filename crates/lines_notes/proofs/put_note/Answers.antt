@@ -5,9 +5,7 @@ use borrow.Author.Rules.{rules}
 use Rattle.lines_notes.proofs.put_note.Goals as goal
 
 pub returns-then-noted : goal.returns-then-noted
-returns-then-noted c = let d = c in
-    (wrote_as (noted _ d.if-noted.true) d.put.ensures, search rules)
+returns-then-noted c = (wrote_as (noted _ c.if-noted.true) c.put.ensures, search rules)
 
-pub returns : goal.returns
-returns c = let d = c in
-    (wrote_as (not_noted _ d.if-noted.false) d.put-2.ensures, search rules)
+pub returns-else-noted : goal.returns-else-noted
+returns-else-noted c = (wrote_as (not_noted _ c.if-noted.false) c.put-else-noted.ensures, search rules)

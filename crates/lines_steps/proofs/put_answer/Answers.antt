@@ -9,8 +9,8 @@ put_total_lines-requires c = search (rules, step_Lines)
 pub put_refusal-requires : goal.put_refusal-requires
 put_refusal-requires c = search (rules, step_Lines)
 
-pub returns-in-Done : goal.returns-in-Done
-returns-in-Done c = search (rules, step_Lines)
+pub returns-in-Ok : goal.returns-in-Ok
+returns-in-Ok c = search (rules, step_Lines)
 
-pub returns-in-Refused : goal.returns-in-Refused
-returns-in-Refused c = search (rules, step_Lines)
+pub returns-in-Err : goal.returns-in-Err
+returns-in-Err c = search (rules, step_Lines)

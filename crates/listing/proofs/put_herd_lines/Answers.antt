@@ -17,8 +17,8 @@ use Rattle.listing.proofs.put_herd_lines.Goals as goal
 -- what is lent is the owner, which is short, and the kind's lines in their table
 pub put_lines-requires : goal.put_lines-requires
 put_lines-requires c =
-    let owner_is : c.part_of-owner.result.now ≡ owner_of (text c.args.label) (bytes (path_of c.args.kind)) =
-    c.part_of-owner.ensures ∙ part-is c.put_owner-n.ensures.0 (search rules)
+    let owner_is : c.part_of.result.now ≡ owner_of (text c.args.label) (bytes (path_of c.args.kind)) =
+    c.part_of.ensures ∙ part-is c.put_owner-n.ensures.0 (search rules)
     in
     let run = lines-run c.args.kind c.list_of-k.ensures.0 c.list_of-k.ensures.1 in
     let grams-long : length c.args.f.grams ≡ length rows = search rules in (
@@ -29,8 +29,8 @@ put_lines-requires c =
 
 pub returns : goal.returns
 returns c =
-    let owner_is : c.part_of-owner.result.now ≡ owner_of (text c.args.label) (bytes (path_of c.args.kind)) =
-    c.part_of-owner.ensures ∙ part-is c.put_owner-n.ensures.0 (search rules)
+    let owner_is : c.part_of.result.now ≡ owner_of (text c.args.label) (bytes (path_of c.args.kind)) =
+    c.part_of.ensures ∙ part-is c.put_owner-n.ensures.0 (search rules)
     in
     let run = lines-run c.args.kind c.list_of-k.ensures.0 c.list_of-k.ensures.1 in
     wrote_as (herd-is c.args.label c.args.kind c.args.f owner_is run.part-is) c.put_lines.ensures

@@ -1,15 +1,11 @@
 -- `listing_lines::put_lines` meets its contract: what is still to be written is the lines of the numbers that are
 -- left. Assumes nothing.
-use Prim.Native.Nat.{◌-◌, ◌≤◌}
-use lib.ListN.{length, drop}
+use lib.ListN.{drop}
 use Rattle.base.proofs.ToCome.{ToCome}
 use Rattle.listing_lines.specs.Numbered.{numbered}
 use Rattle.listing_lines.proofs.put_lines.Given as goal
 
-abbrev pub invariant-loop-k : goal.invariant-loop-k
-invariant-loop-k l = (l.k ≤ length l.lines)
-    × ToCome l.initial.out l.at (numbered l.owner l.middles l.starts l.grams l.lines) l.out
-    (numbered l.owner l.middles l.starts l.grams (drop l.k l.lines)) l.next
-
-abbrev pub decreases-loop-k : goal.decreases-loop-k
-decreases-loop-k l = length l.lines - l.k
+abbrev pub invariant-loop-n : goal.invariant-loop-n
+invariant-loop-n l =
+    ToCome l.initial.out l.at (numbered l.owner l.middles l.starts l.grams l.lines) l.out
+    (numbered l.owner l.middles l.starts l.grams (drop l.n-index l.lines)) l.next

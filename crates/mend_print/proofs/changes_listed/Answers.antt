@@ -3,5 +3,5 @@ use Rattle.mend.proofs.Written.{list-room}
 use borrow.Author.Rules.{rules}
 use Rattle.mend_print.proofs.changes_listed.Goals as goal
 
-pub returns-in-Mended : goal.returns-in-Mended
-returns-in-Mended c = search (rules, list-room)
+pub returns-in-Ok : goal.returns-in-Ok
+returns-in-Ok c = search (rules, list-room)

@@ -7,15 +7,18 @@ use Rattle.mend_writes.proofs.put_change.Goals as goal
 
 pub offset_bounds-list-at : goal.offset_bounds-list-at
 offset_bounds-list-at c =
-    let h = change_fits (length c.args.list.now) c.args.at c.args.place c.args.bare c.if-bare.true c.requires in search rules
+    let h = change_fits (length c.args.list.now) c.args.at c.args.place c.args.bare c.if-bare.true c.requires in
+    search rules
 
 pub bounds-list-at : goal.bounds-list-at
 bounds-list-at c =
-    let h = change_fits (length c.args.list.now) c.args.at c.args.place c.args.bare c.if-bare.true c.requires in search rules
+    let h = change_fits (length c.args.list.now) c.args.at c.args.place c.args.bare c.if-bare.true c.requires in
+    search rules
 
 pub offset_bounds-list-at-then-bare : goal.offset_bounds-list-at-then-bare
 offset_bounds-list-at-then-bare c =
-    let h = change_fits (length c.args.list.now) c.args.at c.args.place c.args.bare c.if-bare.true c.requires in search rules
+    let h = change_fits (length c.args.list.now) c.args.at c.args.place c.args.bare c.if-bare.true c.requires in
+    search rules
 
 pub bounds-list-at-then-bare : goal.bounds-list-at-then-bare
 bounds-list-at-then-bare c = simp length-set

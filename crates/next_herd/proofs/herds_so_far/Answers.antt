@@ -6,5 +6,5 @@ use Rattle.next_herd.proofs.herds_so_far.Goals as goal
 pub returns-then-first-eq0 : goal.returns-then-first-eq0
 returns-then-first-eq0 c = search (rules, counted_steps)
 
-pub returns : goal.returns
-returns c = search (rules, counted_steps)
+pub returns-else-first-eq0 : goal.returns-else-first-eq0
+returns-else-first-eq0 c = search (rules, counted_steps)

@@ -6,5 +6,5 @@ use Rattle.number_values.proofs.signed_read.Goals as goal
 pub returns-then-has_minus : goal.returns-then-has_minus
 returns-then-has_minus c = search (rules, number_steps)
 
-pub returns : goal.returns
-returns c = search (rules, number_steps)
+pub returns-else-has_minus : goal.returns-else-has_minus
+returns-else-has_minus c = search (rules, number_steps)

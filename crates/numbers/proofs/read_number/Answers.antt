@@ -10,11 +10,11 @@ returns-then-s-eq0 c = search (rules, number_steps)
 pub returns-then-s-eq1 : goal.returns-then-s-eq1
 returns-then-s-eq1 c = search (rules, number_steps)
 
-pub returns-then-second-eq46 : goal.returns-then-second-eq46
-returns-then-second-eq46 c = search (rules, number_steps)
+pub returns-then-s-eq46 : goal.returns-then-s-eq46
+returns-then-s-eq46 c = search (rules, number_steps)
 
-pub returns-then-first-eq48 : goal.returns-then-first-eq48
-returns-then-first-eq48 c = search (rules, number_steps)
+pub returns-then-s-eq48 : goal.returns-then-s-eq48
+returns-then-s-eq48 c = search (rules, number_steps)
 
 pub returns-in_default : goal.returns-in_default
 returns-in_default c = search (rules, number_steps)

@@ -1,8 +1,3 @@
-use Prim.Native.Nat.{◌≤◌, ◌-◌}
-use mathlib.Core.Path.{◌≡◌}
-use lib.ListN.{length, drop}
-use Rattle.numbers.specs.Reading.{whole_from}
-use Rattle.digits.specs.Digits.{up_to}
 use Rattle.numbers.proofs.Steps.{whole_steps}
 use borrow.Author.Rules.{rules}
 use Rattle.numbers.proofs.whole.Goals as goal

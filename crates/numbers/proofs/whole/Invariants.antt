@@ -1,16 +1,13 @@
 -- `numbers::whole` meets its contract. The invariant: what is left of the text from i on, behind x, reads as the whole
 -- does. Assumes nothing.
-use Prim.Native.Nat.{◌≤◌, ◌-◌}
+use Prim.Native.Nat.{◌≤◌}
 use mathlib.Core.Path.{◌≡◌}
-use lib.ListN.{length, drop}
+use lib.ListN.{drop}
 use Rattle.numbers.specs.Reading.{whole_from}
 use Rattle.digits.specs.Digits.{up_to}
-use Rattle.numbers.proofs.Steps.{whole_steps}
-use borrow.Author.Rules.{rules}
 use Rattle.numbers.proofs.whole.Given as goal
 
 abbrev pub invariant-loop-i : goal.invariant-loop-i
-invariant-loop-i l = (l.x ≤ l.most) × (up_to l.most (whole_from l.decimals l.x (drop l.i l.s)) ≡ up_to l.most (whole_from l.decimals l.v (drop l.at l.s)))
-
-abbrev pub decreases-loop-i : goal.decreases-loop-i
-decreases-loop-i l = length l.s - l.i
+invariant-loop-i l = (l.x ≤ l.most)
+    × (up_to l.most (whole_from l.decimals l.x (drop l.i l.s))
+    ≡ up_to l.most (whole_from l.decimals l.v (drop l.at l.s)))

@@ -1,10 +1,7 @@
--- `pasture::pigs_grazing` meets its contract: outdoors all comes onto the pasture, else nothing. Assumes nothing.
+-- `pasture::pigs_grazing`: outdoors all comes onto the pasture, else nothing. Assumes nothing.
 use borrow.Author.Rules.{rules}
 use Rattle.pasture.proofs.Into.{pigs_steps}
 use Rattle.pasture.proofs.pigs_grazing.Goals as goal
-
-pub on_pasture-requires : goal.on_pasture-requires
-on_pasture-requires c = search (rules, pigs_steps)
 
 pub returns : goal.returns
 returns c = search (rules, pigs_steps)

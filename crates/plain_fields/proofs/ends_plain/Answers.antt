@@ -1,22 +1,10 @@
--- `plain_fields::ends_plain` meets its contract, by its tests.
--- Assumes nothing.
-use Rattle.base.proofs.Picks.{picks}
-use Rattle.plain_fields.specs.Places.{ends_plain}
+-- `plain_fields::ends_plain` meets its contract: one of the four bytes, or none. Assumes nothing.
+use Rattle.plain_fields.proofs.Scans.{ends-one, ends-none}
 use borrow.Author.Rules.{rules}
 use Rattle.plain_fields.proofs.ends_plain.Goals as goal
 
-pub returns-then-b-eq44 : goal.returns-then-b-eq44
-unfolding ends_plain
-returns-then-b-eq44 c = search (rules, picks)
+pub returns-in-44 : goal.returns-in-44
+returns-in-44 c = ends-one _ c.in-44.is
 
-pub returns-then-b-eq13 : goal.returns-then-b-eq13
-unfolding ends_plain
-returns-then-b-eq13 c = search (rules, picks)
-
-pub returns-then-b-eq10 : goal.returns-then-b-eq10
-unfolding ends_plain
-returns-then-b-eq10 c = search (rules, picks)
-
-pub returns : goal.returns
-unfolding ends_plain
-returns c = search (rules, picks)
+pub returns-in_default : goal.returns-in_default
+returns-in_default c = search (rules, ends-none)

@@ -7,11 +7,11 @@ use Rattle.plain_fields.proofs.plain_end.Goals as goal
 pub returns-then-s-i : goal.returns-then-s-i
 returns-then-s-i c = search (rules, plain_steps)
 
-pub returns-then-b-eq44 : goal.returns-then-b-eq44
-returns-then-b-eq44 c = search (rules, plain_steps)
+pub returns-in-44 : goal.returns-in-44
+returns-in-44 c = search (rules, plain_steps)
 
-pub returns-then-b-eq13 : goal.returns-then-b-eq13
-returns-then-b-eq13 c = search (rules, plain_steps)
+pub returns-in-13 : goal.returns-in-13
+returns-in-13 c = search (rules, plain_steps)
 
-pub returns : goal.returns
-returns c = search (rules, plain_steps)
+pub returns-in_default : goal.returns-in_default
+returns-in_default c = search (rules, plain_steps)

@@ -13,8 +13,8 @@ returns-then-same_label c = search (rules, effect_steps)
 pub new_herd-requires : goal.new_herd-requires
 new_herd-requires c = search (rules, effect_steps)
 
-pub returns-in-Wrong : goal.returns-in-Wrong
-returns-in-Wrong c = search (rules, effect_steps)
+pub returns-in-Err : goal.returns-in-Err
+returns-in-Err c = search (rules, effect_steps)
 
 pub returns-else-same_label : goal.returns-else-same_label
 returns-else-same_label c = search (rules, effect_steps)

@@ -3,8 +3,8 @@ use Rattle.quoting.proofs.Steps.{no-pair, two-there}
 use borrow.Author.Rules.{rules}
 use Rattle.quoting.proofs.is_paired.Goals as goal
 
-pub returns-then-s-i-lt2 : goal.returns-then-s-i-lt2
-returns-then-s-i-lt2 c = search (rules, no-pair)
+pub returns-then-i-s : goal.returns-then-i-s
+returns-then-i-s c = search (rules, two-there)
 
-pub returns : goal.returns
-returns c = search (rules, two-there)
+pub returns-else-i-s : goal.returns-else-i-s
+returns-else-i-s c = search (rules, no-pair)

@@ -12,5 +12,5 @@ put-requires c = search (rules, pair-room)
 pub returns-then-is_paired : goal.returns-then-is_paired
 returns-then-is_paired c = search (rules, pair_put)
 
-pub returns : goal.returns
-returns c = search (rules, one-put)
+pub returns-else-is_paired : goal.returns-else-is_paired
+returns-else-is_paired c = search (rules, one-put)

@@ -6,6 +6,3 @@ use Rattle.quoting.proofs.unit_at.Goals as goal
 
 pub returns-then-is_paired : goal.returns-then-is_paired
 returns-then-is_paired c = search (rules, picks, two-inside)
-
-pub returns : goal.returns
-returns c = search (rules, picks)

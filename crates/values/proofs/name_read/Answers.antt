@@ -11,7 +11,7 @@ returns-in_default c = search (rules, value_steps)
 
 pub overflow_cast-result : goal.overflow_cast-result
 overflow_cast-result c =
-    let small : c.in-At.place < 256 = name-small _ _ c.find_name.ensures c.in-At.is in omega arith
+    let small : c.in-Some.place < 256 = name-small _ _ c.find_name.ensures c.in-Some.is in omega arith
 
 pub returns : goal.returns
 returns c = search (rules, value_steps)

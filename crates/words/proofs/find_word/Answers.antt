@@ -1,9 +1,6 @@
-use Prim.Native.Nat.{◌+◌, ◌*◌, ◌-◌, ◌≤◌}
-use mathlib.Core.Path.{◌≡◌}
-use lib.ListN.{length, drop}
+-- `words::find_word` meets its contract: a word lies inside the text, and what the search finds is kept from each word
+-- to the next. Assumes nothing.
 use borrow.Author.Rules.{rules}
-use Rattle.base.specs.Part.{same_bytes}
-use Rattle.words.specs.Find.{first_from, words_of, room_of}
 use Rattle.words.proofs.Words.{room_steps, word_steps}
 use Rattle.words.proofs.find_word.Goals as goal
 

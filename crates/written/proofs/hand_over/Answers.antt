@@ -7,6 +7,5 @@ use Rattle.written.proofs.hand_over.Goals as goal
 pub returns-then-out-listing : goal.returns-then-out-listing
 returns-then-out-listing c = refused c.part_of-listing.ensures (search rules)
 
-pub returns : goal.returns
-returns c = let d = c in
-    written d.part_of-listing.ensures d.put.ensures (search rules)
+pub returns-else-out-listing : goal.returns-else-out-listing
+returns-else-out-listing c = written c.part_of-listing.ensures c.put.ensures (search rules)

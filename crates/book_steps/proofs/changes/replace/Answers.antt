@@ -10,7 +10,8 @@ pub place_of-place-requires : goal.place_of-place-requires
 place_of-place-requires c = search (rules, change_steps)
 
 pub offset_bounds-farm-place : goal.offset_bounds-farm-place
-offset_bounds-farm-place c = let inside : c.place_of-place.result < herds_most = search (rules, change_steps, length_mapped) in
+offset_bounds-farm-place c =
+    let inside : c.place_of-place.result < herds_most = search (rules, change_steps, length_mapped) in
     search (rules, inside)
 
 pub bounds-farm-place : goal.bounds-farm-place

@@ -1,6 +1,5 @@
 -- `csv_reader::Fields::with_field` meets its contract: each of the four places is what `placed` gives.
 -- Assumes nothing.
-use borrow.Author.Rules.{rules}
 use Rattle.csv_reader.proofs.Fields.with_field.Goals as goal
 
 pub returns : goal.returns

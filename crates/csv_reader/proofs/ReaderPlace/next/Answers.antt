@@ -1,7 +1,4 @@
-use Prim.Native.Nat.{◌≤◌, ◌-◌}
-use lib.ListN.{length}
-use Rattle.csv_reader.specs.Places.{step_of}
-use Rattle.csv_reader.proofs.Going.{Going, row_steps}
+use Rattle.csv_reader.proofs.Going.{row_steps}
 use borrow.Author.Rules.{rules}
 use Rattle.csv_reader.proofs.ReaderPlace.next.Goals as goal
 

@@ -1,11 +1,10 @@
--- `csv_reader::ReaderPlace::next` meets its contract. The invariant: the fields from `at` on, after those in f, give what is
--- sought, and there are no more fields than bytes were passed; the measure is what is left of the file. Assumes
+-- `csv_reader::ReaderPlace::next` meets its contract. The invariant: the fields from `at` on, after those in f, give
+-- what is sought, and there are no more fields than bytes were passed; the measure is what is left of the file. Assumes
 -- nothing.
 use Prim.Native.Nat.{◌≤◌, ◌-◌}
 use lib.ListN.{length}
 use Rattle.csv_reader.specs.Places.{step_of}
-use Rattle.csv_reader.proofs.Going.{Going, row_steps}
-use borrow.Author.Rules.{rules}
+use Rattle.csv_reader.proofs.Going.{Going}
 use Rattle.csv_reader.proofs.ReaderPlace.next.Given as goal
 
 abbrev pub invariant-loop-p : goal.invariant-loop-p

@@ -1,16 +1,9 @@
--- The tests are the definition's, in its order. Assumes nothing.
-use borrow.Author.Rules.{rules}
-use borrow.Author.Tests.{le-leb}
-use Rattle.farm.specs.Labels.{byte_ok}
-use Rattle.farm.proofs.LabelSteps.{byte_low, byte_high}
+-- `farm::labels::byte_ok` meets its contract: the tests are the definition's, in its order. Assumes nothing.
+use Rattle.farm.proofs.LabelSteps.{byte_in, byte_out}
 use Rattle.farm.proofs.labels.byte_ok.Goals as goal
 
-pub returns-then-b-lt-LOWEST : goal.returns-then-b-lt-LOWEST
-returns-then-b-lt-LOWEST c = search (rules, byte_low)
+pub returns-then-b-le-HIGHEST : goal.returns-then-b-le-HIGHEST
+returns-then-b-le-HIGHEST c = byte_in _ c.if-b-le-HIGHEST.true.0 c.if-b-le-HIGHEST.true.1
 
-pub returns-then-b-gt-HIGHEST : goal.returns-then-b-gt-HIGHEST
-returns-then-b-gt-HIGHEST c = search (rules, byte_high)
-
-pub returns : goal.returns
-unfolding byte_ok
-returns c = simp (le-leb _ _ c.if-b-lt-LOWEST.false, le-leb _ _ c.if-b-gt-HIGHEST.false)
+pub returns-else-b-le-HIGHEST : goal.returns-else-b-le-HIGHEST
+returns-else-b-le-HIGHEST c = cc (byte_out _ c.if-b-le-HIGHEST.either)

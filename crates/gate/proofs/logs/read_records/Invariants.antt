@@ -2,8 +2,7 @@
 -- measure is the bytes left. Assumes nothing.
 use Prim.Native.Nat.{◌-◌}
 use lib.ListN.{length}
-use borrow.Author.Rules.{rules}
-use Rattle.gate.proofs.LogSteps.{Reached, log_steps}
+use Rattle.gate.proofs.LogSteps.{Reached}
 use Rattle.gate.proofs.logs.read_records.Given as goal
 
 abbrev pub invariant-loop-f : goal.invariant-loop-f

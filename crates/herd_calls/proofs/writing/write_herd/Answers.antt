@@ -6,9 +6,7 @@ use borrow.Author.Rules.{rules}
 use Rattle.herd_calls.proofs.writing.write_herd.Goals as goal
 
 pub returns-then-out-ge-HERD_ROOM : goal.returns-then-out-ge-HERD_ROOM
-returns-then-out-ge-HERD_ROOM c = let d = c in written refl d.put_herd.ensures.0 (search rules)
+returns-then-out-ge-HERD_ROOM c = written refl c.put_herd.ensures.0 (search rules)
 
-pub returns : goal.returns
-returns c = let d = c in
-    let w = d.put_herd-n.ensures.0 in
-    handed refl w (search rules) d.hand_over.ensures
+pub returns-else-out-ge-HERD_ROOM : goal.returns-else-out-ge-HERD_ROOM
+returns-else-out-ge-HERD_ROOM c = handed refl c.put_herd-n.ensures.0 (search rules) c.hand_over.ensures

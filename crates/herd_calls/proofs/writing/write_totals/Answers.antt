@@ -6,9 +6,7 @@ use borrow.Author.Rules.{rules}
 use Rattle.herd_calls.proofs.writing.write_totals.Goals as goal
 
 pub returns-then-out-ge-TOTALS_ROOM : goal.returns-then-out-ge-TOTALS_ROOM
-returns-then-out-ge-TOTALS_ROOM c = let d = c in written refl d.put_total_lines.ensures (search rules)
+returns-then-out-ge-TOTALS_ROOM c = written refl c.put_total_lines.ensures (search rules)
 
-pub returns : goal.returns
-returns c = let d = c in
-    let w = d.put_total_lines-n.ensures in
-    handed refl w (search rules) d.hand_over.ensures
+pub returns-else-out-ge-TOTALS_ROOM : goal.returns-else-out-ge-TOTALS_ROOM
+returns-else-out-ge-TOTALS_ROOM c = handed refl c.put_total_lines-n.ensures (search rules) c.hand_over.ensures

@@ -3,8 +3,8 @@ use Rattle.herd_reasons.proofs.Steps.{told_steps}
 use borrow.Author.Rules.{rules}
 use Rattle.herd_reasons.proofs.answers.told_answer.Goals as goal
 
-pub returns-in-Because : goal.returns-in-Because
-returns-in-Because c = search (rules, told_steps)
+pub returns-in-Some : goal.returns-in-Some
+returns-in-Some c = search (rules, told_steps)
 
-pub returns-in-NoYard : goal.returns-in-NoYard
-returns-in-NoYard c = search (rules, told_steps)
+pub returns-in-None : goal.returns-in-None
+returns-in-None c = search (rules, told_steps)

@@ -7,7 +7,7 @@ use lib.ListN.{length}
 use Rattle.base.proofs.Writes.{wrote_as, wrote-append}
 use Rattle.line_parts.specs.Bounds.{longest_label}
 use Rattle.line_parts.specs.Fields.{label_field}
-use Rattle.line_parts.proofs.LabelField.{text-is, text-short, quoted, bare}
+use Rattle.line_parts.proofs.LabelField.{comma-any, quoted, bare, text-is, text-short}
 use borrow.Author.Rules.{rules}
 use Rattle.line_parts.proofs.labels.put_label.Goals as goal
 
@@ -15,21 +15,21 @@ use Rattle.line_parts.proofs.labels.put_label.Goals as goal
 pub put-b-requires : goal.put-b-requires
 put-b-requires c =
     let s : length c.part_of-bytes.result.now ≤ longest_label =
-    text-short c.args.label _ c.part_of-bytes.ensures (search rules)
-    in search rules
+    text-short c.args.label _ c.part_of-bytes.ensures (search rules) in
+    search rules
 
 pub put_byte-requires : goal.put_byte-requires
 put_byte-requires c =
     let s : length c.part_of-bytes.result.now ≤ longest_label =
-    text-short c.args.label _ c.part_of-bytes.ensures (search rules)
-    in search rules
+    text-short c.args.label _ c.part_of-bytes.ensures (search rules) in
+    search rules
 
-pub returns-then-has_comma : goal.returns-then-has_comma
-returns-then-has_comma c =
+pub returns-then-contains : goal.returns-then-contains
+returns-then-contains c =
     let s : length c.part_of-bytes.result.now ≤ longest_label =
     text-short c.args.label _ c.part_of-bytes.ensures (search rules)
     in (
-      wrote_as (quoted _ _ c.has_comma.ensures c.if-has_comma.true
+      wrote_as (quoted _ _ (c.contains.ensures.value ∙ comma-any _) c.if-contains.true
           ∙ ap label_field (text-is c.args.label _ c.part_of-bytes.ensures))
           (wrote-append (wrote-append c.put_byte-a.ensures c.put-b.ensures) c.put_byte.ensures),
       omega (arith, c.put_byte.ensures.past, c.put-b.ensures.past, c.put_byte-a.ensures.past),
@@ -38,15 +38,15 @@ returns-then-has_comma c =
 pub put-requires : goal.put-requires
 put-requires c =
     let s : length c.part_of-bytes.result.now ≤ longest_label =
-    text-short c.args.label _ c.part_of-bytes.ensures (search rules)
-    in search rules
+    text-short c.args.label _ c.part_of-bytes.ensures (search rules) in
+    search rules
 
-pub returns : goal.returns
-returns c =
+pub returns-else-contains : goal.returns-else-contains
+returns-else-contains c =
     let s : length c.part_of-bytes.result.now ≤ longest_label =
     text-short c.args.label _ c.part_of-bytes.ensures (search rules)
     in (
-      wrote_as (bare _ _ c.has_comma.ensures c.if-has_comma.false
+      wrote_as (bare _ _ (c.contains.ensures.value ∙ comma-any _) c.if-contains.false
           ∙ ap label_field (text-is c.args.label _ c.part_of-bytes.ensures)) c.put.ensures,
       omega (arith, c.put.ensures.past),
     )

@@ -1,13 +1,11 @@
--- `mend_print::lines::put_lines` meets its contract: what is still to be put is the lines of the numbers from i on.
+-- `mend_print::lines::put_lines` meets its contract: what is still to be put is the lines of the numbers that are left.
 -- Assumes nothing.
-use Prim.Native.Nat.{◌-◌}
 use lib.ListN.{length}
-use Rattle.mend_print.proofs.LineSteps.{Putting, line_steps}
-use borrow.Author.Rules.{rules}
+use Rattle.mend_print.proofs.LineSteps.{Putting}
 use Rattle.mend_print.proofs.lines.put_lines.Given as goal
 
-abbrev pub invariant-loop-i : goal.invariant-loop-i
-invariant-loop-i l = Putting l.list l.initial.out l.i l.out l.at
+abbrev pub invariant-loop-rest : goal.invariant-loop-rest
+invariant-loop-rest l = Putting l.list l.initial.out l.rest l.out l.at
 
-abbrev pub decreases-loop-i : goal.decreases-loop-i
-decreases-loop-i l = length l.list - l.i
+abbrev pub decreases-loop-rest : goal.decreases-loop-rest
+decreases-loop-rest l = length l.rest

@@ -29,12 +29,6 @@ loop-done-smaller-in-Adds c = search (rules, read_steps)
 pub loop-done-preserved-in-Adds : goal.loop-done-preserved-in-Adds
 loop-done-preserved-in-Adds c = search (rules, read_steps)
 
-pub has_print-requires : goal.has_print-requires
-has_print-requires c = search (rules, read_steps)
-
-pub earlier_label-requires : goal.earlier_label-requires
-earlier_label-requires c = search (rules, read_steps)
-
 pub returns-then-earlier_label : goal.returns-then-earlier_label
 returns-then-earlier_label c = search (rules, read_steps)
 
@@ -44,7 +38,8 @@ is_full-requires c = search (rules, read_steps)
 pub returns-then-is_full : goal.returns-then-is_full
 returns-then-is_full c =
     let l = c.loop-done in
-    let new : earlier_label (take l.count l.herds) c.read_at-read.result.herd.label ≡ false = elim c.if-has_print.branch [
+    let new : earlier_label (take l.count l.herds) c.read_at-read.result.herd.label
+    ≡ false = elim c.if-has_print.branch [
       | then-has_print+else-earlier_label w ↦ new-by-label _ _ w.earlier_label.ensures w.if-earlier_label.false
       | else-has_print w ↦
           new-by_print l.herds _ l.prints l.count l.invariant.printed c.print_of.ensures c.has_print.ensures
@@ -61,7 +56,8 @@ loop-done-smaller c = search (rules, read_steps)
 pub loop-done-preserved : goal.loop-done-preserved
 loop-done-preserved c =
     let l = c.loop-done in
-    let new : earlier_label (take l.count l.herds) c.read_at-read.result.herd.label ≡ false = elim c.if-has_print.branch [
+    let new : earlier_label (take l.count l.herds) c.read_at-read.result.herd.label
+    ≡ false = elim c.if-has_print.branch [
       | then-has_print+else-earlier_label w ↦ new-by-label _ _ w.earlier_label.ensures w.if-earlier_label.false
       | else-has_print w ↦
           new-by_print l.herds _ l.prints l.count l.invariant.printed c.print_of.ensures c.has_print.ensures

@@ -10,5 +10,5 @@ returns-then-f-ne-FIELDS c = search (rules, entry_steps)
 pub returns-then-not-label_ok : goal.returns-then-not-label_ok
 returns-then-not-label_ok c = search (rules, entry_steps)
 
-pub returns : goal.returns
-returns c = search (rules, entry_steps)
+pub returns-else-not-label_ok : goal.returns-else-not-label_ok
+returns-else-not-label_ok c = search (rules, entry_steps)

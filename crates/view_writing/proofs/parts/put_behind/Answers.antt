@@ -13,5 +13,5 @@ put_total_lines-requires c = search (rules, behind_steps)
 pub returns-then-is_figures : goal.returns-then-is_figures
 returns-then-is_figures c = search (rules, behind_steps)
 
-pub returns : goal.returns
-returns c = search (rules, behind_steps)
+pub returns-else-is_figures : goal.returns-else-is_figures
+returns-else-is_figures c = search (rules, behind_steps)

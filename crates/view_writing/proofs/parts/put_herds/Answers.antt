@@ -1,23 +1,20 @@
-use Prim.Native.Nat.{◌-◌}
-use Rattle.farm.proofs.Left.{length_mapped}
-use Rattle.views.proofs.FarmSteps.{Putting, ends}
+-- What is left gets shorter by the herd that was put. Assumes nothing.
+use Rattle.views.proofs.FarmSteps.{ends}
 use Rattle.view_writing.proofs.PartSteps.{herd_steps}
 use borrow.Author.Rules.{rules}
 use Rattle.view_writing.proofs.parts.put_herds.Goals as goal
 
-pub loop-i-init : goal.loop-i-init
-loop-i-init c = search (rules, herd_steps, length_mapped)
+pub loop-h-init : goal.loop-h-init
+loop-h-init c = search (rules, herd_steps)
 
 pub put_herd-at-requires : goal.put_herd-at-requires
-put_herd-at-requires c = search (rules, herd_steps, length_mapped)
+put_herd-at-requires c = search (rules, herd_steps)
 
-pub loop-i-preserved : goal.loop-i-preserved
-loop-i-preserved c = search (rules, herd_steps, length_mapped)
+pub loop-h-preserved : goal.loop-h-preserved
+loop-h-preserved c = search (rules, herd_steps)
 
 pub shape_of-out : goal.shape_of-out
-shape_of-out c = search (rules, herd_steps, length_mapped)
+shape_of-out c = search (rules, herd_steps)
 
 pub returns : goal.returns
-returns c = let l = c in
-    let s = c in
-    (ends _ _ s.requires.0 _ _ _ _ l.loop-i.invariant c.loop-i-test.false).0
+returns c = (ends _ _ c.requires.0 _ _ _ _ c.loop-h.invariant c.loop-h-test.false).0

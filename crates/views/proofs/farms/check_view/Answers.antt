@@ -6,5 +6,5 @@ use Rattle.views.proofs.farms.check_view.Goals as goal
 pub returns-then-has_limit : goal.returns-then-has_limit
 returns-then-has_limit c = search (rules, limit_steps)
 
-pub returns : goal.returns
-returns c = search (rules, limit_steps)
+pub returns-else-has_limit : goal.returns-else-has_limit
+returns-else-has_limit c = search (rules, limit_steps)

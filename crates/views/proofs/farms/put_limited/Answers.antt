@@ -3,8 +3,8 @@ use Rattle.views.proofs.FarmSteps.{put_steps}
 use borrow.Author.Rules.{rules}
 use Rattle.views.proofs.farms.put_limited.Goals as goal
 
-pub returns-in-Accepted : goal.returns-in-Accepted
-returns-in-Accepted c = search (rules, put_steps)
+pub returns : goal.returns
+returns c = search (rules, put_steps)
 
-pub returns-in-Refused : goal.returns-in-Refused
-returns-in-Refused c = search (rules, put_steps)
+pub returns-in_err-check_view : goal.returns-in_err-check_view
+returns-in_err-check_view c = search (rules, put_steps)

@@ -6,5 +6,5 @@ use Rattle.views.proofs.farms.put_view.Goals as goal
 pub returns-then-is_figures : goal.returns-then-is_figures
 returns-then-is_figures c = search (rules, view_steps)
 
-pub returns : goal.returns
-returns c = search (rules, view_steps)
+pub returns-else-is_figures : goal.returns-else-is_figures
+returns-else-is_figures c = search (rules, view_steps)

@@ -8,8 +8,8 @@ pub put_line-requires : goal.put_line-requires
 put_line-requires c = let s = c in
     omega (arith, s.requires, line-within s.args.source)
 
-pub returns-in-Length : goal.returns-in-Length
-returns-in-Length c = search (rules, output_steps)
+pub returns-in-Ok : goal.returns-in-Ok
+returns-in-Ok c = search (rules, output_steps)
 
-pub returns-in-Refused : goal.returns-in-Refused
-returns-in-Refused c = search (rules, output_steps)
+pub returns-in-Err : goal.returns-in-Err
+returns-in-Err c = search (rules, output_steps)

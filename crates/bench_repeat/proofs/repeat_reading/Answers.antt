@@ -1,8 +1,0 @@
-use borrow.Author.Rules.{rules}
-use Rattle.bench_repeat.proofs.repeat_reading.Goals as goal
-
-pub loop-turn-init : goal.loop-turn-init
-loop-turn-init c = tt
-
-pub loop-turn-preserved : goal.loop-turn-preserved
-loop-turn-preserved c = tt

@@ -1,7 +1,0 @@
--- `lent::blank_herds` meets its contract. Assumes nothing.
-use borrow.Author.Rules.{rules}
-use Rattle.lent.proofs.Steps.{farm_steps}
-use Rattle.lent.proofs.blank_herds.Goals as goal
-
-pub returns : goal.returns
-returns c = search (rules, farm_steps)

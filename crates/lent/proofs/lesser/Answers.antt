@@ -1,9 +1,0 @@
--- `lent::lesser` meets its contract. Assumes nothing.
-use native.Mathlib.Omega.{arith}
-use Rattle.lent.proofs.lesser.Goals as goal
-
-pub returns-then-b-a : goal.returns-then-b-a
-returns-then-b-a c = omega arith
-
-pub returns : goal.returns
-returns c = omega arith
