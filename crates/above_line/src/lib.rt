@@ -4,7 +4,7 @@
 
 use farm::Answer;
 
-// Yes or no, each with the number of herds that were added up.
+// Yes or no, each with the number of herds that were added up. A flag and a number would be no plainer.
 #[derive(Clone, Copy, Debug, PartialEq, Eq)]
 pub enum Above {
     Yes(usize),

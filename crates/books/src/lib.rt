@@ -23,7 +23,8 @@ pub enum Step {
     Remove,
 }
 
-// What is wrong: one of 01's refusals, a label that no herd has, or a total that is larger than any farm's.
+// What is wrong: one of 01's refusals, a label that no herd has, or a total that is larger than any farm's. No Option:
+// each case is a refusal with a number.
 #[derive(Clone, Copy, Debug, PartialEq, Eq)]
 pub enum StepRefusal {
     Record(Refusal),

@@ -1,4 +1,4 @@
-// The number of each refusal of a step.
+// The number of each refusal of a step. A match and no cast: the refusals of a record have their own numbers.
 ghost use Rattle.std.specs.Prelude.{◌≡◌};
 ghost use Rattle.books.specs.Rules.{number};
 

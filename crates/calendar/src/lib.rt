@@ -13,7 +13,7 @@ pub struct Date {
     pub day: u32,
 }
 
-// Which date may come next: 1 January of any year, this one, or none any more.
+// Which date may come next: 1 January of any year, this one, or none any more. Three cases, so no Option.
 #[derive(Clone, Copy, Debug, PartialEq, Eq)]
 pub enum Due {
     NewYear,

@@ -30,7 +30,8 @@ pub struct ReaderPlace {
     pub at: usize,
 }
 
-// What reading at a place finds: a record, and the place past it; a broken record; or the end of the file.
+// What reading at a place finds: a record, and the place past it; a broken record; or the end of the file. No Result:
+// the end is no failure.
 #[derive(Clone, Copy, Debug, PartialEq, Eq)]
 pub enum Step {
     Record(Fields, ReaderPlace),

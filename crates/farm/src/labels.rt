@@ -20,7 +20,7 @@ pub fn label_ok(l: Label) -> bool
     1 <= l.len && l.len <= LABEL_MOST && l.bytes[..l.len].iter().all(|b| byte_ok(*b))
 }
 
-// Are the bytes in use the same?
+// Are the bytes in use the same? Not the derived `==`: what lies behind them does not count.
 pub fn same_label(a: Label, b: Label) -> bool
     ensures { result ≡ same_label a b }
 {

@@ -16,7 +16,7 @@ pub const SLOTS: usize = 9;
 
 pub const HERDS_MOST: usize = 512;
 
-// The bytes in use are the first `len`.
+// The bytes in use are the first `len`. No heap is a rule here, so no String.
 #[derive(Clone, Copy, Debug, PartialEq, Eq)]
 pub struct Label {
     pub bytes: [u8; LABEL_MOST],
@@ -46,7 +46,7 @@ pub struct Herd {
     pub slots: [Slot; SLOTS],
 }
 
-// The herds are the first `count`.
+// The herds are the first `count`. No heap is a rule here, so no Vec; nor `==`, which would compare all 512.
 #[derive(Clone, Copy)]
 pub struct Farm {
     pub herds: [Herd; HERDS_MOST],

@@ -1,4 +1,4 @@
-// The number of each refusal of a log.
+// The number of each refusal of a log. A match and no cast: the numbers have gaps.
 ghost use Rattle.std.specs.Prelude.{◌≡◌};
 ghost use Rattle.gate_days.specs.Refusals.{number};
 

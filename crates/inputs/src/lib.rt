@@ -67,7 +67,7 @@ const HOUSING_FLOOR: Form = Form::OneOf(ValueList::HousingFloors);
 
 const HOUSING_AIR: Form = Form::OneOf(ValueList::HousingAirs);
 
-// The number of a kind, by which tables have its own.
+// The number of a kind, by which tables have its own. A match and no cast: each number stands beside its name.
 pub fn number_of(kind: Kind) -> usize
     ensures { result ≡ number_of kind }
 {

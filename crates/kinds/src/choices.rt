@@ -1,4 +1,5 @@
-// The choices of 2.34, 2.58, 2.59 and 2.62 by their places in 01's lists of names, and past a list's end the last.
+// The choices of 2.34, 2.58, 2.59 and 2.62 by their places in 01's lists of names, and past a list's end the last. A
+// table for each list, however alike two are.
 ghost use Rattle.std.specs.Prelude.{◌≡◌};
 ghost use Rattle.kinds.specs.Choices.{yard_at, floor_at, housing_at, scrubber_at, housing_floor_at, housing_air_at};
 

@@ -5,7 +5,8 @@
 pub mod choices; // the choices by their places in 01's lists
 pub mod free; // what a free factor leaves
 
-// A number that was entered, or `standard` in its place.
+// A number that was entered, or `standard` in its place. No Option: `standard` is a word of the file, and no number
+// that is missing.
 #[derive(Clone, Copy, Debug, PartialEq, Eq)]
 pub enum Entered {
     Standard,

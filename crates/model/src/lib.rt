@@ -8,7 +8,8 @@ use kilograms::{Kilograms, TotalKilograms};
 use notes::Notes;
 use outputs::{Figures, Totals};
 
-// What a herd's record gives: its figures in grams and in kilograms, notes and cuts, or the refusal and zeros.
+// What a herd's record gives: its figures in grams and in kilograms, notes and cuts, or the refusal and zeros. No
+// Result: the zeros are promised beside a refusal (`zeros` of specs/Answers).
 #[derive(Clone, Copy)]
 pub struct HerdAnswer {
     pub checked: Checked,
@@ -18,7 +19,7 @@ pub struct HerdAnswer {
     pub cuts: Cuts,
 }
 
-// What a farm's record gives: its totals in grams and in kilograms, or the refusal and zeros.
+// What a farm's record gives: its totals in grams and in kilograms, or the refusal and zeros, as for a herd.
 #[derive(Clone, Copy)]
 pub struct FarmAnswer {
     pub checked: Checked,

@@ -24,7 +24,7 @@ fn rates_of(nh3: u64, n2: u64, no: u64, n2o: u64) -> Rates
     Rates { nh3, n2, no, n2o }
 }
 
-// 2.35 and 2.20: each section has its own rates, alike as they are.
+// 2.35 and 2.20: each section has its own rates, alike as they are, so each kind has an arm.
 #[tactic(auto, using(crate::proofs::Modest::rates_in))]
 pub fn cattle_rates(kind: CattleKind) -> Rates
     ensures { RatesOf (cattle_rates kind) result }

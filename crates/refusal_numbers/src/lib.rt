@@ -1,4 +1,4 @@
-// 01's number of each refusal.
+// 01's number of each refusal. A match and no cast: each number stands beside its name, however the enum is ordered.
 #![tactic(auto)]
 
 ghost use Rattle.std.specs.Prelude.{◌≡◌};

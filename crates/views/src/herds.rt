@@ -26,7 +26,8 @@ pub fn put_herd(out: &mut [u8], at: usize, h: Herd, view: View) -> usize
     }
 }
 
-// Herd after herd, from the front of the buffer on; the end of the last.
+// Herd after herd, from the front of the buffer on; the end of the last. view_writing has these three lines for its own
+// writer; as one function they would take a closure, whose contract is longer than they are.
 #[tactic(auto, using(crate::proofs::FarmSteps::few_herds))]
 pub fn put_herds(out: &mut [u8], farm: Farm, view: View) -> usize
     requires { (check_farm farm ≡ Accepted) × (farm.count * herd_view_room ≤ length out.old) }

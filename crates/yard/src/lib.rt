@@ -61,7 +61,7 @@ pub fn days_with_grazing_and_yard(o: Outdoor) -> u64
     (o.grazing_days + o.yard_days).saturating_sub(YEAR)
 }
 
-// The share as chosen, by its name.
+// The share as chosen, by its name: a table, so an arm for each name.
 pub fn share_excretion(yard: ExerciseYard) -> u64
     ensures { UpTo tenths (share_excretion yard) result }
 {
