@@ -100,18 +100,18 @@ fn print_answer(rt: &impl Surroundings, only_farm: bool, answer: &[u8]) -> Outco
     }
 }
 
-// The step with this herd.
+// The step with this herd. The farm is changed where it stands: each copy that is handed over takes 53 KB of stack.
 fn take(
     rt: &impl Surroundings,
-    edited: Edited,
+    edited: &mut Edited,
     manner: Manner,
     step: Step,
     h: Herd,
     at: usize,
-) -> Edited {
+) {
     let room = limits::limits_of(manner.source).herds;
     let taken = step_answer::take(edited.farm, room, edited.totals, step, h);
-    let ended = match print_answer(
+    edited.ended = match print_answer(
         rt,
         manner.only_farm,
         base::part_of(&taken.bytes, 0, taken.length),
@@ -119,30 +119,27 @@ fn take(
         Ok(_) => end_step(rt, edited.ended, taken.decided, manner.source, at),
         Err(error) => messages::unwritten(rt, error),
     };
-    Edited {
-        farm: taken.farm,
-        totals: taken.totals,
-        ended,
-    }
+    edited.farm = taken.farm;
+    edited.totals = taken.totals;
 }
 
 // The step that the word at `at` says, with the herd that the one behind it hands over. Where there is none, the farm
 // stays the same.
 fn take_handed(
     rt: &impl Surroundings,
-    edited: Edited,
+    edited: &mut Edited,
     manner: Manner,
     step: Step,
     handed: Handed,
     at: usize,
-) -> Edited {
+) {
     match handed.ended {
         Ended::Printed => take(rt, edited, manner, step, handed.herd, at),
-        ended => Edited { ended, ..edited },
+        ended => edited.ended = ended,
     }
 }
 
-fn take_at(rt: &impl Surroundings, edited: Edited, manner: Manner, at: usize) -> Edited {
+fn take_at(rt: &impl Surroundings, edited: &mut Edited, manner: Manner, at: usize) {
     let behind = asked::after(at);
     if asked::is_word(rt, at, asked::ADD) {
         let handed = handed::by_file(rt, manner, behind);
@@ -159,21 +156,19 @@ fn take_at(rt: &impl Surroundings, edited: Edited, manner: Manner, at: usize) ->
 // ---- all of them
 
 // The steps that the words from `first` on say, two by two, to the last or until one fails.
-fn take_all(rt: &impl Surroundings, opened: Edited, manner: Manner, first: usize) -> Edited {
-    let mut edited = opened;
+fn take_all(rt: &impl Surroundings, edited: &mut Edited, manner: Manner, first: usize) {
     let mut at = first;
     for _ in 0..asked::count_from(rt, first) / 2 {
         if edited.ended == Ended::Failed {
-            return edited;
+            return;
         }
-        edited = take_at(rt, edited, manner, at);
+        take_at(rt, edited, manner, at);
         at = asked::after(asked::after(at));
     }
-    edited
 }
 
 // What is printed after the last step, unless one failed: the farm's file, or nothing more.
-fn end_steps(rt: &impl Surroundings, edited: Edited, manner: Manner) -> Ended {
+fn end_steps(rt: &impl Surroundings, edited: &Edited, manner: Manner) -> Ended {
     if manner.only_farm && edited.ended != Ended::Failed {
         kept::print_farm(rt, edited.farm, manner.source, edited.ended)
     } else {
@@ -184,7 +179,11 @@ fn end_steps(rt: &impl Surroundings, edited: Edited, manner: Manner) -> Ended {
 // The steps of a farm that was opened; one that was not is not edited.
 pub fn run(rt: &impl Surroundings, opened: Edited, manner: Manner, first: usize) -> Ended {
     match opened.ended {
-        Ended::Printed => end_steps(rt, take_all(rt, opened, manner, first), manner),
+        Ended::Printed => {
+            let mut edited = opened;
+            take_all(rt, &mut edited, manner, first);
+            end_steps(rt, &edited, manner)
+        }
         ended => ended,
     }
 }

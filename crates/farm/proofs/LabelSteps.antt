@@ -1,15 +1,14 @@
 -- The steps of `byte_ok`, `label_ok`, `same_label` and `label_of`, each in the form that a place of the code wants.
 -- Assumes nothing.
-use Prim.Native.Nat.{ℕ, zero, suc, ◌+◌, ◌≤◌, ◌<◌}
+use Prim.Native.Nat.{ℕ, zero, suc, ◌+◌, ◌-◌, ◌≤◌, ◌<◌}
 use mathlib.Core.Path.{◌≡◌, refl, sym, ap, ◌∙◌}
 use mathlib.Core.Bool.{Bool, true, false, not, ◌&&◌}
 use mathlib.Core.List.{List, [], ◌∷◌, ◌++◌}
 use mathlib.Core.Logic.{◌⊎◌, inl, inr}
 use native.Mathlib.Omega.{arith}
 use lib.Dec.{eqb, lit≤}
-use lib.ListN.{length, take, set, replicate, length-take}
-use lib.Pointwise.{pointwise}
-use lib.Seq.{sets}
+use lib.ListN.{length, get_or, take, set, replicate, length-take}
+use lib.Seq.{length-take-le, sets}
 use borrow.Author.Tests.{lt-leb, le-leb, eq-eqb, ne_eqb}
 use Rattle.std.specs.List.{list_all}
 use Rattle.base.specs.Pick.{pick}
@@ -18,6 +17,7 @@ use Rattle.base.specs.Wrote.{Wrote}
 use Rattle.farm.specs.declared.Label.{Label}
 use Rattle.farm.specs.Limits.{label_most}
 use Rattle.farm.specs.Labels.{byte_ok, all_ok, text, label_ok, same_label, label_of}
+use Rattle.farm.proofs.Left.{taken-last}
 
 -- ---- a byte
 
@@ -49,28 +49,59 @@ module _ (l : Label) where
 
 -- ---- two labels
 
-equal_bytes : (a b : List ℕ) → pointwise eqb a b ≡ same_bytes a b
+-- texts of one length are the same exactly where the last bytes are and what stands before them is
+same-last : (a b : List ℕ) (x y : ℕ) → length a ≡ length b
+    → same_bytes (a ++ (x ∷ [])) (b ++ (y ∷ [])) ≡ pick (eqb x y) (same_bytes a b) false
 unfolding same_bytes
-equal_bytes [] [] = refl
-equal_bytes [] (y ∷ b) = refl
-equal_bytes (x ∷ a) [] = refl
-equal_bytes (x ∷ a) (y ∷ b) = go (eqb x y) (equal_bytes a b)
+same-last [] [] x y l = refl
+same-last [] (v ∷ b) x y l = absurd (omega arith)
+same-last (u ∷ a) [] x y l = absurd (omega arith)
+same-last (u ∷ a) (v ∷ b) x y l = ap (λ (t : Bool). pick (eqb u v) t false) (same-last a b x y (omega arith))
+    ∙ go (eqb u v) (eqb x y)
   where
-    go : (t : Bool) → pointwise eqb a b ≡ same_bytes a b → (t && pointwise eqb a b) ≡ pick t (same_bytes a b) false
-    go true e = e
-    go false e = refl
+    go : (s t : Bool) → pick s (pick t (same_bytes a b) false) false ≡ pick t (pick s (same_bytes a b) false) false
+    go true t = refl
+    go false true = refl
+    go false false = refl
 
 module _ (a b : Label) where
-  pub labels_equal : a.len ≡ b.len → a.len ≤ label_most → {r : Bool}
-      → r ≡ pointwise eqb (take a.len a.bytes) (take b.len b.bytes) → r ≡ same_label a b
+  pub same_start : a.len ≡ b.len → a.len ≤ label_most
+      → same_bytes (take a.len a.bytes) (take a.len b.bytes) ≡ same_label a b
   unfolding same_label
-  labels_equal l room e =
-      simp (eq-eqb a.len b.len l, le-leb a.len label_most room) (e ∙ equal_bytes (text a) (text b))
+  same_start l room = rw (eq-eqb a.len b.len l, le-leb a.len label_most room, ← l)
 
   pub labels_other : (a.len ≡ b.len × label_most < a.len) ⊎ (a.len ≡ b.len → ⊥) → false ≡ same_label a b
   unfolding same_label
   labels_other (inl h) = simp (eq-eqb a.len b.len h.0, lt-leb a.len label_most h.1)
   labels_other (inr n) = simp (ne_eqb a.len b.len n)
+
+  -- all bytes from i on were the same
+  module _ (i : ℕ) (inv : same_bytes (take i a.bytes) (take i b.bytes) ≡ same_label a b) where
+    module _ (long : length a.bytes ≡ label_most) (long' : length b.bytes ≡ label_most) (h : 0 < i)
+        (room : i ≤ label_most) where
+      next-same : pick (eqb (get_or a.bytes (i - 1) 0) (get_or b.bytes (i - 1) 0))
+          (same_bytes (take (i - 1) a.bytes) (take (i - 1) b.bytes)) false ≡ same_label a b
+      next-same =
+          let s : take i a.bytes ≡ take (i - 1) a.bytes ++ (get_or a.bytes (i - 1) 0 ∷ []) =
+          taken-last a.bytes i 0 h (omega arith) in
+          let t : take i b.bytes ≡ take (i - 1) b.bytes ++ (get_or b.bytes (i - 1) 0 ∷ []) =
+          taken-last b.bytes i 0 h (omega arith) in
+          let k = length-take-le (i - 1) a.bytes (omega arith) in
+          let k' = length-take-le (i - 1) b.bytes (omega arith) in
+          sym (same-last (take (i - 1) a.bytes) (take (i - 1) b.bytes) _ _ (k ∙ sym k')) ∙ (rw (s, t) at inv)
+
+      pub byte-other : (get_or a.bytes (i - 1) 0 ≡ get_or b.bytes (i - 1) 0 → ⊥) → false ≡ same_label a b
+      byte-other n = sym (rw (ne_eqb _ _ n)) ∙ next-same
+
+      pub byte-same : get_or a.bytes (i - 1) 0 ≡ get_or b.bytes (i - 1) 0
+          → same_bytes (take (i - 1) a.bytes) (take (i - 1) b.bytes) ≡ same_label a b
+      byte-same e = sym (rw (eq-eqb _ _ e)) ∙ next-same
+
+    pub bytes_same : i ≤ 0 → true ≡ same_label a b
+    unfolding same_bytes
+    bytes_same h = let z : i ≡ 0 = omega arith in rw z at inv
+
+pub ruleset same_label_steps = (labels_other, same_start, byte-other, byte-same, bytes_same)
 
 -- ---- the label that a text is: a text stored over zeros is the text with zeros behind it
 

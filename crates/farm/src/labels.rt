@@ -20,11 +20,20 @@ pub fn label_ok(l: Label) -> bool
     1 <= l.len && l.len <= LABEL_MOST && l.bytes[..l.len].iter().all(|b| byte_ok(*b))
 }
 
-// Are the bytes in use the same? Not the derived `==`: what lies behind them does not count.
+// Are the bytes in use the same? From the last to the first: labels of one farm tend to be alike in front. Not the
+// derived `==`: what lies behind them does not count.
 pub fn same_label(a: Label, b: Label) -> bool
     ensures { result ≡ same_label a b }
 {
-    a.len == b.len && a.len <= LABEL_MOST && a.bytes[..a.len] == b.bytes[..b.len]
+    if a.len != b.len || LABEL_MOST < a.len {
+        return false;
+    }
+    for i in (0..a.len).rev() {
+        if a.bytes[i] != b.bytes[i] {
+            return false;
+        }
+    }
+    true
 }
 
 // The label that a text is; a longer text keeps its length, and is no good label.

@@ -1,4 +1,3 @@
-pub mod ViewTests
 pub mod HerdSteps
 pub mod FarmSteps
 pub mod FileSteps

@@ -11,20 +11,24 @@ use crate::{View, herds};
 use farm::{Checked, Farm};
 use written::Written;
 
-// The totals stand behind the figures alone.
-#[tactic(auto, using(crate::proofs::ViewTests::view_tests))]
+// The totals stand behind the figures alone. Each view has its arm, so that a further one is not forgotten here.
 pub fn is_figures(view: View) -> bool
     ensures { result ≡ is_figures view }
 {
-    matches!(view, View::Figures)
+    match view {
+        View::Figures => true,
+        View::Notes | View::Cuts | View::Reasons | View::Sentences | View::File => false,
+    }
 }
 
-// A file alone may be too long.
-#[tactic(auto, using(crate::proofs::ViewTests::view_tests))]
+// A file alone may be too long. Each view has its arm here, too.
 pub fn has_limit(view: View) -> bool
     ensures { result ≡ has_limit view }
 {
-    matches!(view, View::File)
+    match view {
+        View::File => true,
+        View::Figures | View::Notes | View::Cuts | View::Reasons | View::Sentences => false,
+    }
 }
 
 // Whether the view may be handed out.

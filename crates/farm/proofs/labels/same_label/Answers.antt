@@ -1,10 +1,19 @@
--- `farm::labels::same_label` meets its contract: the tests are the definition's, in its order. Assumes nothing.
-use Rattle.farm.proofs.LabelSteps.{labels_equal, labels_other}
+-- The steps of the loop, by the lemmas in `LabelSteps`. Assumes nothing.
+use borrow.Author.Rules.{rules}
+use Rattle.farm.proofs.LabelSteps.{same_label_steps}
 use Rattle.farm.proofs.labels.same_label.Goals as goal
 
-pub returns-then-a-le-LABEL_MOST : goal.returns-then-a-le-LABEL_MOST
-returns-then-a-le-LABEL_MOST c =
-    labels_equal c.args.a c.args.b c.if-a-le-LABEL_MOST.true.0 c.if-a-le-LABEL_MOST.true.1 c.eq.ensures
+pub loop-i-init : goal.loop-i-init
+loop-i-init c = search (rules, same_label_steps)
 
-pub returns-else-a-le-LABEL_MOST : goal.returns-else-a-le-LABEL_MOST
-returns-else-a-le-LABEL_MOST c = cc (labels_other c.args.a c.args.b c.if-a-le-LABEL_MOST.either)
+pub loop-i-preserved : goal.loop-i-preserved
+loop-i-preserved c = search (rules, same_label_steps)
+
+pub returns : goal.returns
+returns c = search (rules, same_label_steps)
+
+pub returns-then-a-b : goal.returns-then-a-b
+returns-then-a-b c = search (rules, same_label_steps)
+
+pub returns-then-a-i : goal.returns-then-a-i
+returns-then-a-i c = search (rules, same_label_steps)
